@@ -1,0 +1,3 @@
+pub mod formers
+pub mod Faults
+pub mod Files

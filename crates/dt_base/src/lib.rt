@@ -1,0 +1,30 @@
+//! What every crate of Celdaurki stands on: texts and lists as plain values, want of memory, and the
+//! traits of the outside, which are a source and a sink of bytes and a shelf of named files.
+#![tactic(auto)]
+
+mod list;
+mod mem_sink;
+mod mem_source;
+mod memory;
+mod reads;
+mod shelf;
+mod sink;
+mod source;
+mod std_io;
+mod text;
+mod writes;
+
+pub use list::List;
+pub use mem_sink::MemSink;
+pub use mem_source::MemSource;
+pub use memory::OutOfMemory;
+pub use reads::{ReadEnd, read_all};
+pub use shelf::{Fetched, QuietShelf, Shelf, ShelfEnd};
+pub use sink::{QuietSink, Sink, WriteFault};
+pub use source::{Failed, QuietSource, Source};
+pub use std_io::{StdSink, StdSource};
+pub use text::Text;
+pub use writes::write_all;
+
+#[cfg(test)]
+mod tests;
