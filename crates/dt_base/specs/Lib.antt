@@ -1,3 +1,4 @@
 pub mod formers
 pub mod Faults
 pub mod Files
+pub mod Pieces

@@ -1,11 +1,13 @@
 //! What every crate of Celdaurki stands on: texts and lists as plain values, want of memory, and the
-//! traits of the outside, which are a source and a sink of bytes and a shelf of named files.
+//! traits of what is handed in: a source and a sink of bytes, a shelf of named files, and an object that
+//! is asked one ask at a time.
 #![tactic(auto)]
 
 mod list;
 mod mem_sink;
 mod mem_source;
 mod memory;
+mod object;
 mod reads;
 mod shelf;
 mod sink;
@@ -18,6 +20,7 @@ pub use list::List;
 pub use mem_sink::MemSink;
 pub use mem_source::MemSource;
 pub use memory::OutOfMemory;
+pub use object::Object;
 pub use reads::{ReadEnd, read_all};
 pub use shelf::{Fetched, QuietShelf, Shelf, ShelfEnd};
 pub use sink::{QuietSink, Sink, WriteFault};

@@ -22,6 +22,9 @@ impl MemSink {
         ensures taken { ⟦<MemSink as Sink>⟧.taken result ≡ Some [] }
         ensures aside { ⟦<MemSink as Sink>⟧.aside result ≡ None }
         ensures faults { ⟦<MemSink as Sink>⟧.faults result ≡ 0 }
+        ensures room { result.room ≡ room }
+        ensures failing { result.failing ≡ failing }
+        ensures writes { result.writes ≡ 0 }
     {
         MemSink {
             taken: List::new(alloc),
@@ -67,11 +70,13 @@ impl Sink for MemSink {
         ensures listed { Contains self.old.failing self.new.writes → IsErr result }
         ensures writes { self.new.writes ≡ min (self.old.writes + 1) (2 ^ 64 - 1) }
         ensures room { OnOk result (length self.new.taken ≤ self.old.room) }
+        ensures lists { (self.new.failing ≡ self.old.failing) × (self.new.room ≡ self.old.room) }
         ensures filled { IfOk result (λ n. n ≡ min (self.old.room - length self.old.taken) (length piece.now)) }
     {
         self.writes = self.writes.saturating_add(1);
-        let room = usize::try_from(self.room).unwrap_or(usize::MAX);
-        let most = room.saturating_sub(self.taken.len()).min(piece.len());
+        let most = (self.room as usize)
+            .saturating_sub(self.taken.len())
+            .min(piece.len());
         if most == 0 || self.failing.as_slice().contains(&self.writes) {
             return self.fail();
         }

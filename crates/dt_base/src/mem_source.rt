@@ -1,6 +1,7 @@
 ghost use Rattle.std.specs.Prelude.{◌≡◌, ℕ, ◌+◌, ◌-◌, ◌*◌, ◌^◌, ◌<◌, ◌≤◌, ◌↔◌, List, Option, Some, None, [], length, take, drop, min, IfOk, OnErr, IsErr, Contains};
 ghost use Rattle.std.specs.Io.KnownBytes.{Consumes, IsAtEnd, Keeps};
 ghost use Rattle.dt_base.specs.Faults.{Rose};
+ghost use Rattle.dt_base.specs.Pieces.{piece_bound};
 
 use crate::{Failed, List, Source};
 
@@ -24,6 +25,9 @@ impl MemSource {
         ensures left { ⟦<MemSource as Source>⟧.left result ≡ Some left }
         ensures aside { ⟦<MemSource as Source>⟧.aside result ≡ None }
         ensures faults { ⟦<MemSource as Source>⟧.faults result ≡ 0 }
+        ensures failing { result.failing ≡ failing }
+        ensures pieces { result.pieces ≡ pieces }
+        ensures reads { result.reads ≡ 0 }
     {
         MemSource {
             bytes: left,
@@ -37,13 +41,10 @@ impl MemSource {
 
     /// How many bytes the next read may move at most: one at least.
     fn piece(&self) -> usize
-        ensures { 0 < result }
+        ensures { result ≡ piece_bound self.now.pieces self.now.reads }
     {
-        let at = usize::try_from(self.reads).unwrap_or(usize::MAX);
-        match self.pieces.get(at) {
-            Some(piece) => usize::try_from(*piece).unwrap_or(usize::MAX).max(1),
-            None => usize::MAX,
-        }
+        let piece = self.pieces.get(self.reads as usize).copied();
+        (piece.unwrap_or(u64::MAX) as usize).max(1)
     }
 }
 
@@ -65,6 +66,8 @@ impl Source for MemSource {
         ensures count { self.old.faults ≤ self.new.faults }
         ensures listed { IsErr result ↔ Contains self.old.failing self.new.reads }
         ensures reads { self.new.reads ≡ min (self.old.reads + 1) (2 ^ 64 - 1) }
+        ensures amount { IfOk result (λ n. n ≡ min (min (piece_bound self.old.pieces self.old.reads) (length into.old)) (length self.old.bytes - self.old.taken)) }
+        ensures lists { (self.new.failing ≡ self.old.failing) × (self.new.pieces ≡ self.old.pieces) }
     {
         let most = self
             .piece()

@@ -5,7 +5,8 @@ ghost use Rattle.dt_base.specs.Faults.{Rose};
 use crate::{Failed, Sink, Source};
 use std::io::{Read, Write};
 
-/// A source that reads from a reader of std, as the standard input. It tells no content.
+/// A source that reads from a reader of std, as the standard input. It tells what its reader
+/// tells, and of a file, a pipe or a terminal nothing is told.
 #[derive(Drop)]
 pub struct StdSource<R: Read + Drop> {
     reader: R,
@@ -22,7 +23,7 @@ impl<R: Read + Drop> StdSource<R> {
 }
 
 impl<R: Read + Drop> Source for StdSource<R> {
-    ghost left = { λ _. None };
+    ghost left = { λ s. R.remaining s.reader };
 
     ghost aside = { λ _. None };
 
@@ -39,7 +40,8 @@ impl<R: Read + Drop> Source for StdSource<R> {
     }
 }
 
-/// A sink that writes to a writer of std, as the standard output. It tells no content.
+/// A sink that writes to a writer of std, as the standard output. It tells what its writer
+/// tells, and of a file, a pipe or a terminal nothing is told.
 #[derive(Drop)]
 pub struct StdSink<W: Write + Drop> {
     writer: W,
@@ -56,7 +58,7 @@ impl<W: Write + Drop> StdSink<W> {
 }
 
 impl<W: Write + Drop> Sink for StdSink<W> {
-    ghost taken = { λ _. None };
+    ghost taken = { λ s. W.contents s.writer };
 
     ghost aside = { λ _. None };
 

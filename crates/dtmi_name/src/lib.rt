@@ -1,0 +1,15 @@
+//! Names of contents and digital twin model identifiers (DTMIs), as the Digital Twins Definition
+//! Language, version 2, has them, read with the exact fault of what is none.
+#![tactic(auto)]
+
+mod dtmi;
+mod fault;
+mod name;
+mod place;
+
+pub use dtmi::{Dtmi, has_dtmi_form, order, same_path};
+pub use fault::NameFault;
+pub use name::Name;
+
+#[cfg(test)]
+mod tests;
