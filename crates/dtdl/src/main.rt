@@ -1,0 +1,29 @@
+//! The command `dtdl`: it makes the real objects, runs one command and ends with its status.
+#![tactic(auto)]
+
+use dt_base::{QuietShelf, StdSink, StdSource};
+use dtdl_cmd::{Status, run_plain};
+use std::alloc::{AllocError, Global};
+use std::env;
+use std::io;
+use std::process::ExitCode;
+use std::rt::Env;
+
+/// The words after the program's name.
+fn words(rt: &(impl AllocGlobal + Env), alloc: Global) -> io::Result<Vec<String>> {
+    let mut words = Vec::new(alloc);
+    for word in env::args(rt)?.skip(1) {
+        words.push(word)?;
+    }
+    Ok(words)
+}
+
+fn main(rt: HostRuntime) -> ExitCode {
+    let Ok(words) = words(&rt, rt.alloc()) else {
+        return ExitCode::from(Status::OutOfMemory.number());
+    };
+    let mut input = StdSource::new(rt.stdin());
+    let mut output = StdSink::new(rt.stdout());
+    let status = run_plain(rt.alloc(), &words, &mut input, &mut output, &mut QuietShelf);
+    ExitCode::from(status.number())
+}

@@ -1,0 +1,9 @@
+pub mod Names
+pub mod Views
+pub mod Order
+pub mod Entries
+pub mod Unique
+pub mod Refused
+pub mod Appended
+pub mod Given
+pub mod Words

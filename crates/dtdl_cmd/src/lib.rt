@@ -1,0 +1,17 @@
+//! The commands of `dtdl`, over the traits of the outside.
+#![tactic(auto)]
+
+mod canonical;
+mod declaration;
+mod interface;
+mod members;
+mod property;
+mod refusal;
+mod run;
+mod status;
+
+pub use run::run_plain;
+pub use status::Status;
+
+#[cfg(test)]
+mod tests;

@@ -1,0 +1,10 @@
+pub mod Powers
+pub mod Runs
+pub mod Parts
+pub mod Unique
+pub mod Written
+pub mod Texts
+pub mod ReadsBack
+pub mod Sizes
+pub mod Wholes
+pub mod SameValues

@@ -1,0 +1,16 @@
+use Rattle.std.proofs.Common.{◌≡◌, ◌+◌, ◌^◌, ◌<◌, ◌≤◌, length}
+use Rattle.json_decimal.specs.Literal.{value_after}
+use Rattle.json_decimal.specs.Digits.{run, after}
+use Rattle.json_decimal.proofs.digits.short_digits_at.Given as goal
+
+abbrev pub invariant-loop-digit : goal.invariant-loop-digit
+invariant-loop-digit l = record {
+  value : value_after l.value (run l.rest) ≡ value_after l.fn.value (run l.fn.bytes);
+  count : l.count + length (run l.rest) ≡ l.fn.count + length (run l.fn.bytes);
+  rest : after l.rest ≡ after l.fn.bytes;
+  few : l.count ≤ 19;
+  below : l.value < 10 ^ l.count;
+}
+
+abbrev pub decreases-loop-digit : goal.decreases-loop-digit
+decreases-loop-digit l = length l.rest

@@ -1,0 +1,7 @@
+pub mod Number
+pub mod Literal
+pub mod Digits
+pub mod Reading
+pub mod Decimals
+pub mod Printing
+pub mod Comparing

@@ -1,0 +1,19 @@
+-- A tree, level by level.
+use Rattle.std.proofs.Common.{◌≡◌, ℕ, List, Bool, rules}
+use Rattle.json_tree.specs.Values.{truth, text, array, object}
+use Rattle.json_tree.specs.View.{view, elements_view, members_view}
+use Rattle.json_tree.specs.declared.tree.Tree.{Tree, the_lemmas}
+use Rattle.json_tree.specs.declared.tree.Tree as variants
+use Rattle.json_tree.specs.declared.tree.Member.{Member}
+
+pub view-Bool : (b : Bool) → view (variants.Bool b) ≡ truth b
+view-Bool b = search (rules, the_lemmas)
+
+pub view-Text : (bytes : List ℕ) → view (variants.Text bytes) ≡ text bytes
+view-Text bytes = search (rules, the_lemmas)
+
+pub view-List : (trees : List Tree) → view (variants.List trees) ≡ array (elements_view trees)
+view-List trees = search (rules, the_lemmas)
+
+pub view-Members : (members : List Member) → view (variants.Members members) ≡ object (members_view members)
+view-Members members = search (rules, the_lemmas)

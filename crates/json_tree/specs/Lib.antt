@@ -1,0 +1,6 @@
+pub mod Values
+pub mod View
+pub mod Kinds
+pub mod Grammar
+pub mod Reading
+pub mod Keys
