@@ -6,12 +6,12 @@ use Rattle.json_tree.specs.declared.tree.Tree.{Tree}
 use Rattle.dtdl_cmd.specs.Reading.{Reads}
 use Rattle.dtdl_cmd.specs.declared.refusal.Refusal.{Refusal}
 use Rattle.dtdl_cmd.specs.declared.refusal.Refusal.TheVariants as refusals
-use Rattle.json_tree.specs.Values.{Value}
+use Rattle.json_tree.specs.Values.{Json}
 use Rattle.dtdl_cmd.specs.Interfaces.{IsProperty, AreProperties}
 use Rattle.dtdl_cmd.specs.declared.declaration.Property.{Property}
 
 -- one more of each
-pub properties_more : (vs : List Value) (ps : List Property) (v : Value) (p : Property) → AreProperties vs ps → IsProperty v p
+pub properties_more : (vs : List Json) (ps : List Property) (v : Json) (p : Property) → AreProperties vs ps → IsProperty v p
     → AreProperties (vs ++ v ∷ []) (ps ++ p ∷ [])
 properties_more [] [] v p all one = (one, tt)
 properties_more [] (q ∷ qs) v p all one = absurd all

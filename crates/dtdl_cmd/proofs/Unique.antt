@@ -1,7 +1,7 @@
 -- A value declares one property at most, and entries one list of properties.
 use Rattle.std.proofs.Common.{◌≡◌, ℕ, List, [], ◌∷◌, Bool, Option, Some, None, if◌then◌else◌, refl, sym, ap, ◌∙◌}
 use Rattle.std.specs.Prelude.{bytes_eq, codes}
-use Rattle.json_tree.specs.Values.{Value, truth, text, array, object}
+use Rattle.json_tree.specs.Values.{Json, null, truth, number, text, array, object}
 use Rattle.dtdl_cmd.specs.Interfaces.{primitive_name, IsProperty, AreProperties, IsWritable}
 use Rattle.dtdl_cmd.specs.declared.declaration.Primitive.{Primitive}
 use Rattle.dtdl_cmd.specs.declared.declaration.Primitive.TheVariants as primitives
@@ -37,15 +37,17 @@ named-primitive_name primitives.Time = refl
 pub primitive_unique : (p q : Primitive) → primitive_name p ≡ primitive_name q → p ≡ q
 primitive_unique p q h = sym (named-primitive_name p) ∙ ap named h ∙ named-primitive_name q
 
-pub text_unique : (o : Option Value) (a b : List ℕ) → o ≡ Some (text a) → o ≡ Some (text b) → a ≡ b
+pub text_unique : (o : Option Json) (a b : List ℕ) → o ≡ Some (text a) → o ≡ Some (text b) → a ≡ b
 text_unique o a b h g = cc
 
-writable_unique : (o : Option Value) (a b : Bool) → IsWritable o a → IsWritable o b → a ≡ b
+writable_unique : (o : Option Json) (a b : Bool) → IsWritable o a → IsWritable o b → a ≡ b
 writable_unique None a b h g = h ∙ sym g
 writable_unique (Some v) a b h g = cc
 
-pub property_unique : (v : Value) (p q : Property) → IsProperty v p → IsProperty v q → p ≡ q
+pub property_unique : (v : Json) (p q : Property) → IsProperty v p → IsProperty v q → p ≡ q
+property_unique null p q h g = absurd h
 property_unique (truth b) p q h g = absurd h
+property_unique (number n) p q h g = absurd h
 property_unique (text bytes) p q h g = absurd h
 property_unique (array vs) p q h g = absurd h
 property_unique (object ms) p q h g =
@@ -54,7 +56,7 @@ property_unique (object ms) p q h g =
     let writables : p.writable ≡ q.writable = writable_unique _ p.writable q.writable h.writable g.writable in
     λ i. record { name = names i; schema = schemas i; writable = writables i }
 
-pub properties_unique : (vs : List Value) (ps qs : List Property) → AreProperties vs ps → AreProperties vs qs → ps ≡ qs
+pub properties_unique : (vs : List Json) (ps qs : List Property) → AreProperties vs ps → AreProperties vs qs → ps ≡ qs
 properties_unique [] [] [] h g = refl
 properties_unique [] [] (q ∷ qs) h g = absurd g
 properties_unique [] (p ∷ ps) qs h g = absurd h

@@ -1,9 +1,25 @@
 -- Which value a tree is, by what it was matched as.
-use Rattle.std.proofs.Common.{◌≡◌, List, [], ◌∷◌, refl, ap}
-use Rattle.json_tree.specs.Values.{Value, elements_of, list_of}
-use Rattle.json_tree.proofs.Views.{view-Bool, view-Text, view-List, view-Members}
+use Rattle.std.proofs.Common.{◌≡◌, ℕ, List, [], ◌∷◌, Bool, refl, ap, rules}
+use Rattle.json_tree.specs.Values.{Json, Value, truth, text, array, object, elements_of}
+use Rattle.json_tree.specs.View.{view, elements_view, members_view}
+use Rattle.json_tree.specs.declared.tree.Tree.{Tree, the_lemmas}
+use Rattle.json_tree.specs.declared.tree.Tree as variants
+use Rattle.json_tree.specs.declared.tree.Member.{Member}
+use Rattle.dtdl_cmd.specs.Interfaces.{list_of}
 
-pub list_of-elements_of : (vs : List Value) → list_of (elements_of vs) ≡ vs
+pub view-Bool : (b : Bool) → view (variants.Bool b) ≡ truth b
+view-Bool b = search (rules, the_lemmas)
+
+pub view-Text : (bytes : List ℕ) → view (variants.Text bytes) ≡ text bytes
+view-Text bytes = search (rules, the_lemmas)
+
+pub view-List : (trees : List Tree) → view (variants.List trees) ≡ array (elements_view trees)
+view-List trees = search (rules, the_lemmas)
+
+pub view-Members : (members : List Member) → view (variants.Members members) ≡ object (members_view members)
+view-Members members = search (rules, the_lemmas)
+
+pub list_of-elements_of : {N : Type 0} (vs : List (Value N)) → list_of (elements_of vs) ≡ vs
 list_of-elements_of [] = refl
 list_of-elements_of (v ∷ vs) = ap (λ us. v ∷ us) (list_of-elements_of vs)
 

@@ -5,7 +5,8 @@ use Rattle.std.specs.List.Sorted.{IsPermutation, IsStrictlySortedBy}
 use Rattle.std.specs.Ordering.{nat_cmp}
 use Rattle.std.specs.Cmp.Lexicographic.{slice_cmp}
 use Rattle.dtmi_name.specs.Grammar.{NameText, Identifier, OwnDtmiText}
-use Rattle.json_tree.specs.Values.{Value, truth, text, array, object, no_elements, element, list_of, Members, no_members, member, pairs_of}
+use Rattle.json_decimal.specs.Number.{Number}
+use Rattle.json_tree.specs.Values.{Value, Json, null, truth, number, text, array, object, Elements, no_elements, element, Members, no_members, member}
 use Rattle.dtdl_cmd.specs.declared.declaration.Primitive.{Primitive}
 use Rattle.dtdl_cmd.specs.declared.declaration.Primitive.TheVariants as primitives
 use Rattle.dtdl_cmd.specs.declared.declaration.Property.{Property}
@@ -24,13 +25,22 @@ primitive_name primitives.Long = codes "long"
 primitive_name primitives.Str = codes "string"
 primitive_name primitives.Time = codes "time"
 
+-- The elements of an array, and the members of an object as pairs of a key and a value, as lists.
+abbrev pub list_of : {N : Type 0} → Elements N → List (Value N)
+list_of no_elements = []
+list_of (element v vs) = v ∷ list_of vs
+
+abbrev pub pairs_of : {N : Type 0} → Members N → List (List ℕ × Value N)
+pairs_of no_members = []
+pairs_of (member key v ms) = (key, v) ∷ pairs_of ms
+
 -- The value of the member with this key.
-abbrev pub value_at : List ℕ → Members → Option Value
+abbrev pub value_at : List ℕ → Members Number → Option Json
 value_at key no_members = None
 value_at key (member k v ms) = if bytes_eq k key then Some v else value_at key ms
 
 -- Each member has one of these keys.
-abbrev pub HasOnlyKeys : (List ℕ → Type 0) → Members → Type 0
+abbrev pub HasOnlyKeys : (List ℕ → Type 0) → Members Number → Type 0
 HasOnlyKeys IsKey ms = AllByRecursion (λ m. IsKey m.0) (pairs_of ms)
 
 abbrev pub IsInterfaceKey : List ℕ → Type 0
@@ -40,31 +50,33 @@ abbrev pub IsPropertyKey : List ℕ → Type 0
 IsPropertyKey key = (key ≡ codes "@type") ⊎ (key ≡ codes "name") ⊎ (key ≡ codes "schema") ⊎ (key ≡ codes "writable")
 
 -- A type is named by a text, or by a list of that text alone.
-abbrev pub NamesType : List ℕ → Value → Type 0
+abbrev pub NamesType : List ℕ → Json → Type 0
 NamesType type v = (v ≡ text type) ⊎ (v ≡ array (element (text type) no_elements))
 
 -- The text that a value is.
-abbrev pub text_in : Value → Option (List ℕ)
+abbrev pub text_in : Json → Option (List ℕ)
+text_in null = None
 text_in (truth b) = None
+text_in (number n) = None
 text_in (text bytes) = Some bytes
 text_in (array vs) = None
 text_in (object ms) = None
 
 -- The member with this key is this text.
-abbrev pub HasText : List ℕ → Members → List ℕ → Type 0
+abbrev pub HasText : List ℕ → Members Number → List ℕ → Type 0
 HasText key ms bytes = value_at key ms ≡ Some (text bytes)
 
 -- The member with this key names this type.
-abbrev pub HasType : List ℕ → Members → Type 0
+abbrev pub HasType : List ℕ → Members Number → Type 0
 HasType type ms = IsSomeAnd (value_at (codes "@type") ms) (NamesType type)
 
 -- `writable` is false where it is absent.
-abbrev pub IsWritable : Option Value → Bool → Type 0
+abbrev pub IsWritable : Option Json → Bool → Type 0
 IsWritable None writable = writable ≡ false
 IsWritable (Some v) writable = v ≡ truth writable
 
 -- The members of an entry of `contents` declare this property (DTDL v2, "Property").
-pub record AreProperty (ms : Members) (p : Property) : Type 0 where
+pub record AreProperty (ms : Members Number) (p : Property) : Type 0 where
   pub keys : HasOnlyKeys IsPropertyKey ms
   pub type : HasType (codes "Property") ms
   pub name : HasText (codes "name") ms p.name
@@ -72,14 +84,16 @@ pub record AreProperty (ms : Members) (p : Property) : Type 0 where
   pub schema : HasText (codes "schema") ms (primitive_name p.schema)
   pub writable : IsWritable (value_at (codes "writable") ms) p.writable
 
-abbrev pub IsProperty : Value → Property → Type 0
+abbrev pub IsProperty : Json → Property → Type 0
+IsProperty null p = ⊥
 IsProperty (truth b) p = ⊥
+IsProperty (number n) p = ⊥
 IsProperty (text bytes) p = ⊥
 IsProperty (array vs) p = ⊥
 IsProperty (object ms) p = AreProperty ms p
 
 -- The entries declare these properties, one each.
-abbrev pub AreProperties : List Value → List Property → Type 0
+abbrev pub AreProperties : List Json → List Property → Type 0
 AreProperties [] [] = Unit {0}
 AreProperties [] (p ∷ ps) = ⊥
 AreProperties (v ∷ vs) [] = ⊥
@@ -91,21 +105,23 @@ RiseByName ps = IsStrictlySortedBy (slice_cmp nat_cmp) (map (λ (p : Property). 
 
 -- At most 300 entries, of which no two have one name, declare a finite map from names to properties, which is
 -- kept in the order of the names.
-pub record AreContents (vs : List Value) (ps : List Property) : Type 0 where
+pub record AreContents (vs : List Json) (ps : List Property) : Type 0 where
   pub few : length vs ≤ 300
   pub entries : List Property
   pub each : AreProperties vs entries
   pub same : IsPermutation entries ps
   pub rise : RiseByName ps
 
-abbrev pub IsContents : Value → List Property → Type 0
+abbrev pub IsContents : Json → List Property → Type 0
+IsContents null ps = ⊥
 IsContents (truth b) ps = ⊥
+IsContents (number n) ps = ⊥
 IsContents (text bytes) ps = ⊥
 IsContents (array vs) ps = AreContents (list_of vs) ps
 IsContents (object ms) ps = ⊥
 
 -- An absent member `contents` declares no property.
-abbrev pub HasContents : Members → List Property → Type 0
+abbrev pub HasContents : Members Number → List Property → Type 0
 HasContents ms ps = MatchOption (value_at (codes "contents") ms) (ps ≡ []) (λ v. IsContents v ps)
 
 -- The text of a DTMI that is not reserved, of at most 128 bytes.
@@ -114,14 +130,14 @@ pub record IsInterfaceId (bytes : List ℕ) (id : Identifier) : Type 0 where
   pub short : length bytes ≤ 128
 
 -- The member `@id` is the text of this id.
-abbrev pub HasInterfaceId : Members → Identifier → Type 0
+abbrev pub HasInterfaceId : Members Number → Identifier → Type 0
 HasInterfaceId ms id = (bytes : List ℕ) × HasText (codes "@id") ms bytes × IsInterfaceId bytes id
 
 abbrev pub dtdl_context : List ℕ
 dtdl_context = codes "dtmi:dtdl:context;2"
 
 -- The members of an object declare this interface (DTDL v2, "Interface").
-pub record AreInterface (ms : Members) (i : Interface) : Type 0 where
+pub record AreInterface (ms : Members Number) (i : Interface) : Type 0 where
   pub keys : HasOnlyKeys IsInterfaceKey ms
   pub context : HasText (codes "@context") ms dtdl_context
   pub type : HasType (codes "Interface") ms
@@ -129,8 +145,10 @@ pub record AreInterface (ms : Members) (i : Interface) : Type 0 where
   pub contents : HasContents ms i.properties
 
 -- The value declares this interface.
-abbrev pub Declares : Value → Interface → Type 0
+abbrev pub Declares : Json → Interface → Type 0
+Declares null i = ⊥
 Declares (truth b) i = ⊥
+Declares (number n) i = ⊥
 Declares (text bytes) i = ⊥
 Declares (array vs) i = ⊥
 Declares (object ms) i = AreInterface ms i

@@ -1,5 +1,4 @@
 pub mod Interfaces
-pub mod Printed
 pub mod Canonical
 pub mod Runs
 pub mod Reading

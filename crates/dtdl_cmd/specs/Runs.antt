@@ -3,8 +3,15 @@ use Rattle.std.specs.Prelude.{◌≡◌, ℕ, ◌<◌, ◌≤◌, ◌⊎◌, Lis
 use Rattle.std.specs.declared.alloc.Global.{Global}
 use Rattle.dt_base.specs.Faults.{Rose}
 use Rattle.std.specs.Io.KnownBytes.{Appends, Consumes, IsAtEnd, Keeps}
-use Rattle.json_tree.specs.Values.{Value}
-use Rattle.json_tree.specs.Grammar.{Spells}
+use Rattle.std.specs.Fmt.{decimal}
+use Rattle.json_tree.specs.Values.{Json, Raw, text}
+use Rattle.json_tree.specs.Grammar.{IsText, Spells}
+use Rattle.json_tree.specs.Faults.{IsFault}
+use Rattle.json_tree.specs.Pointers.{IsPointerOf}
+use Rattle.json_tree.specs.Printing.{printed}
+use Rattle.json_tree.specs.declared.fault.Place.{Place}
+use Rattle.json_tree.specs.declared.fault.JsonFault.{JsonFault}
+use Rattle.json_tree.specs.declared.fault.JsonFault.TheVariants as faults
 use Rattle.dtdl_cmd.specs.Interfaces.{Declares}
 use Rattle.dtdl_cmd.specs.Canonical.{canonical_text}
 use Rattle.dtdl_cmd.specs.declared.declaration.Interface.{Interface}
@@ -15,6 +22,7 @@ use Rattle.dtdl_cmd.specs.declared.status.Status.TheVariants as status
 
 abbrev pub status_number : Status → ℕ
 status_number status.Ok = 0
+status_number status.Refused = 1
 status_number status.Usage = 2
 status_number status.ReadFault = 3
 status_number status.WriteFault = 4
@@ -22,9 +30,34 @@ status_number status.OutOfMemory = 5
 status_number status.TooLong = 6
 status_number status.NotBuilt = 20
 
+-- `refused 1`, a pointer as a JSON text, and a code.
+abbrev pub pointer_line : List ℕ → List ℕ → List ℕ
+pointer_line pointer code = codes "refused 1 " ++ (printed (text pointer) ++ 32 ∷ (code ++ 10 ∷ []))
+
+-- The line with the pointer to the place and a code.
+abbrev pub IsPlaceLine : List ℕ → Place → List ℕ → List ℕ → Type 0
+IsPlaceLine bytes place code line = (raw : Raw) × (pointer : List ℕ) × IsText bytes raw × IsPointerOf raw place.steps pointer
+    × (line ≡ pointer_line pointer code)
+
+-- The line that names a fault of a document.
+abbrev pub IsFaultLine : List ℕ → JsonFault → List ℕ → Type 0
+IsFaultLine bytes (faults.Byte at) line = line ≡ codes "refused 1 byte " ++ (decimal at ++ (codes " Byte" ++ 10 ∷ []))
+IsFaultLine bytes (faults.Ends at) line = line ≡ codes "refused 1 byte " ++ (decimal at ++ (codes " Ends" ++ 10 ∷ []))
+IsFaultLine bytes (faults.Duplicate place) line = IsPlaceLine bytes place (codes "Duplicate") line
+IsFaultLine bytes (faults.Range place) line = IsPlaceLine bytes place (codes "Range") line
+IsFaultLine bytes faults.OutOfMemory line = ⊥
+
+-- The line names the one fault that the bytes have as a JSON text.
+abbrev pub IsRefusedLine : List ℕ → List ℕ → Type 0
+IsRefusedLine bytes line = (fault : JsonFault) × IsFault bytes fault × IsFaultLine bytes fault line
+
+-- The bytes spell a JSON value that declares no interface.
+abbrev pub DeclareNone : List ℕ → Type 0
+DeclareNone bytes = (v : Json) × Spells bytes v × ((i : Interface) → Declares v i → ⊥)
+
 -- The bytes are a JSON text that declares this interface.
 abbrev pub IsInterfaceText : List ℕ → Interface → Type 0
-IsInterfaceText bytes i = (v : Value) × Spells bytes v × Declares v i
+IsInterfaceText bytes i = (v : Json) × Spells bytes v × Declares v i
 
 -- The most bytes that the documents of one run may have together.
 abbrev pub MAX_BYTES : ℕ
@@ -53,7 +86,9 @@ abbrev pub Defines : List (String Global) → Option (List ℕ) → Option (List
 Defines words before after status.Ok line = IsCanon words × ((bytes : List ℕ) × IsReadWhole before after bytes × (length bytes ≤ MAX_BYTES)
     × ((i : Interface) × IsInterfaceText bytes i × (line ≡ canonical_text i)))
 Defines words before after status.NotBuilt line = IsCanon words × ((bytes : List ℕ) × IsReadWhole before after bytes × (length bytes ≤ MAX_BYTES)
-    × ((i : Interface) → IsInterfaceText bytes i → ⊥)) × (line ≡ not_built_line)
+    × DeclareNone bytes) × (line ≡ not_built_line)
+Defines words before after status.Refused line = IsCanon words × ((bytes : List ℕ) × IsReadWhole before after bytes × (length bytes ≤ MAX_BYTES)
+    × IsRefusedLine bytes line)
 Defines words before after status.TooLong line = IsCanon words × IfSome before (λ bytes. MAX_BYTES < length bytes) × (line ≡ too_long_line)
 Defines words before after status.Usage line = (IsCanon words → ⊥) × (line ≡ usage_line)
 Defines words before after status.ReadFault line = ⊥
@@ -72,6 +107,7 @@ pub record Told : Type 0 where
 abbrev pub Ends : List (String Global) → Told → Told → Status → Type 0
 Ends words input output status.Ok = (line : List ℕ) × Defines words input.before input.after status.Ok line × Appends output.before output.after line
 Ends words input output status.NotBuilt = (line : List ℕ) × Defines words input.before input.after status.NotBuilt line × Appends output.before output.after line
+Ends words input output status.Refused = (line : List ℕ) × Defines words input.before input.after status.Refused line × Appends output.before output.after line
 Ends words input output status.TooLong = (line : List ℕ) × Defines words input.before input.after status.TooLong line × Appends output.before output.after line
 Ends words input output status.Usage = (line : List ℕ) × Defines words input.before input.after status.Usage line × Appends output.before output.after line
 Ends words input output status.ReadFault = IsCanon words × Rose input.faults_before input.faults_after × Keeps output.before output.after
@@ -79,18 +115,33 @@ Ends words input output status.WriteFault = Rose output.faults_before output.fau
     × ((s : Status) × (line : List ℕ) × (n : ℕ) × Defines words input.before input.after s line × (n < length line) × Appends output.before output.after (take n line))
 Ends words input output status.OutOfMemory = IsCanon words × Keeps output.before output.after
 
--- What `canon` makes of bytes: the canonical text of the interface that they declare, if they declare one.
+-- What `canon` makes of a value: the canonical text of the interface that it declares, if it declares one.
+abbrev pub CanonOfValue : Json → Result (List ℕ) CanonEnd → Type 0
+CanonOfValue v (Ok line) = (i : Interface) × Declares v i × (line ≡ canonical_text i)
+CanonOfValue v (Err ends.NotBuilt) = (i : Interface) → Declares v i → ⊥
+CanonOfValue v (Err (ends.Refused line)) = ⊥
+CanonOfValue v (Err ends.ReadFault) = ⊥
+CanonOfValue v (Err ends.TooLong) = ⊥
+CanonOfValue v (Err ends.OutOfMemory) = Unit {0}
+
+-- What `canon` makes of bytes.
 abbrev pub CanonOfBytes : List ℕ → Result (List ℕ) CanonEnd → Type 0
 CanonOfBytes bytes (Ok line) = (i : Interface) × IsInterfaceText bytes i × (line ≡ canonical_text i)
-CanonOfBytes bytes (Err ends.NotBuilt) = (i : Interface) → IsInterfaceText bytes i → ⊥
+CanonOfBytes bytes (Err ends.NotBuilt) = DeclareNone bytes
+CanonOfBytes bytes (Err (ends.Refused line)) = IsRefusedLine bytes line
 CanonOfBytes bytes (Err ends.ReadFault) = ⊥
 CanonOfBytes bytes (Err ends.TooLong) = ⊥
 CanonOfBytes bytes (Err ends.OutOfMemory) = Unit {0}
+
+-- The refusal of bytes that have a fault.
+abbrev pub IsRefusal : List ℕ → CanonEnd → Type 0
+IsRefusal bytes e = CanonOfBytes bytes (Err e)
 
 -- What `canon` makes of a source that had `before` left and has `after` left.
 abbrev pub CanonGives : Option (List ℕ) → Option (List ℕ) → Result (List ℕ) CanonEnd → Type 0
 CanonGives before after (Ok line) = (bytes : List ℕ) × IsReadWhole before after bytes × (length bytes ≤ MAX_BYTES) × CanonOfBytes bytes (Ok line)
 CanonGives before after (Err ends.NotBuilt) = (bytes : List ℕ) × IsReadWhole before after bytes × (length bytes ≤ MAX_BYTES) × CanonOfBytes bytes (Err ends.NotBuilt)
+CanonGives before after (Err (ends.Refused line)) = (bytes : List ℕ) × IsReadWhole before after bytes × (length bytes ≤ MAX_BYTES) × CanonOfBytes bytes (Err (ends.Refused line))
 CanonGives before after (Err ends.TooLong) = IfSome before (λ bytes. MAX_BYTES < length bytes)
 CanonGives before after (Err ends.ReadFault) = Unit {0}
 CanonGives before after (Err ends.OutOfMemory) = Unit {0}

@@ -1,13 +1,14 @@
 //! Printing the canonical text of an interface.
 
-ghost use Rattle.std.specs.Prelude.{◌≡◌, ◌++◌, ◌∷◌, map, OnOk, IfOk};
+ghost use Rattle.std.specs.Prelude.{◌≡◌, ◌++◌, ◌∷◌, map, string_bytes, OnOk, IfOk};
 ghost use Rattle.json_tree.specs.Values.{elements_of};
 ghost use Rattle.dtdl_cmd.specs.Interfaces.{primitive_name};
-ghost use Rattle.dtdl_cmd.specs.Printed.{printed, printed_more_elements, printed_more_members};
+ghost use Rattle.json_tree.specs.Printing.{printed, printed_more_elements, printed_more_members};
 ghost use Rattle.dtdl_cmd.specs.Canonical.{canonical_text, contents_member, property_value, writable_member};
 
 use crate::declaration::{Interface, Primitive, Property};
 use dt_base::List;
+use json_tree::push_quoted;
 use std::alloc::{AllocError, Global};
 
 /// The room in bytes that is reserved for an interface without properties, and for each property.
@@ -34,50 +35,52 @@ fn primitive_name(schema: Primitive) -> &'static str
 }
 
 /// What ends the object of a property, from the quotation mark behind its schema on.
-fn end_of_property(writable: bool) -> &'static [u8]
+fn end_of_property(writable: bool) -> &'static str
     ensures { result.now ≡ 34 ∷ printed_more_members (writable_member writable) }
 {
     if writable {
-        b"\",\"writable\":true}"
+        "\",\"writable\":true}"
     } else {
-        b"\"}"
+        "\"}"
     }
 }
 
 /// Appends the object of a property.
-fn print_property(out: &mut Vec<u8>, property: &Property) -> Result<(), AllocError>
-    ensures { OnOk result (out.new.items ≡ out.old.items ++ printed (property_value property.now)) }
+fn print_property(out: &mut String, property: &Property) -> Result<(), AllocError>
+    ensures { OnOk result (string_bytes out.new ≡ string_bytes out.old ++ printed (property_value property.now)) }
 {
-    out.extend_from_slice(b"{\"@type\":\"Property\",\"name\":\"")?;
-    out.extend_from_slice(property.name.as_str().as_bytes())?;
-    out.extend_from_slice(b"\",\"schema\":\"")?;
-    out.extend_from_slice(primitive_name(property.schema).as_bytes())?;
-    out.extend_from_slice(end_of_property(property.writable))?;
+    out.push_str("{\"@type\":\"Property\",\"name\":")?;
+    push_quoted(out, property.name.as_str())?;
+    out.push_str(",\"schema\":\"")?;
+    out.push_str(primitive_name(property.schema))?;
+    out.push_str(end_of_property(property.writable))?;
     Ok(())
 }
 
 /// Appends the further properties of a list and its closing bracket.
-fn print_more_properties(out: &mut Vec<u8>, properties: &[Property]) -> Result<(), AllocError>
-    ensures { OnOk result (out.new.items ≡ out.old.items ++ printed_more_elements (elements_of (map property_value properties.now))) }
+fn print_more_properties(out: &mut String, properties: &[Property]) -> Result<(), AllocError>
+    ensures { OnOk result (string_bytes out.new
+        ≡ string_bytes out.old ++ printed_more_elements (elements_of (map property_value properties.now))) }
 {
     for property in properties {
-        out.push(b',')?;
+        out.push_str(",")?;
         print_property(out, property)?;
     }
-    out.push(b']')?;
+    out.push_str("]")?;
     Ok(())
 }
 
 /// Appends the member `contents`, where it is not empty, and the closing brace of the interface.
-fn print_contents(out: &mut Vec<u8>, properties: &[Property]) -> Result<(), AllocError>
-    ensures { OnOk result (out.new.items ≡ out.old.items ++ printed_more_members (contents_member properties.now)) }
+fn print_contents(out: &mut String, properties: &[Property]) -> Result<(), AllocError>
+    ensures { OnOk result (string_bytes out.new
+        ≡ string_bytes out.old ++ printed_more_members (contents_member properties.now)) }
 {
     if let Some((first, rest)) = properties.split_first() {
-        out.extend_from_slice(b",\"contents\":[")?;
+        out.push_str(",\"contents\":[")?;
         print_property(out, first)?;
         print_more_properties(out, rest)?;
     }
-    out.push(b'}')?;
+    out.push_str("}")?;
     Ok(())
 }
 
@@ -93,11 +96,11 @@ pub fn canonical_text(alloc: Global, interface: &Interface) -> Result<List<u8>, 
     ensures { IfOk result (λ bytes. bytes ≡ canonical_text interface.now) }
 {
     let properties = interface.properties.as_slice();
-    let mut out = Vec::with_capacity(alloc, room_for(properties.len()))?;
-    out.extend_from_slice(b"[{\"@context\":\"dtmi:dtdl:context;2\",\"@id\":\"")?;
-    out.extend_from_slice(interface.id.as_str().as_bytes())?;
-    out.extend_from_slice(b"\",\"@type\":\"Interface\"")?;
+    let mut out = String::with_capacity(alloc, room_for(properties.len()))?;
+    out.push_str("[{\"@context\":\"dtmi:dtdl:context;2\",\"@id\":")?;
+    push_quoted(&mut out, interface.id.as_str())?;
+    out.push_str(",\"@type\":\"Interface\"")?;
     print_contents(&mut out, properties)?;
-    out.extend_from_slice(b"]\n")?;
-    Ok(List::from_vec(out))
+    out.push_str("]\n")?;
+    Ok(List::from_vec(out.into_bytes()))
 }

@@ -7,7 +7,6 @@ ghost use Rattle.std.specs.Cmp.Lexicographic.{slice_cmp};
 ghost use Rattle.dtdl_cmd.specs.declared.declaration.Property.{Property};
 ghost use Rattle.dtmi_name.specs.Grammar.{Identifier, OwnDtmiText};
 ghost use Rattle.json_tree.specs.View.{view, members_view};
-ghost use Rattle.json_tree.specs.Values.{Value};
 ghost use Rattle.dtdl_cmd.specs.Interfaces.{AreContents, AreInterface, AreProperties, Declares, HasContents, HasInterfaceId, HasText, IsContents, IsInterfaceId, RiseByName, dtdl_context, value_at};
 ghost use Rattle.dtdl_cmd.specs.Reading.{Reads};
 

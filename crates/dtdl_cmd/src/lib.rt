@@ -3,6 +3,7 @@
 
 mod canonical;
 mod declaration;
+mod faults;
 mod interface;
 mod members;
 mod property;

@@ -14,7 +14,7 @@ pub fn text_in(tree: &Tree) -> Option<&str>
 {
     match tree {
         Tree::Text(text) => Some(text.as_str()),
-        Tree::Bool(_) | Tree::List(_) | Tree::Members(_) => None,
+        Tree::Null | Tree::Bool(_) | Tree::Number(_) | Tree::List(_) | Tree::Members(_) => None,
     }
 }
 
@@ -72,7 +72,7 @@ fn is_text(tree: &Tree, wanted: &str) -> bool
 {
     match tree {
         Tree::Text(text) => text.as_str() == wanted,
-        Tree::Bool(_) | Tree::List(_) | Tree::Members(_) => false,
+        Tree::Null | Tree::Bool(_) | Tree::Number(_) | Tree::List(_) | Tree::Members(_) => false,
     }
 }
 
@@ -96,7 +96,9 @@ fn names_type(tree: &Tree, name: &str) -> bool
             Some(entry) => is_text(entry, name),
             None => false,
         },
-        Tree::Bool(_) | Tree::Text(_) | Tree::Members(_) => is_text(tree, name),
+        Tree::Null | Tree::Bool(_) | Tree::Number(_) | Tree::Text(_) | Tree::Members(_) => is_text(
+            tree, name,
+        ),
     }
 }
 

@@ -3,17 +3,17 @@
 ghost use Rattle.std.specs.Prelude.{◌≡◌, ℕ, ◌<◌, ◌≤◌, ◌↔◌, List, length, take, IsTrue, Result, MatchResult};
 ghost use Rattle.std.specs.Io.KnownBytes.{Appends, Consumes, Keeps};
 ghost use Rattle.dt_base.specs.Faults.{Rose};
-ghost use Rattle.dtdl_cmd.specs.Runs.{CanonGives, CanonOfBytes, Defines, Ends, IsCanon, IsInterfaceText, Says, Told};
-ghost use Rattle.dtdl_cmd.specs.declared.declaration.Interface.{Interface};
-ghost use Rattle.dtdl_cmd.specs.Reading.{Reads};
+ghost use Rattle.dtdl_cmd.specs.Runs.{CanonGives, CanonOfBytes, CanonOfValue, Ends, IsCanon, IsRefusal, Says, Told};
+ghost use Rattle.json_tree.specs.View.{view};
+ghost use Rattle.json_tree.specs.Faults.{IsFault};
 
 use crate::canonical::canonical_text;
-use crate::declaration::Interface;
+use crate::faults::fault_line;
 use crate::interface::interface_of;
 use crate::refusal::Refusal;
 use crate::status::Status;
 use dt_base::{List, ReadEnd, Shelf, Sink, Source, read_all, write_all};
-use json_tree::JsonFault;
+use json_tree::{JsonFault, Tree};
 use std::alloc::Global;
 use thiserror::Error;
 
@@ -25,12 +25,14 @@ const USAGE: &[u8] =
     b"usage: dtdl check [NAME..] | canon [NAME..] | replay | make N | serve PORT WORKERS EACH | ask HOST PORT METHOD PATH\n";
 
 /// Why `canon` has no canonical text to print.
-#[derive(Clone, Copy, Debug, PartialEq, Eq, Error)]
+#[derive(Debug, Drop, Error)]
 pub enum CanonEnd {
     #[error("the read failed")]
     ReadFault,
     #[error("too long")]
     TooLong,
+    #[error("refused")]
+    Refused { line: List<u8> },
     #[error("not built")]
     NotBuilt,
     #[error("out of memory")]
@@ -42,17 +44,6 @@ fn is_canon(words: &[String]) -> bool
     ensures { IsTrue result ↔ IsCanon words.now }
 {
     words.len() == 1 && words[0].as_str() == "canon"
-}
-
-/// The interface that a JSON text declares.
-fn interface_of_text(alloc: Global, bytes: &[u8]) -> Result<Interface, Refusal>
-    ensures { Reads (IsInterfaceText bytes.now) result }
-{
-    match json_tree::read(alloc, bytes) {
-        Ok(tree) => interface_of(alloc, &tree),
-        Err(JsonFault::NotBuilt) => Err(Refusal::NotBuilt),
-        Err(JsonFault::OutOfMemory) => Err(Refusal::OutOfMemory),
-    }
 }
 
 /// The canonical text of the interface that the input declares.
@@ -74,13 +65,34 @@ fn canon<S: Source>(alloc: Global, input: &mut S) -> Result<List<u8>, CanonEnd>
 fn canon_of_bytes(alloc: Global, bytes: &[u8]) -> Result<List<u8>, CanonEnd>
     ensures { CanonOfBytes bytes.now result }
 {
-    match interface_of_text(alloc, bytes) {
+    match json_tree::read(alloc, bytes) {
+        Ok(tree) => canon_of_tree(alloc, &tree),
+        Err(fault) => Err(refused(alloc, bytes, fault)),
+    }
+}
+
+/// The canonical text of the interface that a JSON value declares.
+fn canon_of_tree(alloc: Global, tree: &Tree) -> Result<List<u8>, CanonEnd>
+    ensures { CanonOfValue (view tree.now) result }
+{
+    match interface_of(alloc, tree) {
         Ok(interface) => match canonical_text(alloc, &interface) {
             Ok(text) => Ok(text),
             Err(_) => Err(CanonEnd::OutOfMemory),
         },
         Err(Refusal::NotBuilt) => Err(CanonEnd::NotBuilt),
         Err(Refusal::OutOfMemory) => Err(CanonEnd::OutOfMemory),
+    }
+}
+
+/// The refusal of bytes that have this fault.
+fn refused(alloc: Global, bytes: &[u8], fault: JsonFault) -> CanonEnd
+    requires { IsFault bytes.now fault }
+    ensures { IsRefusal bytes.now result }
+{
+    match fault_line(alloc, bytes, &fault) {
+        Ok(line) => CanonEnd::Refused { line },
+        Err(_) => CanonEnd::OutOfMemory,
     }
 }
 
@@ -128,6 +140,7 @@ pub fn run_plain<S: Source, K: Sink, F: Shelf>(
     }
     match canon(alloc, input) {
         Ok(text) => say(output, Status::Ok, text.as_slice()),
+        Err(CanonEnd::Refused { line }) => say(output, Status::Refused, line.as_slice()),
         Err(CanonEnd::NotBuilt) => say(output, Status::NotBuilt, b"not built\n"),
         Err(CanonEnd::TooLong) => say(output, Status::TooLong, b"too long 1\n"),
         Err(CanonEnd::ReadFault) => Status::ReadFault,

@@ -6,6 +6,8 @@ ghost use Rattle.dtdl_cmd.specs.Runs.{status_number};
 pub enum Status {
     /// The answer was written whole.
     Ok,
+    /// The document has a fault. The line that names it was written.
+    Refused,
     /// The words are no command that is built. The usage line was written.
     Usage,
     /// A read failed. The source's count of faults rose, and nothing was written.
@@ -27,6 +29,7 @@ impl Status {
     {
         match self {
             Status::Ok => 0,
+            Status::Refused => 1,
             Status::Usage => 2,
             Status::ReadFault => 3,
             Status::WriteFault => 4,

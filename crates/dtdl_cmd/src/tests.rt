@@ -72,7 +72,13 @@ fn prints_one_line_whatever_the_pieces(rt: HostRuntime) -> Result<(), Fail> {
 fn says_why_there_is_no_line(rt: HostRuntime) -> Result<(), Fail> {
     for (words, text, failing, status, line) in [
         (["canon"].as_slice(), "{}", 0, 20, Some("not built")),
-        (["canon"].as_slice(), "", 0, 20, Some("not built")),
+        (
+            ["canon"].as_slice(),
+            "[null,-1.5e3]",
+            0,
+            20,
+            Some("not built"),
+        ),
         (["canon", "x"].as_slice(), "{}", 0, 2, Some(USAGE_LINE)),
         (["check"].as_slice(), "{}", 0, 2, Some(USAGE_LINE)),
         ([].as_slice(), "{}", 0, 2, Some(USAGE_LINE)),
@@ -102,11 +108,76 @@ fn writes_what_the_sink_has_room_for(rt: HostRuntime) -> Result<(), Fail> {
 
 #[test]
 fn refuses_a_byte_over_the_limit(rt: HostRuntime) -> Result<(), Fail> {
-    for (bytes, status, line) in [(16_777_216, 20, "not built"), (16_777_217, 6, "too long 1")] {
+    for (bytes, status, line) in [
+        (16_777_216, 1, "refused 1 byte 16777216 Ends"),
+        (16_777_217, 6, "too long 1"),
+    ] {
         let spaces = List::from_vec(vec![in rt.alloc(); b' '; bytes]?);
         let mut source = MemSource::new(spaces, List::new(rt.alloc()), List::new(rt.alloc()));
         let (answer, printed) = run(rt.alloc(), &["canon"], &mut source, 1000)?;
         assert_eq!(rt; answer.number(), status);
+        assert_eq!(rt; printed.lines().next(), Some(line));
+    }
+    Ok(())
+}
+
+/// Faults of JSON texts, and the line of each, from RFC 8259's grammar and the bounds of the profile.
+const FAULTS: [(&str, &str); 24] = [
+    ("", "refused 1 byte 0 Ends"),
+    (r#"{"a":1,}"#, "refused 1 byte 7 Byte"),
+    (r#"{"a":1,"a":2}"#, r#"refused 1 "/a" Duplicate"#),
+    (r#"{"a":1,"\u0061":2}"#, r#"refused 1 "/a" Duplicate"#),
+    (r#"["\ud800"]"#, "refused 1 byte 8 Byte"),
+    (r#"["\udc00"]"#, "refused 1 byte 5 Byte"),
+    (r#"["\ud83d\ude00", 01]"#, "refused 1 byte 18 Byte"),
+    (
+        "111111111111111111111111111111111111111",
+        "refused 1 byte 38 Byte",
+    ),
+    ("[1.5e]", "refused 1 byte 5 Byte"),
+    ("[1.5e0001]", "refused 1 byte 8 Byte"),
+    ("[10e900]", r#"refused 1 "/0" Range"#),
+    ("[1e901,{\"a\":1,\"a\":1}]", r#"refused 1 "/0" Range"#),
+    (r#"{"a":[1e901],"a":1}"#, r#"refused 1 "/a/0" Range"#),
+    (r#"{"a":1,"a":1e901}"#, r#"refused 1 "/a" Duplicate"#),
+    (
+        r#"{"a/b~":[0,{"":[],"":1}]}"#,
+        r#"refused 1 "/a~1b~0/1/" Duplicate"#,
+    ),
+    (r#"{"\"":1,"\"":1}"#, r#"refused 1 "/\"" Duplicate"#),
+    ("[1 2]", "refused 1 byte 3 Byte"),
+    ("[1] x", "refused 1 byte 4 Byte"),
+    ("tru", "refused 1 byte 3 Ends"),
+    ("nulL", "refused 1 byte 3 Byte"),
+    ("\"a\tb\"", "refused 1 byte 2 Byte"),
+    ("[-]", "refused 1 byte 2 Byte"),
+    ("[+1]", "refused 1 byte 1 Byte"),
+    ("\u{feff}{}", "refused 1 byte 0 Byte"),
+];
+
+#[test]
+fn names_the_fault_of_a_text(rt: HostRuntime) -> Result<(), Fail> {
+    for (text, line) in FAULTS {
+        for piece in [1, 1000] {
+            let mut source = source_of(rt.alloc(), text, &[], piece)?;
+            let (status, printed) = run(rt.alloc(), &["canon"], &mut source, 1000)?;
+            assert_eq!(rt; status.number(), 1, "{text}");
+            assert_eq!(rt; printed.lines().next(), Some(line));
+        }
+    }
+    Ok(())
+}
+
+#[test]
+fn counts_nested_arrays(rt: HostRuntime) -> Result<(), Fail> {
+    for (brackets, line) in [
+        (64, "refused 1 byte 64 Ends"),
+        (65, "refused 1 byte 64 Byte"),
+    ] {
+        let bytes = List::from_vec(vec![in rt.alloc(); b'['; brackets]?);
+        let mut source = MemSource::new(bytes, List::new(rt.alloc()), List::new(rt.alloc()));
+        let (status, printed) = run(rt.alloc(), &["canon"], &mut source, 1000)?;
+        assert_eq!(rt; status.number(), 1);
         assert_eq!(rt; printed.lines().next(), Some(line));
     }
     Ok(())

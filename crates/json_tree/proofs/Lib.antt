@@ -1,13 +1,35 @@
-pub mod Views
-mod Items
-mod Runs
-mod ByFirst
 mod Choices
 mod Spaces
+mod Structure
+mod Numbers
+mod Escapes
 mod Texts
-mod Rows
-mod Parts
-mod Sound
+mod Utf8
+mod Starts
+mod States
 mod Complete
-mod Fresh
-pub mod Spelled
+mod Says
+mod Readings
+mod Slices
+mod NumberSpans
+mod OneValue
+mod Views
+mod Parts
+mod Duplicates
+mod Repeats
+mod Held
+mod Ranges
+mod Items
+mod Preorder
+mod Verdicts
+mod TextSpans
+mod EscapeSpans
+mod ValueSpans
+mod Escaped
+mod Printed
+mod Printable
+mod Characters
+mod FirstKeys
+mod TreeItems
+mod Tied
+pub mod Pointed

@@ -1,58 +1,95 @@
--- Elements and members as rows of items.
-use Rattle.std.proofs.Common.{◌≡◌, ℕ, List, [], ◌∷◌, refl, ap}
-use Rattle.json_tree.specs.Values.{Value, Elements, no_elements, element, Members, no_members, member, elements_of, list_of, members_of, pairs_of}
-use Rattle.json_tree.specs.Grammar.{IsSpaces, IsString, IsValue, IsElements, IsMoreElements, IsMembers, IsMoreMembers}
-use Rattle.json_tree.proofs.Rows.{IsRow, IsWhole}
+-- Parts of values, by their positions.
+use Rattle.std.proofs.Common.{◌≡◌, ℕ, zero, suc, ◌<◌, ◌⊎◌, inl, inr, List, [], ◌∷◌, ◌++◌, length, get_or, Some, refl, sym, ap, ◌∙◌, arith}
+use Rattle.json_tree.specs.Values.{Value, null, truth, number, text, array, object, elements_of, members_of}
+use Rattle.json_tree.specs.Faults.{element_at, member_at, IsPart, RepeatsKey}
+use Rattle.json_tree.specs.declared.tree.Tree.{Tree}
+use Rattle.json_tree.specs.declared.tree.Member.{Member}
+use Rattle.json_tree.specs.View.{view, member_view, elements_view, members_view}
 
--- A value behind white space.
-abbrev pub IsElementAt : ℕ → Value → List ℕ → List ℕ → Type 0
-IsElementAt depth v from to = (start : List ℕ) × IsSpaces from start × IsValue v depth start to
+-- there is one part at a position
+pub one_part : {N : Type 0} (v : Value N) (i : ℕ) (a b : Value N) → IsPart v i a → IsPart v i b → a ≡ b
+one_part null i a b p q = absurd p
+one_part (truth t) i a b p q = absurd p
+one_part (number n) i a b p q = absurd p
+one_part (text t) i a b p q = absurd p
+one_part {N} (array vs) i a b p q = let e : Some a ≡ Some b = sym p ∙ q in cc
+one_part {N} (object ms) i a b p q = let e : Some (p.0, a) ≡ Some (q.0, b) = sym p.1 ∙ q.1 in let f : (p.0, a) ≡ (q.0, b) = cc in ap (λ (m : List ℕ × Value N). m.1) f
 
--- A member behind white space.
-abbrev pub IsMemberAt : ℕ → List ℕ × Value → List ℕ → List ℕ → Type 0
-IsMemberAt depth m from to = (start end mid first : List ℕ)
-    × IsSpaces from start × IsString start m.0 end × IsSpaces end (58 ∷ mid) × IsSpaces mid first × IsValue m.1 depth first to
+-- a member whose key stands twice is a part
+pub repeat_part : {N : Type 0} (v : Value N) (i : ℕ) → RepeatsKey v i → (part : Value N) × IsPart v i part
+repeat_part null i r = absurd r
+repeat_part (truth t) i r = absurd r
+repeat_part (number n) i r = absurd r
+repeat_part (text t) i r = absurd r
+repeat_part (array vs) i r = absurd r
+repeat_part (object ms) i r = (r.1, (r.0, r.4))
 
-pub elements_of-list_of : (vs : Elements) → elements_of (list_of vs) ≡ vs
-elements_of-list_of no_elements = refl
-elements_of-list_of (element v vs) = ap (λ (es : Elements). element v es) (elements_of-list_of vs)
+pub element_within : {N : Type 0} (vs : List (Value N)) (i : ℕ) (part : Value N) → element_at (elements_of vs) i ≡ Some part → i < length vs
+element_within [] i part e = absurd cc
+element_within (v ∷ vs) zero part e = omega arith
+element_within (v ∷ vs) (suc i) part e = let h = element_within vs i part e in omega (arith, h)
 
-pub members_of-pairs_of : (ms : Members) → members_of (pairs_of ms) ≡ ms
-members_of-pairs_of no_members = refl
-members_of-pairs_of (member k v ms) = ap (λ (rest : Members). member k v rest) (members_of-pairs_of ms)
+pub member_within : {N : Type 0} (ms : List (List ℕ × Value N)) (i : ℕ) (m : List ℕ × Value N) → member_at (members_of ms) i ≡ Some m → i < length ms
+member_within [] i m e = absurd cc
+member_within (n ∷ ms) zero m e = omega arith
+member_within (n ∷ ms) (suc i) m e = let h = member_within ms i m e in omega (arith, h)
 
-more_elements_of_row : (depth : ℕ) (vs : List Value) (from to : List ℕ) → IsRow (IsElementAt depth) 93 vs from to → IsMoreElements (elements_of vs) depth from to
-more_elements_of_row depth [] from to h = h
-more_elements_of_row depth (v ∷ vs) from to (mid, end, comma, (start, spaces, value), rest) = (mid, start, end, comma, spaces, value, more_elements_of_row depth vs end to rest)
+-- the parts of a tree
+pub item_part : (items : List Tree) (i : ℕ) (item : Tree) → i < length items → item ≡ get_or items i item → element_at (elements_view items) i ≡ Some (view item)
+item_part [] i item lt e = absurd (omega (arith, lt))
+item_part (t ∷ items) zero item lt e = ap (λ (x : Tree). Some (view x)) (sym e)
+item_part (t ∷ items) (suc i) item lt e = item_part items i item (omega (arith, lt)) e
 
-pub elements_of_row : (depth : ℕ) (vs : List Value) (from to : List ℕ) → IsWhole (IsElementAt depth) 93 vs from to → IsElements (elements_of vs) depth from to
-elements_of_row depth [] from to h = h
-elements_of_row depth (v ∷ vs) from to (end, (start, spaces, value), rest) = (start, end, spaces, value, more_elements_of_row depth vs end to rest)
+pub member_part : (ms : List Member) (i : ℕ) (m : Member) → i < length ms → m ≡ get_or ms i m → member_at (members_view ms) i ≡ Some (member_view m)
+member_part [] i m lt e = absurd (omega (arith, lt))
+member_part (n ∷ ms) zero m lt e = ap (λ (x : Member). Some (member_view x)) (sym e)
+member_part (n ∷ ms) (suc i) m lt e = member_part ms i m (omega (arith, lt)) e
 
-row_of_more_elements : (depth : ℕ) (vs : Elements) (from to : List ℕ) → IsMoreElements vs depth from to → IsRow (IsElementAt depth) 93 (list_of vs) from to
-row_of_more_elements depth no_elements from to h = h
-row_of_more_elements depth (element v vs) from to (mid, start, end, comma, spaces, value, rest) = (mid, end, comma, (start, spaces, value), row_of_more_elements depth vs end to rest)
+pub item_within : (items : List Tree) (i : ℕ) (part : _) → element_at (elements_view items) i ≡ Some part → i < length items
+item_within [] i part e = absurd cc
+item_within (t ∷ items) zero part e = omega arith
+item_within (t ∷ items) (suc i) part e = let h = item_within items i part e in omega (arith, h)
 
-pub row_of_elements : (depth : ℕ) (vs : Elements) (from to : List ℕ) → IsElements vs depth from to → IsWhole (IsElementAt depth) 93 (list_of vs) from to
-row_of_elements depth no_elements from to h = h
-row_of_elements depth (element v vs) from to (start, end, spaces, value, rest) = (end, (start, spaces, value), row_of_more_elements depth vs end to rest)
+pub value_within : (ms : List Member) (i : ℕ) (m : _) → member_at (members_view ms) i ≡ Some m → i < length ms
+value_within [] i m e = absurd cc
+value_within (n ∷ ms) zero m e = omega arith
+value_within (n ∷ ms) (suc i) m e = let h = value_within ms i m e in omega (arith, h)
 
-more_members_of_row : (depth : ℕ) (ms : List (List ℕ × Value)) (from to : List ℕ) → IsRow (IsMemberAt depth) 125 ms from to → IsMoreMembers (members_of ms) depth from to
-more_members_of_row depth [] from to h = h
-more_members_of_row depth (m ∷ ms) from to (comma, last, mark, (start, end, mid, first, spaces, key, colon, more, value), rest) =
-    (comma, start, end, mid, first, last, mark, spaces, key, colon, more, value, more_members_of_row depth ms last to rest)
+-- one more part
+pub element_old : {N : Type 0} (vs : List (Value N)) (v : Value N) (i : ℕ) (part : Value N) → element_at (elements_of vs) i ≡ Some part → element_at (elements_of (vs ++ v ∷ [])) i ≡ Some part
+element_old [] v i part e = absurd cc
+element_old (w ∷ vs) v zero part e = e
+element_old (w ∷ vs) v (suc i) part e = element_old vs v i part e
 
-pub members_of_row : (depth : ℕ) (ms : List (List ℕ × Value)) (from to : List ℕ) → IsWhole (IsMemberAt depth) 125 ms from to → IsMembers (members_of ms) depth from to
-members_of_row depth [] from to h = h
-members_of_row depth (m ∷ ms) from to (last, (start, end, mid, first, spaces, key, colon, more, value), rest) =
-    (start, end, mid, first, last, spaces, key, colon, more, value, more_members_of_row depth ms last to rest)
+pub element_new : {N : Type 0} (vs : List (Value N)) (v : Value N) → element_at (elements_of (vs ++ v ∷ [])) (length vs) ≡ Some v
+element_new [] v = refl
+element_new (w ∷ vs) v = element_new vs v
 
-row_of_more_members : (depth : ℕ) (ms : Members) (from to : List ℕ) → IsMoreMembers ms depth from to → IsRow (IsMemberAt depth) 125 (pairs_of ms) from to
-row_of_more_members depth no_members from to h = h
-row_of_more_members depth (member k v ms) from to (comma, start, end, mid, first, last, mark, spaces, key, colon, more, value, rest) =
-    (comma, last, mark, (start, end, mid, first, spaces, key, colon, more, value), row_of_more_members depth ms last to rest)
+pub element_either : {N : Type 0} (vs : List (Value N)) (v : Value N) (i : ℕ) (part : Value N) → element_at (elements_of (vs ++ v ∷ [])) i ≡ Some part
+    → ((i < length vs) × (element_at (elements_of vs) i ≡ Some part)) ⊎ ((i ≡ length vs) × (v ≡ part))
+element_either [] v zero part e = inr (refl, cc)
+element_either [] v (suc i) part e = absurd cc
+element_either (w ∷ vs) v zero part e = inl (omega arith, e)
+element_either (w ∷ vs) v (suc i) part e = elim (element_either vs v i part e) [
+  | inl h ↦ let lt = h.0 in inl (omega (arith, lt), h.1)
+  | inr h ↦ inr (ap suc h.0, h.1)
+]
 
-pub row_of_members : (depth : ℕ) (ms : Members) (from to : List ℕ) → IsMembers ms depth from to → IsWhole (IsMemberAt depth) 125 (pairs_of ms) from to
-row_of_members depth no_members from to h = h
-row_of_members depth (member k v ms) from to (start, end, mid, first, last, spaces, key, colon, more, value, rest) =
-    (last, (start, end, mid, first, spaces, key, colon, more, value), row_of_more_members depth ms last to rest)
+pub member_old : {N : Type 0} (ms : List (List ℕ × Value N)) (m : List ℕ × Value N) (i : ℕ) (n : List ℕ × Value N) → member_at (members_of ms) i ≡ Some n → member_at (members_of (ms ++ m ∷ [])) i ≡ Some n
+member_old [] m i n e = absurd cc
+member_old (l ∷ ms) m zero n e = e
+member_old (l ∷ ms) m (suc i) n e = member_old ms m i n e
+
+pub member_new : {N : Type 0} (ms : List (List ℕ × Value N)) (key : List ℕ) (v : Value N) → member_at (members_of (ms ++ (key, v) ∷ [])) (length ms) ≡ Some (key, v)
+member_new [] key v = refl
+member_new (l ∷ ms) key v = member_new ms key v
+
+pub member_either : {N : Type 0} (ms : List (List ℕ × Value N)) (key : List ℕ) (v : Value N) (i : ℕ) (k : List ℕ) (part : Value N) → member_at (members_of (ms ++ (key, v) ∷ [])) i ≡ Some (k, part)
+    → ((i < length ms) × (member_at (members_of ms) i ≡ Some (k, part))) ⊎ ((i ≡ length ms) × (v ≡ part))
+member_either {N} [] key v zero k part e = let f : (key, v) ≡ (k, part) = cc in inr (refl, ap (λ (m : List ℕ × Value N). m.1) f)
+member_either [] key v (suc i) k part e = absurd cc
+member_either (l ∷ ms) key v zero k part e = inl (omega arith, e)
+member_either (l ∷ ms) key v (suc i) k part e = elim (member_either ms key v i k part e) [
+  | inl h ↦ let lt = h.0 in inl (omega (arith, lt), h.1)
+  | inr h ↦ inr (ap suc h.0, h.1)
+]

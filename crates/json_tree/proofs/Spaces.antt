@@ -1,86 +1,87 @@
--- White space, and the marks behind it.
-use Rattle.std.proofs.Common.{◌≡◌, ℕ, List, [], ◌∷◌, ◌++◌, Some, None, Bool, true, false, cond, nat_eq, inl, inr, refl, ap, ◌∙◌, arith, rules, length, ◌≤◌, subst}
-use Rattle.std.specs.List.{AllByRecursion}
-use Rattle.std.proofs.lemmas.List.{length-append}
+-- White space, byte by byte.
+use Rattle.std.proofs.Common.{◌≡◌, ℕ, List, [], ◌∷◌, ◌++◌, Option, false, nat_eq, ◌⊎◌, inl, inr, refl, ap, sym, subst}
+use Rattle.json_tree.specs.Values.{Raw}
 use Rattle.json_tree.specs.Grammar.{IsSpace, IsSpaces}
-use Rattle.json_tree.specs.Reading.{is_space, skip_spaces, after_mark, comma_or, after_item}
-use Rattle.json_tree.proofs.Choices.{chosen, same, marked_some, parts, nothing}
+use Rattle.json_tree.specs.Automaton.{State, spaced}
+use Rattle.json_tree.specs.Remains.{Remains, Follows}
+use Rattle.json_tree.proofs.Choices.{choose, chosen, is_byte, no_byte}
 
-space_is : (b : ℕ) → is_space b ≡ true → IsSpace b
-space_is b h = search rules
+pub no_spaces : (from : List ℕ) → IsSpaces from from
+no_spaces from = ([], tt, refl)
 
-is_space-in : (b : ℕ) → IsSpace b → is_space b ≡ true
-is_space-in b h = search rules
+pub more_spaces : (b : ℕ) (from to : List ℕ) → IsSpace b → IsSpaces from to → IsSpaces (b ∷ from) to
+more_spaces b from to h s = (b ∷ s.0, (h, s.1), ap (λ (bs : List ℕ). b ∷ bs) s.2)
 
-skips_at : (p : Bool) (b : ℕ) (bytes : List ℕ) → is_space b ≡ p → IsSpaces bytes (skip_spaces bytes) → IsSpaces (b ∷ bytes) (cond p (skip_spaces bytes) (b ∷ bytes))
-skips_at true b bytes h rest = (b ∷ rest.0, (space_is b h, rest.1), ap (λ (bs : List ℕ). b ∷ bs) rest.2)
-skips_at false b bytes h rest = ([], tt, refl)
+pub first_space : (b : ℕ) (from to : List ℕ) → IsSpaces (b ∷ from) to → (IsSpace b × IsSpaces from to) ⊎ (to ≡ b ∷ from)
+first_space b from to ([], h, e) = inr (sym e)
+first_space b from to (c ∷ spaces, h, e) =
+    let first : c ≡ b = cc in
+    let others : from ≡ spaces ++ to = cc in
+    inl (subst IsSpace first h.0, (spaces, h.1, others))
 
-pub skips : (bytes : List ℕ) → IsSpaces bytes (skip_spaces bytes)
-skips [] = ([], tt, refl)
-skips (b ∷ bytes) = skips_at (is_space b) b bytes refl (skips bytes)
+pub spaces_at_end : (to : List ℕ) → IsSpaces [] to → to ≡ []
+spaces_at_end to ([], h, e) = sym e
+spaces_at_end to (c ∷ spaces, h, e) = absurd cc
 
-skips_over : (spaces to : List ℕ) → AllByRecursion IsSpace spaces → skip_spaces (spaces ++ to) ≡ skip_spaces to
-skips_over [] to h = refl
-skips_over (b ∷ spaces) to h = rw (is_space-in b h.0) (skips_over spaces to h.1)
+pub no_space : (b : ℕ) → nat_eq b 32 ≡ false → nat_eq b 9 ≡ false → nat_eq b 10 ≡ false → nat_eq b 13 ≡ false → IsSpace b → ⊥
+no_space b p q r s (inl e) = no_byte b 32 p e
+no_space b p q r s (inr (inl e)) = no_byte b 9 q e
+no_space b p q r s (inr (inr (inl e))) = no_byte b 10 r e
+no_space b p q r s (inr (inr (inr e))) = no_byte b 13 s e
 
-pub skip_spaces-over : (from to : List ℕ) → IsSpaces from to → skip_spaces from ≡ skip_spaces to
-skip_spaces-over from to h = ap skip_spaces h.2 ∙ skips_over h.0 to h.1
+pub comma_no_space : IsSpace 44 → ⊥
+comma_no_space = no_space 44 refl refl refl refl
 
--- up to a byte that is no white space
-pub skip_spaces-to : (from : List ℕ) (b : ℕ) (to : List ℕ) → is_space b ≡ false → IsSpaces from (b ∷ to) → skip_spaces from ≡ b ∷ to
-skip_spaces-to from b to no_space h = skip_spaces-over from (b ∷ to) h ∙ rw no_space refl
+pub bracket_no_space : IsSpace 93 → ⊥
+bracket_no_space = no_space 93 refl refl refl refl
 
-pub spaces_within : (from to : List ℕ) → IsSpaces from to → length to ≤ length from
-spaces_within from to h = omega (arith, length-append h.0 to, ap length h.2)
+pub brace_no_space : IsSpace 125 → ⊥
+brace_no_space = no_space 125 refl refl refl refl
 
-pub spaces_to : (from to : List ℕ) → skip_spaces from ≡ to → IsSpaces from to
-spaces_to from to e = rw (← e) (skips from)
+pub colon_no_space : IsSpace 58 → ⊥
+colon_no_space = no_space 58 refl refl refl refl
 
-pub after_mark-sound : (mark : ℕ) (from to : List ℕ) → after_mark mark from ≡ Some to → IsSpaces from (mark ∷ to)
-unfolding after_mark
-after_mark-sound mark from to e = spaces_to from (mark ∷ to) (marked_some mark (skip_spaces from) to e)
+pub quote_no_space : IsSpace 34 → ⊥
+quote_no_space = no_space 34 refl refl refl refl
 
-itself : (n : ℕ) → nat_eq n n ≡ true
-itself n = search rules
+-- up to a mark that is no white space: a byte of it is white space, or it is the mark
+pub up_to_space : (b mark : ℕ) (from to : List ℕ) → (IsSpace mark → ⊥) → IsSpace b → IsSpaces (b ∷ from) (mark ∷ to) → IsSpaces from (mark ∷ to)
+up_to_space b mark from to m s h = elim (first_space b from (mark ∷ to) h) [
+  | inl g ↦ g.1
+  | inr e ↦ let same : b ≡ mark = cc in absurd (m (subst IsSpace same s))
+]
 
-pub after_mark-complete : (mark : ℕ) (from to : List ℕ) → is_space mark ≡ false → IsSpaces from (mark ∷ to) → after_mark mark from ≡ Some to
-unfolding after_mark
-after_mark-complete mark from to no_space h = rw (skip_spaces-to from mark to no_space h, itself mark) refl
+pub up_to_mark : (b mark : ℕ) (from to : List ℕ) → (IsSpace b → ⊥) → IsSpaces (b ∷ from) (mark ∷ to) → (b ≡ mark) × (from ≡ to)
+up_to_mark b mark from to m h = elim (first_space b from (mark ∷ to) h) [
+  | inl g ↦ absurd (m g.0)
+  | inr e ↦ (cc, cc)
+]
 
-abbrev IsItemEnd : ℕ → Bool → List ℕ → List ℕ → Type 0
-IsItemEnd close true from to = from ≡ 44 ∷ to
-IsItemEnd close false from to = from ≡ close ∷ to
+pub at_front : (b mark : ℕ) (rest : List ℕ) → b ≡ mark → IsSpaces (b ∷ rest) (mark ∷ rest)
+at_front b mark rest e = ([], tt, ap (λ (x : ℕ). x ∷ rest) e)
 
-item_end : (close : ℕ) (from : List ℕ) (more : Bool) (to : List ℕ) → comma_or close from ≡ Some (more, to) → IsItemEnd close more from to
-item_end close [] more to e = absurd cc
-item_end close (b ∷ from) more to e =
-    elim (chosen (nat_eq b 44) (Some (true, from)) (cond (nat_eq b close) (Some (false, from)) None) (Some (more, to)) e) [
-      | inl h ↦
-          let p = parts true more from to h.1 in
-          let r : b ∷ from ≡ 44 ∷ to = let i = same b 44 h.0 in let j = p.1 in cc in
-          subst (λ (m : Bool). IsItemEnd close m (b ∷ from) to) p.0 r
-      | inr h ↦ elim (chosen (nat_eq b close) (Some (false, from)) None (Some (more, to)) h.1) [
-        | inl g ↦
-            let p = parts false more from to g.1 in
-            let r : b ∷ from ≡ close ∷ to = let i = same b close g.0 in let j = p.1 in cc in
-            subst (λ (m : Bool). IsItemEnd close m (b ∷ from) to) p.0 r
-        | inr g ↦ let r : nothing (Bool × List ℕ) ≡ Some (more, to) = g.1 in absurd cc
+pub fwd-spaced : (s : State) (b : ℕ) (other : Option State) (rest : List ℕ) (whole : Raw)
+    → (IsSpace b → Remains s rest whole) → ((IsSpace b → ⊥) → Follows other rest whole) → Follows (spaced s b other) rest whole
+fwd-spaced s b other rest whole p q =
+    choose (λ (o : Option State). Follows o rest whole) (nat_eq b 32) _ _ (λ e. p (inl (is_byte b 32 e))) (λ e.
+    choose (λ (o : Option State). Follows o rest whole) (nat_eq b 9) _ _ (λ f. p (inr (inl (is_byte b 9 f)))) (λ f.
+    choose (λ (o : Option State). Follows o rest whole) (nat_eq b 10) _ _ (λ g. p (inr (inr (inl (is_byte b 10 g))))) (λ g.
+    choose (λ (o : Option State). Follows o rest whole) (nat_eq b 13) _ _ (λ h. p (inr (inr (inr (is_byte b 13 h))))) (λ h.
+    q (no_space b e f g h)))))
+
+pub back-spaced : (s : State) (b : ℕ) (other : Option State) (rest : List ℕ) (whole : Raw)
+    → Follows (spaced s b other) rest whole → (IsSpace b × Remains s rest whole) ⊎ ((IsSpace b → ⊥) × Follows other rest whole)
+back-spaced s b other rest whole h =
+    elim (chosen (λ (o : Option State). Follows o rest whole) (nat_eq b 32) _ _ h) [
+      | inl p ↦ inl (inl (is_byte b 32 p.0), p.1)
+      | inr p ↦ elim (chosen (λ (o : Option State). Follows o rest whole) (nat_eq b 9) _ _ p.1) [
+        | inl q ↦ inl (inr (inl (is_byte b 9 q.0)), q.1)
+        | inr q ↦ elim (chosen (λ (o : Option State). Follows o rest whole) (nat_eq b 10) _ _ q.1) [
+          | inl r ↦ inl (inr (inr (inl (is_byte b 10 r.0))), r.1)
+          | inr r ↦ elim (chosen (λ (o : Option State). Follows o rest whole) (nat_eq b 13) _ _ r.1) [
+            | inl s ↦ inl (inr (inr (inr (is_byte b 13 s.0))), s.1)
+            | inr s ↦ inr (no_space b p.0 q.0 r.0 s.0, s.1)
+          ]
+        ]
       ]
     ]
-
-pub after_item-comma : (close : ℕ) (from to : List ℕ) → after_item close from ≡ Some (true, to) → IsSpaces from (44 ∷ to)
-unfolding after_item
-after_item-comma close from to e = spaces_to from (44 ∷ to) (item_end close (skip_spaces from) true to e)
-
-pub after_item-close : (close : ℕ) (from to : List ℕ) → after_item close from ≡ Some (false, to) → IsSpaces from (close ∷ to)
-unfolding after_item
-after_item-close close from to e = spaces_to from (close ∷ to) (item_end close (skip_spaces from) false to e)
-
-pub comma-after_item : (close : ℕ) (from to : List ℕ) → IsSpaces from (44 ∷ to) → after_item close from ≡ Some (true, to)
-unfolding after_item
-comma-after_item close from to h = rw (skip_spaces-to from 44 to refl h) refl
-
-pub close-after_item : (close : ℕ) (from to : List ℕ) → is_space close ≡ false → nat_eq close 44 ≡ false → IsSpaces from (close ∷ to) → after_item close from ≡ Some (false, to)
-unfolding after_item
-close-after_item close from to no_space no_comma h = rw (skip_spaces-to from close to no_space h, no_comma, itself close) refl

@@ -1,13 +1,21 @@
 -- A tree, level by level.
 use Rattle.std.proofs.Common.{◌≡◌, ℕ, List, Bool, rules}
-use Rattle.json_tree.specs.Values.{truth, text, array, object}
+use Rattle.json_decimal.specs.declared.decimal.Decimal.{Decimal}
+use Rattle.json_decimal.specs.Decimals.{number_of}
+use Rattle.json_tree.specs.Values.{null, truth, number, text, array, object}
 use Rattle.json_tree.specs.View.{view, elements_view, members_view}
 use Rattle.json_tree.specs.declared.tree.Tree.{Tree, the_lemmas}
 use Rattle.json_tree.specs.declared.tree.Tree as variants
 use Rattle.json_tree.specs.declared.tree.Member.{Member}
 
+pub view-Null : view variants.Null ≡ null
+view-Null = search (rules, the_lemmas)
+
 pub view-Bool : (b : Bool) → view (variants.Bool b) ≡ truth b
 view-Bool b = search (rules, the_lemmas)
+
+pub view-Number : (d : Decimal) → view (variants.Number d) ≡ number (number_of d)
+view-Number d = search (rules, the_lemmas)
 
 pub view-Text : (bytes : List ℕ) → view (variants.Text bytes) ≡ text bytes
 view-Text bytes = search (rules, the_lemmas)

@@ -1,6 +1,13 @@
 pub mod Values
 pub mod View
-pub mod Kinds
 pub mod Grammar
-pub mod Reading
-pub mod Keys
+pub mod Faults
+pub mod Automaton
+pub mod Remains
+pub mod Steps
+pub mod Leads
+pub mod Ways
+pub mod Spans
+pub mod Printing
+pub mod Pointers
+pub mod Tokens

@@ -3,15 +3,34 @@
 ghost use Rattle.std.specs.Prelude.{◌≡◌};
 ghost use Rattle.json_tree.specs.declared.fault.JsonFault.TheVariants as faults;
 
+use dt_base::List;
 use std::alloc::{AllocError, AllocFailed};
 use thiserror::Error;
 
+/// Where a value stands inside another: on each step down, the position of the element or member, counted from 0.
+#[derive(Debug, Drop)]
+pub struct Place {
+    pub steps: List<u64>,
+}
+
 /// Why no tree was read.
-#[derive(Clone, Copy, Debug, PartialEq, Eq, Error)]
+#[derive(Debug, Drop, Error)]
 pub enum JsonFault {
-    /// The bytes are no JSON text that this reader takes.
-    #[error("not built")]
-    NotBuilt,
+    /// No JSON text begins with the bytes up to and with the one at `at`, counted from 0, and this is the first
+    /// such byte.
+    #[error("wrong byte {at}")]
+    Byte { at: u64 },
+    /// The bytes are the front of a JSON text and none themselves; `at` is how many they are.
+    #[error("ends after {at} bytes")]
+    Ends { at: u64 },
+    /// The bytes are a JSON text, and the first fault in it, in preorder, is the value of a member with a key that
+    /// an earlier member of the same object has.
+    #[error("a key stands twice")]
+    Duplicate { place: Place },
+    /// The bytes are a JSON text, and the first fault in it, in preorder, is a number with an exponent outside
+    /// -900 to 900.
+    #[error("a number is out of range")]
+    Range { place: Place },
     /// No memory was found, which says nothing of the bytes.
     #[error("out of memory")]
     OutOfMemory,

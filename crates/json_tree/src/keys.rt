@@ -1,8 +1,10 @@
 //! Keys that stand twice in one object. This is no matter of the grammar: it is judged on the tree.
 
-ghost use Rattle.std.specs.Prelude.{◌≡◌, ◌∷◌, [], map, IfOk};
+ghost use Rattle.std.specs.Prelude.{◌≡◌, [], map, IfOk};
+ghost use Rattle.std.specs.Option.{option_map};
+ghost use Rattle.json_tree.specs.Values.{array, object};
 ghost use Rattle.json_tree.specs.View.{view, elements_view, members_view};
-ghost use Rattle.json_tree.specs.Keys.{has_key, are_fresh, no_key_twice, no_key_twice_in_elements, no_key_twice_in_members};
+ghost use Rattle.json_tree.specs.Ways.{IsFirstDuplicate, has_key, repeat_at};
 
 use crate::tree::{Member, Tree};
 use dt_base::OutOfMemory;
@@ -12,56 +14,71 @@ use std::collections::BTreeSet;
 /// Up to so many members, each key is compared with each one before it, which takes no memory.
 const FEW_MEMBERS: usize = 8;
 
-/// Whether no object, at any depth, has two members of one key.
+/// The way up from the first value, in preorder, of a member with a key that an earlier one has: its position in the
+/// object, then that one's in what it stands in, and so on.
 #[cycle(keys)]
-pub fn no_key_twice(alloc: Global, tree: &Tree) -> Result<bool, OutOfMemory>
-    ensures { IfOk result (λ b. b ≡ no_key_twice (view tree.now)) }
+pub fn first_duplicate(alloc: Global, tree: &Tree) -> Result<Option<Vec<u64>>, OutOfMemory>
+    ensures { IfOk result (λ up. IsFirstDuplicate (view tree.now) (option_map (λ v. v.items) up)) }
 {
     match tree {
-        Tree::Bool(_) => Ok(true),
-        Tree::Text(_) => Ok(true),
-        Tree::List(items) => no_key_twice_in_items(alloc, items.as_slice()),
+        Tree::Null => Ok(None),
+        Tree::Bool(_) => Ok(None),
+        Tree::Number(_) => Ok(None),
+        Tree::Text(_) => Ok(None),
+        Tree::List(items) => first_in_items(alloc, items.as_slice()),
         Tree::Members(members) => {
-            if !are_fresh(alloc, members.as_slice())? {
-                return Ok(false);
-            }
-            no_key_twice_in_members(alloc, members.as_slice())
+            let members = members.as_slice();
+            let repeat = first_repeat(alloc, members)?;
+            first_in_members(alloc, members, repeat)
         }
     }
 }
 
 #[cycle(keys)]
-fn no_key_twice_in_items(alloc: Global, items: &[Tree]) -> Result<bool, OutOfMemory>
-    ensures { IfOk result (λ b. b ≡ no_key_twice_in_elements (elements_view items.now)) }
+fn first_in_items(alloc: Global, items: &[Tree]) -> Result<Option<Vec<u64>>, OutOfMemory>
+    ensures { IfOk result (λ up. IsFirstDuplicate (array (elements_view items.now)) (option_map (λ v. v.items) up)) }
 {
-    for item in items {
-        if !no_key_twice(alloc, item)? {
-            return Ok(false);
+    for (at, item) in items.iter().enumerate() {
+        if let Some(mut steps) = first_duplicate(alloc, item)? {
+            steps.push(at as u64)?;
+            return Ok(Some(steps));
         }
     }
-    Ok(true)
+    Ok(None)
 }
 
+/// The same in the members of an object, of which this is the first whose key an earlier one has.
 #[cycle(keys)]
-fn no_key_twice_in_members(alloc: Global, members: &[Member]) -> Result<bool, OutOfMemory>
-    ensures { IfOk result (λ b. b ≡ no_key_twice_in_members (members_view members.now)) }
+fn first_in_members(
+    alloc: Global,
+    members: &[Member],
+    repeat: usize,
+) -> Result<Option<Vec<u64>>, OutOfMemory>
+    requires { repeat ≡ repeat_at [] (map (λ m. m.key) members.now) }
+    ensures { IfOk result (λ up. IsFirstDuplicate (object (members_view members.now)) (option_map (λ v. v.items) up)) }
 {
-    for member in members {
-        if !no_key_twice(alloc, &member.value)? {
-            return Ok(false);
+    for (at, member) in members.iter().enumerate() {
+        if at == repeat {
+            let mut steps = Vec::new(alloc);
+            steps.push(at as u64)?;
+            return Ok(Some(steps));
+        }
+        if let Some(mut steps) = first_duplicate(alloc, &member.value)? {
+            steps.push(at as u64)?;
+            return Ok(Some(steps));
         }
     }
-    Ok(true)
+    Ok(None)
 }
 
-/// Whether no two of the members have one key.
-fn are_fresh(alloc: Global, members: &[Member]) -> Result<bool, OutOfMemory>
-    ensures { IfOk result (λ b. b ≡ are_fresh [] (map (λ m. m.key) members.now)) }
+/// The position of the first member whose key an earlier one has, or else how many they are.
+fn first_repeat(alloc: Global, members: &[Member]) -> Result<usize, OutOfMemory>
+    ensures { IfOk result (λ n. n ≡ repeat_at [] (map (λ m. m.key) members.now)) }
 {
     if members.len() <= FEW_MEMBERS {
-        Ok(few_are_fresh(members))
+        Ok(first_repeat_of_few(members))
     } else {
-        many_are_fresh(alloc, members)
+        first_repeat_of_many(alloc, members)
     }
 }
 
@@ -76,25 +93,25 @@ fn has_key(members: &[Member], key: &str) -> bool
     false
 }
 
-fn few_are_fresh(members: &[Member]) -> bool
-    ensures { result ≡ are_fresh [] (map (λ m. m.key) members.now) }
+fn first_repeat_of_few(members: &[Member]) -> usize
+    ensures { result ≡ repeat_at [] (map (λ m. m.key) members.now) }
 {
     for (at, member) in members.iter().enumerate() {
         if has_key(&members[..at], member.key.as_str()) {
-            return false;
+            return at;
         }
     }
-    true
+    members.len()
 }
 
-fn many_are_fresh(alloc: Global, members: &[Member]) -> Result<bool, OutOfMemory>
-    ensures { IfOk result (λ b. b ≡ are_fresh [] (map (λ m. m.key) members.now)) }
+fn first_repeat_of_many(alloc: Global, members: &[Member]) -> Result<usize, OutOfMemory>
+    ensures { IfOk result (λ n. n ≡ repeat_at [] (map (λ m. m.key) members.now)) }
 {
     let mut seen = BTreeSet::new(alloc);
-    for member in members {
+    for (at, member) in members.iter().enumerate() {
         if !seen.insert(member.key.as_str())? {
-            return Ok(false);
+            return Ok(at);
         }
     }
-    Ok(true)
+    Ok(members.len())
 }

@@ -1,18 +1,19 @@
 //! JSON texts (RFC 8259) as trees.
-//!
-//! `specs/Grammar.antt` says which bytes spell which value, `specs/Values.antt` what a value is, and
-//! `specs/View.antt` which value a `Tree` stands for. `read` answers a tree exactly where the bytes spell one.
 #![tactic(auto)]
 
+mod copies;
 mod fault;
 mod keys;
+mod places;
+mod pointers;
+mod printing;
 mod reading;
-mod tokens;
+mod scan;
+mod strings;
 mod tree;
 
-pub use fault::JsonFault;
-pub use reading::{read, spells_one_value};
+pub use fault::{JsonFault, Place};
+pub use pointers::{Pointer, pointer_of};
+pub use printing::{print, push_quoted};
+pub use reading::{pointer_in, read};
 pub use tree::{Member, Tree};
-
-#[cfg(test)]
-mod tests;

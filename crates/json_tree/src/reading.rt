@@ -1,175 +1,314 @@
 //! Reading a JSON text, by recursive descent.
 
-ghost use Rattle.std.specs.Prelude.{◌≡◌, ℕ, List, length, map, IfOk, Err};
-ghost use Rattle.json_tree.specs.Values.{Value};
-ghost use Rattle.json_tree.specs.View.{view, member_view};
-ghost use Rattle.json_tree.specs.Grammar.{Spells};
-ghost use Rattle.json_tree.specs.Reading.{Gives, items_at, items_from, member_at, array_at, object_at, value_at, whole};
+ghost use Rattle.std.specs.Prelude.{◌≡◌, ◌≤◌, ◌⊎◌, ℕ, suc, List, [], ◌∷◌, length, None, IfOk, slice_index};
+ghost use Rattle.std.specs.Option.{option_map};
+ghost use Rattle.json_tree.specs.Values.{Raw};
+ghost use Rattle.json_tree.specs.View.{view};
+ghost use Rattle.json_tree.specs.Grammar.{IsText};
+ghost use Rattle.json_tree.specs.Faults.{Answers, StandsAt};
+ghost use Rattle.json_tree.specs.Pointers.{IsPointerOf};
+ghost use Rattle.json_tree.specs.Automaton.{Pairs, Frame, in_array, in_object, value, first_element, first_key, next_key, after, start, gives, reading};
+ghost use Rattle.json_tree.specs.Leads.{Leads, IsHeldAs, IsRead};
+ghost use Rattle.json_tree.specs.Ways.{IsFirstRange, first_way};
 
-use crate::fault::JsonFault;
-use crate::keys::no_key_twice;
-use crate::tokens::{after_item, after_mark, after_spaces, first, literal_of, text_of};
+use crate::fault::{JsonFault, Place};
+use crate::keys::first_duplicate;
+use crate::places::{is_before, place_of};
+use crate::pointers::{Pointer, pointer_of};
+use crate::scan::{byte_at, fault_at, number_end, spaces_end, word_end};
+use crate::strings::text_of;
 use crate::tree::{Member, Tree};
-use dt_base::List;
+use dt_base::{List, OutOfMemory, Text};
+use json_decimal::{Decimal, DecimalFault, one_number};
 use std::alloc::Global;
 
 /// How deep arrays and objects may nest; the outermost counts as 1.
 const MAX_DEPTH: usize = 64;
 
-/// The value behind white space, in which arrays and objects nest at most `depth` deep, and the bytes after it.
-#[cycle(value)]
-fn value_of(alloc: Global, depth: usize, bytes: &[u8]) -> Result<(Tree, &[u8]), JsonFault>
-    ensures { Gives (λ x. (view x.0, x.1.now)) result (value_at depth bytes.now) }
+/// The value that was read, and the position behind it. Where a number in it is out of range, zero stands for that,
+/// and `range` has the way up from the first such one: its position in what it stands in, then that one's, and so on.
+#[derive(Drop)]
+struct Found {
+    tree: Tree,
+    range: Option<Vec<u64>>,
+    at: usize,
+}
+
+fn found_at(tree: Tree, at: usize) -> Found
+    ensures tree { result.tree ≡ tree }
+    ensures range { result.range ≡ None }
+    ensures at { result.at ≡ at }
 {
-    let bytes = after_spaces(bytes);
-    let Some((byte, rest)) = first(bytes) else {
-        return Err(JsonFault::NotBuilt);
-    };
-    match byte {
+    Found {
+        tree,
+        range: None,
+        at,
+    }
+}
+
+/// The value behind white space, in which arrays and objects nest at most `depth` deep.
+#[cycle(value)]
+fn value_of(alloc: Global, bytes: &[u8], depth: usize, at: usize) -> Result<Found, JsonFault>
+    requires { at ≤ length bytes.now }
+    ensures forward { IfOk result (λ r. at ≤ r.at) }
+    ensures within { IfOk result (λ r. r.at ≤ length bytes.now) }
+    ensures read { (k : List Frame) → Leads bytes.now
+        (λ r. IsRead bytes.now (after depth k) r.tree (option_map (λ v. v.items) r.range) r.at)
+        result (reading bytes.now (value depth k) at) }
+{
+    let at = spaces_end(bytes, at);
+    match byte_at(bytes, at) {
         b'"' => {
-            let (text, rest) = text_of(alloc, rest)?;
-            Ok((Tree::Text(text), rest))
+            let (text, end) = text_of(alloc, bytes, at + 1)?;
+            Ok(found_at(Tree::Text(text), end))
         }
         b'[' => {
             if depth == 0 {
-                return Err(JsonFault::NotBuilt);
+                return Err(fault_at(bytes, at));
             }
-            array_of(alloc, depth - 1, rest)
+            array_of(alloc, bytes, depth - 1, at + 1)
         }
         b'{' => {
             if depth == 0 {
-                return Err(JsonFault::NotBuilt);
+                return Err(fault_at(bytes, at));
             }
-            object_of(alloc, depth - 1, rest)
+            object_of(alloc, bytes, depth - 1, at + 1)
         }
-        _ => match literal_of(bytes) {
-            Some((value, rest)) => Ok((Tree::Bool(value), rest)),
-            None => Err(JsonFault::NotBuilt),
-        },
+        b'n' => Ok(found_at(Tree::Null, word_end(bytes, at + 1, b"ull")?)),
+        b't' => Ok(found_at(Tree::Bool(true), word_end(bytes, at + 1, b"rue")?)),
+        b'f' => Ok(found_at(Tree::Bool(false), word_end(bytes, at + 1, b"alse")?)),
+        b'-' | b'0'..=b'9' => number_of(alloc, bytes, at),
+        _ => Err(fault_at(bytes, at)),
+    }
+}
+
+/// The number whose first byte stands here.
+fn number_of(alloc: Global, bytes: &[u8], at: usize) -> Result<Found, JsonFault>
+    requires { (slice_index bytes.now at ≡ 45)
+        ⊎ (48 ≤ slice_index bytes.now at) × (slice_index bytes.now at ≤ 57) }
+    ensures forward { IfOk result (λ r. at ≤ r.at) }
+    ensures within { IfOk result (λ r. r.at ≤ length bytes.now) }
+    ensures read { (d : ℕ) (k : List Frame) → Leads bytes.now
+        (λ r. IsRead bytes.now (after d k) r.tree (option_map (λ v. v.items) r.range) r.at)
+        result (reading bytes.now (value d k) at) }
+{
+    let end = number_end(bytes, at)?;
+    match Decimal::read(&bytes[at..end]) {
+        Ok(decimal) => Ok(found_at(Tree::Number(decimal), end)),
+        Err(DecimalFault::Range) => Ok(Found {
+            tree: Tree::Number(Decimal {
+                negative: false,
+                coefficient: 0,
+                exponent: 0,
+            }),
+            range: Some(Vec::new(alloc)),
+            at: end,
+        }),
+        Err(DecimalFault::NotALiteral) => Err(fault_at(bytes, at)),
+    }
+}
+
+/// The way up from a number, with one more step, unless there is one already.
+fn first_range(
+    before: Option<Vec<u64>>,
+    inner: Option<Vec<u64>>,
+    position: usize,
+) -> Result<Option<Vec<u64>>, OutOfMemory>
+    ensures { IfOk result (λ up. option_map (λ v. v.items) up
+        ≡ first_way (option_map (λ v. v.items) before) (option_map (λ v. v.items) inner) position) }
+{
+    if before.is_some() {
+        return Ok(before);
+    }
+    match inner {
+        Some(mut steps) => {
+            steps.push(position as u64)?;
+            Ok(Some(steps))
+        }
+        None => Ok(None),
     }
 }
 
 /// The array behind its opening bracket, with values that nest at most `depth` deep.
 #[cycle(value)]
-#[tactic(auto, unfolding(crate::specs::Reading::array_at, crate::specs::Reading::items_at))]
-fn array_of(alloc: Global, depth: usize, bytes: &[u8]) -> Result<(Tree, &[u8]), JsonFault>
-    ensures { Gives (λ x. (view x.0, x.1.now)) result (array_at (value_at depth) bytes.now) }
+fn array_of(alloc: Global, bytes: &[u8], depth: usize, at: usize) -> Result<Found, JsonFault>
+    requires { at ≤ length bytes.now }
+    ensures forward { IfOk result (λ r. at ≤ r.at) }
+    ensures within { IfOk result (λ r. r.at ≤ length bytes.now) }
+    ensures read { (k : List Frame) → Leads bytes.now
+        (λ r. IsRead bytes.now (after (suc depth) k) r.tree (option_map (λ v. v.items) r.range) r.at)
+        result (reading bytes.now (first_element depth k) at) }
 {
-    if let Some(rest) = after_mark(b']', bytes) {
-        return Ok((Tree::List(List::new(alloc)), rest));
+    let start = spaces_end(bytes, at);
+    if byte_at(bytes, start) == b']' {
+        return Ok(found_at(Tree::List(List::new(alloc)), start + 1));
     }
-    let (items, rest) = elements_of(alloc, depth, bytes)?;
-    Ok((Tree::List(List::from_vec(items)), rest))
+    elements_of(alloc, bytes, depth, start)
 }
 
-/// The values of an array, of which there is at least one, up to its closing bracket.
+/// The array from its first element on, up to its closing bracket.
 #[cycle(value)]
-fn elements_of(alloc: Global, depth: usize, bytes: &[u8]) -> Result<(Vec<Tree>, &[u8]), JsonFault>
-    ensures { Gives (λ x. (map view x.0.items, x.1.now)) result (items_from (value_at depth) 93 (length bytes.now) bytes.now) }
+fn elements_of(alloc: Global, bytes: &[u8], depth: usize, at: usize) -> Result<Found, JsonFault>
+    requires { at ≤ length bytes.now }
+    ensures forward { IfOk result (λ r. at ≤ r.at) }
+    ensures within { IfOk result (λ r. r.at ≤ length bytes.now) }
+    ensures read { (k : List Frame) → Leads bytes.now
+        (λ r. IsRead bytes.now (after (suc depth) k) r.tree (option_map (λ v. v.items) r.range) r.at)
+        result (reading bytes.now (value depth (in_array [] ∷ k)) at) }
 {
     let mut items = Vec::new(alloc);
-    let mut rest = bytes;
+    let mut range = None;
+    let mut at = at;
     // Each round reads at least one byte.
-    'items: for _ in 0..bytes.len() {
-        let (item, after) = value_of(alloc, depth, rest)?;
-        items.push(item)?;
-        let Some((more, after)) = after_item(b']', after) else {
-            return Err(JsonFault::NotBuilt);
-        };
-        if !more {
-            return Ok((items, after));
+    'elements: for position in 0..bytes.len() {
+        let item = value_of(alloc, bytes, depth, at)?;
+        range = first_range(range, item.range, position)?;
+        items.push(item.tree)?;
+        at = spaces_end(bytes, item.at);
+        let mark = byte_at(bytes, at);
+        if mark == b']' {
+            return Ok(Found {
+                tree: Tree::List(List::from_vec(items)),
+                range,
+                at: at + 1,
+            });
         }
-        rest = after;
+        if mark != b',' {
+            return Err(fault_at(bytes, at));
+        }
+        at += 1;
     }
-    Err(JsonFault::NotBuilt)
+    Err(fault_at(bytes, at))
 }
 
 /// The object behind its opening brace, with values that nest at most `depth` deep.
 #[cycle(value)]
-#[tactic(auto, unfolding(crate::specs::Reading::object_at, crate::specs::Reading::items_at))]
-fn object_of(alloc: Global, depth: usize, bytes: &[u8]) -> Result<(Tree, &[u8]), JsonFault>
-    ensures { Gives (λ x. (view x.0, x.1.now)) result (object_at (value_at depth) bytes.now) }
+fn object_of(alloc: Global, bytes: &[u8], depth: usize, at: usize) -> Result<Found, JsonFault>
+    requires { at ≤ length bytes.now }
+    ensures forward { IfOk result (λ r. at ≤ r.at) }
+    ensures within { IfOk result (λ r. r.at ≤ length bytes.now) }
+    ensures read { (k : List Frame) → Leads bytes.now
+        (λ r. IsRead bytes.now (after (suc depth) k) r.tree (option_map (λ v. v.items) r.range) r.at)
+        result (reading bytes.now (first_key depth k) at) }
 {
-    if let Some(rest) = after_mark(b'}', bytes) {
-        return Ok((Tree::Members(List::new(alloc)), rest));
+    let start = spaces_end(bytes, at);
+    if byte_at(bytes, start) == b'}' {
+        return Ok(found_at(Tree::Members(List::new(alloc)), start + 1));
     }
-    let (members, rest) = members_of(alloc, depth, bytes)?;
-    Ok((Tree::Members(List::from_vec(members)), rest))
+    members_of(alloc, bytes, depth, start)
 }
 
-/// The members of an object, of which there is at least one, up to its closing brace.
+/// The object from its first member on, up to its closing brace.
 #[cycle(value)]
-fn members_of(alloc: Global, depth: usize, bytes: &[u8]) -> Result<(Vec<Member>, &[u8]), JsonFault>
-    ensures { Gives (λ x. (map member_view x.0.items, x.1.now)) result (items_from (member_at (value_at depth)) 125 (length bytes.now) bytes.now) }
+fn members_of(alloc: Global, bytes: &[u8], depth: usize, at: usize) -> Result<Found, JsonFault>
+    requires { at ≤ length bytes.now }
+    ensures forward { IfOk result (λ r. at ≤ r.at) }
+    ensures within { IfOk result (λ r. r.at ≤ length bytes.now) }
+    ensures read { (k : List Frame) → Leads bytes.now
+        (λ r. IsRead bytes.now (after (suc depth) k) r.tree (option_map (λ v. v.items) r.range) r.at)
+        result (reading bytes.now (next_key depth k []) at) }
 {
     let mut members = Vec::new(alloc);
-    let mut rest = bytes;
+    let mut range = None;
+    let mut at = at;
     // Each round reads at least one byte.
-    'members: for _ in 0..bytes.len() {
-        let (member, after) = member_of(alloc, depth, rest)?;
-        members.push(member)?;
-        let Some((more, after)) = after_item(b'}', after) else {
-            return Err(JsonFault::NotBuilt);
-        };
-        if !more {
-            return Ok((members, after));
+    'members: for position in 0..bytes.len() {
+        let (key, colon) = key_of(alloc, bytes, at)?;
+        let value = value_of(alloc, bytes, depth, colon)?;
+        range = first_range(range, value.range, position)?;
+        members.push(Member {
+            key,
+            value: value.tree,
+        })?;
+        at = spaces_end(bytes, value.at);
+        let mark = byte_at(bytes, at);
+        if mark == b'}' {
+            return Ok(Found {
+                tree: Tree::Members(List::from_vec(members)),
+                range,
+                at: at + 1,
+            });
         }
-        rest = after;
+        if mark != b',' {
+            return Err(fault_at(bytes, at));
+        }
+        at += 1;
     }
-    Err(JsonFault::NotBuilt)
+    Err(fault_at(bytes, at))
 }
 
-/// A key, a colon and a value.
-#[cycle(value)]
-#[tactic(auto, unfolding(crate::specs::Reading::member_at))]
-fn member_of(alloc: Global, depth: usize, bytes: &[u8]) -> Result<(Member, &[u8]), JsonFault>
-    ensures { Gives (λ x. (member_view x.0, x.1.now)) result (member_at (value_at depth) bytes.now) }
+/// A key behind white space, and the position behind its colon.
+fn key_of(alloc: Global, bytes: &[u8], at: usize) -> Result<(Text, usize), JsonFault>
+    requires { at ≤ length bytes.now }
+    ensures forward { IfOk result (λ p. at ≤ p.1) }
+    ensures within { IfOk result (λ p. p.1 ≤ length bytes.now) }
+    ensures read { (d : ℕ) (k : List Frame) (ms : Pairs) → Leads bytes.now
+        (λ p o. o ≡ reading bytes.now (value d (in_object ms p.0 ∷ k)) p.1)
+        result (reading bytes.now (next_key d k ms) at) }
 {
-    let Some(rest) = after_mark(b'"', bytes) else {
-        return Err(JsonFault::NotBuilt);
-    };
-    let (key, rest) = text_of(alloc, rest)?;
-    let Some(rest) = after_mark(b':', rest) else {
-        return Err(JsonFault::NotBuilt);
-    };
-    let (value, rest) = value_of(alloc, depth, rest)?;
-    Ok((Member { key, value }, rest))
-}
-
-/// The value that all of the bytes spell, but for keys that stand twice.
-#[tactic(auto, unfolding(crate::specs::Reading::whole))]
-fn whole(alloc: Global, bytes: &[u8]) -> Result<Tree, JsonFault>
-    ensures { Gives view result (whole bytes.now) }
-{
-    let (tree, rest) = value_of(alloc, MAX_DEPTH, bytes)?;
-    if !after_spaces(rest).is_empty() {
-        return Err(JsonFault::NotBuilt);
+    let start = spaces_end(bytes, at);
+    if byte_at(bytes, start) != b'"' {
+        return Err(fault_at(bytes, start));
     }
-    Ok(tree)
+    let (key, end) = text_of(alloc, bytes, start + 1)?;
+    let colon = spaces_end(bytes, end);
+    if byte_at(bytes, colon) != b':' {
+        return Err(fault_at(bytes, colon));
+    }
+    Ok((key, colon + 1))
 }
 
-/// The value of a JSON text (RFC 8259, section 2), white space round it allowed.
+/// The value of all the bytes.
+fn whole(alloc: Global, bytes: &[u8]) -> Result<Found, JsonFault>
+    ensures { Leads bytes.now
+        (λ r o. (raw : Raw) × IsHeldAs raw (view r.tree)
+        × IsFirstRange raw (option_map (λ v. v.items) r.range) × (o ≡ gives raw))
+        result (reading bytes.now start 0) }
+{
+    let value = value_of(alloc, bytes, MAX_DEPTH, 0)?;
+    let end = spaces_end(bytes, value.at);
+    if end < bytes.len() {
+        return Err(fault_at(bytes, end));
+    }
+    Ok(value)
+}
+
+/// The value of a JSON text (RFC 8259) in UTF-8. Arrays and objects nest at most 64 deep, numbers have at most 38
+/// digits before the exponent mark and 3 behind it, and a surrogate stands only in an escaped pair.
 ///
-/// It reads true, false, texts, arrays and objects that nest at most 64 deep, where the outermost counts as 1. It
-/// reads no number, no `null`, no text with an escape or with a byte outside 32 to 126, and no object with two
-/// members of one key (section 4 leaves these to the reader).
-///
-/// `NotBuilt` comes exactly where the bytes are no such text, and `OutOfMemory` says nothing of them.
+/// `Byte` comes where a byte makes it impossible that a text follows, `Ends` where only the end does. Where the
+/// bytes are a text, `Duplicate` and `Range` name the first place in preorder with such a fault, and `Duplicate`
+/// wins at one place.
 pub fn read(alloc: Global, bytes: &[u8]) -> Result<Tree, JsonFault>
-    // The bytes spell what is read, and nothing else.
-    ensures spelled { IfOk result (λ tree. Spells bytes.now (view tree)) }
-    ensures only { IfOk result (λ tree. (value : Value) → Spells bytes.now value → view tree ≡ value) }
-    // What is refused spells nothing.
-    ensures refused { result ≡ Err JsonFault.NotBuilt → (value : Value) → Spells bytes.now value → ⊥ }
+    // The bytes spell what is read and nothing else, or have this fault.
+    ensures { Answers bytes.now result }
 {
-    let tree = whole(alloc, bytes)?;
-    if !no_key_twice(alloc, &tree)? {
-        return Err(JsonFault::NotBuilt);
+    // A literal stands for one number, so the bytes spell one value.
+    one_number();
+    let Found { tree, range, at: _ } = whole(alloc, bytes)?;
+    let duplicate = first_duplicate(alloc, &tree)?;
+    match (place_of(duplicate), place_of(range)) {
+        (None, None) => Ok(tree),
+        (Some(place), None) => Err(JsonFault::Duplicate { place }),
+        (None, Some(place)) => Err(JsonFault::Range { place }),
+        (Some(place), Some(other)) => {
+            if is_before(other.steps.as_slice(), place.steps.as_slice()) {
+                Err(JsonFault::Range { place: other })
+            } else {
+                Err(JsonFault::Duplicate { place })
+            }
+        }
     }
-    Ok(tree)
 }
 
-/// Bytes spell at most one value.
-pub fn spells_one_value()
-    ensures { (bytes : List ℕ) (one other : Value) → Spells bytes one → Spells bytes other → one ≡ other }
-{}
+/// The pointer to a place in the value of a JSON text, as to that of a fault. The bytes are read again.
+pub fn pointer_in(alloc: Global, bytes: &[u8], place: &Place) -> Result<Pointer, OutOfMemory>
+    requires { (raw : Raw) × IsText bytes.now raw × ((part : Raw) × StandsAt raw place.now.steps part) }
+    ensures { IfOk result (λ pointer. (raw : Raw) × IsText bytes.now raw × IsPointerOf raw place.now.steps pointer.text) }
+{
+    match whole(alloc, bytes) {
+        Ok(found) => pointer_of(alloc, &found.tree, place),
+        // The bytes are a text, so that only memory can be lacking.
+        Err(_) => Err(OutOfMemory),
+    }
+}

@@ -1,7 +1,7 @@
 use Rattle.std.proofs.Common.{◌≡◌, List, map, ap, ◌∙◌, sym, subst}
-use Rattle.json_tree.specs.Values.{Value, array}
+use Rattle.json_tree.specs.Values.{Json, array}
 use Rattle.json_tree.specs.View.{view, elements_view}
-use Rattle.json_tree.proofs.Views.{view-List}
+use Rattle.dtdl_cmd.proofs.Views.{view-List}
 use Rattle.dtdl_cmd.specs.Interfaces.{IsContents, AreContents}
 use Rattle.dtdl_cmd.specs.Reading.{Reads}
 use Rattle.dtdl_cmd.proofs.Views.{list_of-elements_of}
@@ -11,5 +11,5 @@ pub returns : goal.returns
 returns c =
     let is : view c.args.tree.now ≡ array (elements_view c.in-List.entries) = ap view c.in-List.is ∙ view-List c.in-List.entries in
     let inner : Reads (AreContents (map view c.in-List.entries)) c.contents_in.result = rw c.as_slice.ensures at c.contents_in.ensures in
-    subst (λ (v : Value). Reads (IsContents v) c.contents_in.result) (sym is)
-    (subst (λ (vs : List Value). Reads (AreContents vs) c.contents_in.result) (sym (list_of-elements_of (map view c.in-List.entries))) inner)
+    subst (λ (v : Json). Reads (IsContents v) c.contents_in.result) (sym is)
+    (subst (λ (vs : List Json). Reads (AreContents vs) c.contents_in.result) (sym (list_of-elements_of (map view c.in-List.entries))) inner)

@@ -1,13 +1,13 @@
 use Rattle.std.proofs.Common.{◌≡◌, ℕ, List, [], ◌∷◌, length, refl, inl, inr, ap, ◌∙◌, subst}
-use Rattle.json_tree.specs.Values.{Value, text, array, element, no_elements}
+use Rattle.json_tree.specs.Values.{Json, text, array, element, no_elements}
 use Rattle.json_tree.specs.View.{view, elements_view}
 use Rattle.json_tree.specs.declared.tree.Tree.{Tree}
-use Rattle.json_tree.proofs.Views.{view-List}
+use Rattle.dtdl_cmd.proofs.Views.{view-List}
 use Rattle.dtdl_cmd.specs.Interfaces.{NamesType}
 use Rattle.dtdl_cmd.proofs.members.names_type.Goals as goal
 
 -- a list that reads as one value has one entry
-one_entry : (entries : List Tree) (v : Value) → elements_view entries ≡ element v no_elements → length entries ≡ 1
+one_entry : (entries : List Tree) (v : Json) → elements_view entries ≡ element v no_elements → length entries ≡ 1
 one_entry [] v h = cc
 one_entry (t ∷ []) v h = refl
 one_entry (t ∷ u ∷ ts) v h = cc

@@ -32,3 +32,15 @@ returns-in-Err-TooLong-clause-ends g c =
       faults_after = g.S.Source.faults c.canon.new.input;
     } in
     said c.args.words.now input _ status.TooLong c.say-in-Err-TooLong.result _ (c.if-not-is_canon.ensures.0 refl, rw c.in-Err-TooLong.field-0-is at c.in-Err-TooLong.ensures.given, refl) c.say-in-Err-TooLong.ensures.said
+
+pub returns-in-Err-Refused-clause-ends : goal.returns-in-Err-Refused-clause-ends
+returns-in-Err-Refused-clause-ends g c =
+    let input : Told = record {
+      before = g.S.Source.left c.args.input.now;
+      after = g.S.Source.left c.canon.new.input;
+      faults_before = g.S.Source.faults c.args.input.now;
+      faults_after = g.S.Source.faults c.canon.new.input;
+    } in
+    said c.args.words.now input _ status.Refused c.say-in-Err-Refused.result c.in-Err-Refused.line
+    (c.if-not-is_canon.ensures.0 refl, rw c.in-Err-Refused.field-0-is at c.in-Err-Refused.ensures.given)
+    (rw c.as_slice-in-Err-Refused.ensures at c.say-in-Err-Refused.ensures.said)

@@ -1,10 +1,14 @@
-use Rattle.std.proofs.Common.{◌≡◌, drop}
+use Rattle.std.proofs.Common.{◌≤◌}
+use Rattle.json_tree.specs.Values.{array, object}
 use Rattle.json_tree.specs.View.{elements_view, members_view}
-use Rattle.json_tree.specs.Keys.{no_key_twice_in_elements, no_key_twice_in_members}
+use Rattle.json_tree.proofs.Duplicates.{IsClear}
 use Rattle.json_tree.proofs.keys.+keys.Given as goal
 
-abbrev pub invariant-no_key_twice_in_items-loop-item : goal.invariant-no_key_twice_in_items-loop-item
-invariant-no_key_twice_in_items-loop-item l = no_key_twice_in_elements (elements_view (drop l.item-index l.items)) ≡ no_key_twice_in_elements (elements_view l.items)
+abbrev pub invariant-first_in_items-loop-at : goal.invariant-first_in_items-loop-at
+invariant-first_in_items-loop-at l = IsClear (array (elements_view l.items)) l.at
 
-abbrev pub invariant-no_key_twice_in_members-loop-member : goal.invariant-no_key_twice_in_members-loop-member
-invariant-no_key_twice_in_members-loop-member l = no_key_twice_in_members (members_view (drop l.member-index l.members)) ≡ no_key_twice_in_members (members_view l.members)
+abbrev pub invariant-first_in_members-loop-at : goal.invariant-first_in_members-loop-at
+invariant-first_in_members-loop-at l = record {
+  before : l.at ≤ l.repeat;
+  clear : IsClear (object (members_view l.members)) l.at;
+}

@@ -1,5 +1,5 @@
 use Rattle.std.proofs.Common.{◌≡◌, map, drop}
-use Rattle.json_tree.specs.Keys.{has_key}
+use Rattle.json_tree.specs.Ways.{has_key}
 use Rattle.json_tree.proofs.keys.has_key.Given as goal
 
 abbrev pub invariant-loop-member : goal.invariant-loop-member

@@ -1,0 +1,21 @@
+use Rattle.std.proofs.Common.{◌≡◌, ℕ, List}
+use Rattle.json_tree.specs.View.{view}
+use Rattle.json_tree.specs.Values.{Raw}
+use Rattle.json_tree.specs.Grammar.{IsText}
+use Rattle.json_tree.specs.Pointers.{IsPointerOf}
+use Rattle.json_tree.proofs.Pointed.{read_stands, read_pointer, if_ok}
+use Rattle.json_tree.proofs.reading.pointer_in.Goals as goal
+
+pub pointer_of-requires : goal.pointer_of-requires
+pointer_of-requires c =
+    let r = c.in-Ok.ensures in
+    read_stands c.args.bytes.now c.args.place.now.steps r.0 (view c.in-Ok.found.tree) r.1 r.3 c.requires
+
+pub returns-in-Ok : goal.returns-in-Ok
+returns-in-Ok c =
+    let r = c.in-Ok.ensures in
+    if_ok c.pointer_of.result
+    (λ pointer. IsPointerOf (view c.in-Ok.found.tree) c.args.place.now.steps pointer.text)
+    (λ pointer. (raw : Raw) × IsText c.args.bytes.now raw × IsPointerOf raw c.args.place.now.steps pointer.text)
+    (λ pointer is. read_pointer c.args.bytes.now c.args.place.now.steps r.0 (view c.in-Ok.found.tree) r.1 r.3 pointer.text is)
+    c.pointer_of.ensures.text
