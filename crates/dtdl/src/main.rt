@@ -4,10 +4,9 @@
 use dt_base::{QuietShelf, StdSink, StdSource};
 use dtdl_cmd::{Status, run_plain};
 use std::alloc::{AllocError, Global};
-use std::env;
-use std::io;
 use std::process::ExitCode;
 use std::rt::Env;
+use std::{env, io};
 
 /// The words after the program's name.
 fn words(rt: &(impl AllocGlobal + Env), alloc: Global) -> io::Result<Vec<String>> {

@@ -1,5 +1,5 @@
 -- The characters of a text as they are printed.
-use Rattle.std.proofs.Common.{◌≡◌, ℕ, zero, suc, ◌+◌, ◌-◌, ◌*◌, ◌/◌, ◌%◌, ◌<◌, ◌≤◌, ◌⊎◌, inl, inr, List, [], ◌∷◌, ◌++◌, Bool, true, false, cond, ◌&&◌, nat_lt, nat_eq, nat_le, append_assoc, refl, sym, ap, ◌∙◌, subst, arith, rules, IsUtf8, le-ltb, lt-ltb}
+use Rattle.std.proofs.Common.{◌≡◌, ℕ, suc, ◌+◌, ◌*◌, ◌/◌, ◌%◌, ◌<◌, ◌≤◌, ◌⊎◌, inl, inr, List, [], ◌∷◌, ◌++◌, Bool, true, false, ◌&&◌, nat_lt, nat_eq, append_assoc, refl, sym, ap, ◌∙◌, subst, arith, rules, IsUtf8, le-ltb}
 use Rattle.std.proofs.lemmas.Bool.Decides.{nat_tests}
 use Rattle.std.proofs.lemmas.Str.{encode_ascii}
 use Rattle.std.proofs.lemmas.List.{append-nil}
@@ -8,7 +8,7 @@ use Rattle.std.specs.Char.{encode_utf8, IsScalar}
 use Rattle.std.specs.Str.{all_scalars}
 use Rattle.std.specs.Prelude.{encode_utf8_all}
 use Rattle.std.specs.List.{AllByRecursion}
-use Rattle.json_tree.specs.Grammar.{AreWithin, tail, IsMultibyte, IsShort, IsHexDigit, AreHexDigits, IsUnit, IsNonSurrogate, IsUnicode, IsEscape, IsCharacter, IsCharacters}
+use Rattle.json_tree.specs.Grammar.{AreWithin, tail, IsMultibyte, IsShort, IsHexDigit, AreHexDigits, IsUnit, IsCharacter, IsCharacters}
 use Rattle.json_tree.specs.Printing.{hex_digit, code_escape, escaped_byte, escaped, IsPlain}
 use Rattle.json_tree.proofs.Choices.{choose, is_byte, no_byte}
 use Rattle.json_tree.proofs.Escaped.{escaped_append, escaped_plain}

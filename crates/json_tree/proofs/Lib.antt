@@ -33,3 +33,7 @@ mod FirstKeys
 mod TreeItems
 mod Tied
 pub mod Pointed
+mod SortedParts
+mod Indices
+mod Evaluated
+mod Stepped

@@ -1,10 +1,9 @@
 -- Places and pointers in a value as it is held, and as it was spelled.
-use Rattle.std.proofs.Common.{◌≡◌, ℕ, ◌⊎◌, inl, inr, List, [], ◌∷◌, ◌++◌, Some, Result, Ok, Err, refl, sym, ap, ◌∙◌, subst}
+use Rattle.std.proofs.Common.{◌≡◌, ℕ, inl, inr, List, [], ◌∷◌, ◌++◌, Result, Ok, Err, refl, sym, subst}
 use Rattle.std.specs.Result.{IfOk}
-use Rattle.json_decimal.specs.Number.{Number}
-use Rattle.json_tree.specs.Values.{Value, Raw, Json, null, truth, number, text, array, object, Elements, Members}
+use Rattle.json_tree.specs.Values.{Value, Raw, Json, null, truth, number, text, array, object}
 use Rattle.json_tree.specs.Grammar.{IsText}
-use Rattle.json_tree.specs.Faults.{element_at, member_at, IsPart, StandsAt, IsDuplicateAt}
+use Rattle.json_tree.specs.Faults.{IsPart, StandsAt, IsDuplicateAt}
 use Rattle.json_tree.specs.Pointers.{HasToken, AreTokens, IsPointerOf}
 use Rattle.json_tree.specs.Leads.{IsHeldAs}
 use Rattle.json_tree.specs.Automaton.{start, gives, reading}

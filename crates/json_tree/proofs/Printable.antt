@@ -1,13 +1,11 @@
 -- The printed text of a value spells it.
-use Rattle.std.proofs.Common.{◌≡◌, ℕ, zero, suc, ◌+◌, ◌-◌, ◌*◌, ◌/◌, ◌%◌, ◌<◌, ◌≤◌, ◌⊎◌, inl, inr, List, [], ◌∷◌, ◌++◌, Bool, true, false, nat_lt, nat_eq, append_assoc, refl, sym, ap, ◌∙◌, subst, arith, rules}
+use Rattle.std.proofs.Common.{ℕ, List, [], ◌∷◌, ◌++◌, append_assoc, refl, ap, ◌∙◌, subst}
 use Rattle.std.proofs.lemmas.List.{append-nil}
-use Rattle.std.specs.Str.{IsUtf8}
-use Rattle.std.specs.Prelude.{encode_utf8, encode_utf8_all}
 use Rattle.json_decimal.specs.Number.{Number}
 use Rattle.json_decimal.specs.Printing.{text_of}
 use Rattle.json_tree.specs.Values.{Raw, Json, null, truth, number, text, array, object, Elements, no_elements, element, Members, no_members, member, HasDistinctKeys, ElementsHaveDistinctKeys, MembersHaveDistinctKeys, LacksKey, IsReadAs, ElementsAreReadAs, MembersAreReadAs}
-use Rattle.json_tree.specs.Grammar.{IsSpaces, IsPlainByte, IsMultibyte, IsShort, IsHexDigit, IsEscape, IsCharacter, IsCharacters, IsString, IsNumber, IsValue, IsElements, IsMoreElements, IsMembers, IsMoreMembers, IsText, Spells}
-use Rattle.json_tree.specs.Printing.{hex_digit, code_escape, escaped_byte, escaped, quoted, printed, printed_elements, printed_more_elements, printed_members, printed_more_members, NestsWithin, ElementsNestWithin, MembersNestWithin, IsSound, AreSound, MembersAreSound}
+use Rattle.json_tree.specs.Grammar.{IsSpaces, IsCharacters, IsString, IsValue, IsElements, IsMoreElements, IsMembers, IsMoreMembers, Spells}
+use Rattle.json_tree.specs.Printing.{escaped, quoted, printed, printed_elements, printed_more_elements, printed_members, printed_more_members, NestsWithin, ElementsNestWithin, MembersNestWithin, IsSound, AreSound, MembersAreSound}
 use Rattle.json_tree.proofs.Characters.{text_printed}
 
 -- each number as its text

@@ -1,8 +1,8 @@
 -- Texts that were printed piece by piece.
-use Rattle.std.proofs.Common.{◌≡◌, ℕ, zero, suc, ◌+◌, ◌<◌, List, [], ◌∷◌, ◌++◌, length, map, drop, take, get_or, append_assoc, add-one, drop-cons, refl, sym, ap, ◌∙◌, subst}
+use Rattle.std.proofs.Common.{◌≡◌, ℕ, zero, suc, ◌+◌, ◌<◌, List, [], ◌∷◌, ◌++◌, length, drop, take, get_or, append_assoc, add-one, drop-cons, sym, ap, ◌∙◌}
 use Rattle.json_decimal.specs.Number.{Number}
-use Rattle.json_tree.specs.Values.{Json, Elements, no_elements, element, Members, no_members, member, elements_of, members_of}
-use Rattle.json_tree.specs.View.{view, member_view, elements_view, members_view}
+use Rattle.json_tree.specs.Values.{Json, Elements, element, Members, member}
+use Rattle.json_tree.specs.View.{view, elements_view, members_view}
 use Rattle.json_tree.specs.Printing.{quoted, comma_before, printed, printed_elements, printed_more_elements, printed_members, printed_more_members, IsSound, AreSound, MembersAreSound}
 use Rattle.std.specs.Str.{IsUtf8}
 use Rattle.std.proofs.Math.Seq.{take-suc}

@@ -1,5 +1,5 @@
 -- The parts of a tree by their positions.
-use Rattle.std.proofs.Common.{◌≡◌, ℕ, zero, suc, ◌<◌, List, [], ◌∷◌, ◌++◌, length, get_or, decimal, Option, Some, None, refl, sym, ap, ◌∙◌, subst, append_assoc, arith, rules}
+use Rattle.std.proofs.Common.{◌≡◌, ℕ, zero, suc, ◌<◌, List, [], ◌∷◌, ◌++◌, length, get_or, decimal, Some, refl, sym, ap, ◌∙◌, subst, append_assoc, arith, rules}
 use Rattle.std.proofs.Common.{Result, Ok, Err}
 use Rattle.std.specs.Prelude.{OnOk}
 use Rattle.json_tree.specs.Values.{Json, array, object}
@@ -17,7 +17,7 @@ view-List trees = search (rules, the_lemmas)
 pub view-Members : (members : List Member) → view (variants.Members members) ≡ object (members_view members)
 view-Members members = search (rules, the_lemmas)
 
-item_within : (items : List Tree) (i : ℕ) (part : Json) → element_at (elements_view items) i ≡ Some part → i < length items
+pub item_within : (items : List Tree) (i : ℕ) (part : Json) → element_at (elements_view items) i ≡ Some part → i < length items
 item_within [] i part e = absurd cc
 item_within (t ∷ items) zero part e = omega arith
 item_within (t ∷ items) (suc i) part e = let h = item_within items i part e in omega (arith, h)

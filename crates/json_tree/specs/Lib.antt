@@ -11,3 +11,4 @@ pub mod Spans
 pub mod Printing
 pub mod Pointers
 pub mod Tokens
+pub mod Sorting

@@ -1,6 +1,6 @@
 -- JSON Pointers (RFC 6901): the text of a place in a value, and the value to which a text leads.
-use Rattle.std.specs.Prelude.{◌≡◌, ℕ, ◌==◌, if◌then◌else◌, ◌⊎◌, List, [], ◌∷◌, ◌++◌, Option, Some, codes, decimal}
-use Rattle.json_tree.specs.Values.{Value, null, truth, number, text, array, object, Elements, Members, no_members, member}
+use Rattle.std.specs.Prelude.{◌≡◌, ℕ, ◌==◌, if◌then◌else◌, ◌⊎◌, List, [], ◌∷◌, ◌++◌, Some, codes, decimal}
+use Rattle.json_tree.specs.Values.{Value, array, object, Members, no_members, member}
 use Rattle.json_tree.specs.Faults.{element_at, member_at}
 
 -- A byte of a reference token (section 3): `~` as `~0` and `/` as `~1`.

@@ -2,6 +2,7 @@
 #![tactic(auto)]
 
 mod copies;
+mod evaluation;
 mod fault;
 mod keys;
 mod places;
@@ -9,11 +10,14 @@ mod pointers;
 mod printing;
 mod reading;
 mod scan;
+mod sorting;
 mod strings;
 mod tree;
 
+pub use evaluation::at;
 pub use fault::{JsonFault, Place};
 pub use pointers::{Pointer, pointer_of};
 pub use printing::{print, push_quoted};
 pub use reading::{pointer_in, read};
+pub use sorting::sorted;
 pub use tree::{Member, Tree};

@@ -1,7 +1,5 @@
-use Rattle.std.proofs.Common.{◌≡◌, ◌<◌, ◌+◌, ◌++◌, ◌∷◌, ℕ, List, length, string_bytes, Result, Ok, Err, arith}
-use Rattle.std.specs.Prelude.{OnOk}
+use Rattle.std.proofs.Common.{string_bytes, arith}
 use Rattle.json_tree.specs.View.{view}
-use Rattle.json_tree.specs.Pointers.{pointer_text, AreTokens}
 use Rattle.json_tree.proofs.TreeItems.{stands_below, tokens_before, on_ok}
 use Rattle.json_tree.proofs.pointers.+points.Goals as goal
 

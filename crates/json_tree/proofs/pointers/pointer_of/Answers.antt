@@ -1,4 +1,3 @@
-use Rattle.std.proofs.Common.{◌≡◌}
 use Rattle.json_tree.specs.View.{view}
 use Rattle.json_tree.proofs.Tied.{pointer_leads}
 use Rattle.json_tree.proofs.pointers.pointer_of.Goals as goal

@@ -1,4 +1,4 @@
-use Rattle.std.proofs.Common.{◌≡◌, ◌++◌, ◌-◌, ◌≤◌, length, take, string_bytes}
+use Rattle.std.proofs.Common.{◌≡◌, ◌++◌, ◌-◌, length, take, string_bytes}
 use Rattle.std.specs.Str.{IsCharBoundary}
 use Rattle.json_tree.specs.Pointers.{token_text}
 use Rattle.json_tree.proofs.pointers.push_key.Given as goal

@@ -1,6 +1,5 @@
-use Rattle.std.proofs.Common.{◌≡◌, ◌<◌, ◌*◌, ◌++◌, ◌∷◌, [], ℕ, List, length, string_bytes, decimal, Fits, w64, refl, sym, ap, ◌∙◌, subst, append_assoc, arith}
-use Rattle.json_tree.specs.View.{view}
-use Rattle.json_tree.specs.Pointers.{token_text, HasToken}
+use Rattle.std.proofs.Common.{◌≡◌, ◌∷◌, [], string_bytes, decimal, append_assoc, arith}
+use Rattle.json_tree.specs.Pointers.{token_text}
 use Rattle.json_tree.proofs.TreeItems.{list_within, object_within, item_token, member_token}
 use Rattle.json_tree.proofs.FirstKeys.{decimal_token}
 use Rattle.json_tree.proofs.pointers.push_step.Goals as goal

@@ -1,4 +1,4 @@
-use Rattle.std.proofs.Common.{◌≡◌, ◌++◌, ◌∷◌, [], ◌<◌, ◌+◌, refl, arith}
+use Rattle.std.proofs.Common.{arith}
 use Rattle.json_tree.proofs.Printed.{element_printed, member_printed, item_sound, member_sound}
 use Rattle.json_tree.proofs.printing.+prints.Goals as goal
 

@@ -1,9 +1,8 @@
-use Rattle.std.proofs.Common.{◌≡◌, ◌++◌, ◌≤◌, ◌<◌, ◌+◌, length, take, string_bytes, get_or, refl, sym, ap, ◌∙◌, subst, arith}
+use Rattle.std.proofs.Common.{◌≡◌, ◌++◌, ◌<◌, length, take, string_bytes, sym, ◌∙◌, arith}
 use Rattle.std.proofs.lemmas.List.{append-nil}
 use Rattle.std.proofs.Math.Seq.{take-length}
 use Rattle.std.proofs.lemmas.Str.{IsCharBoundary-start, IsCharBoundary-after_ascii}
-use Rattle.std.specs.List.{slice_range}
-use Rattle.json_tree.specs.Printing.{escaped, escaped_byte}
+use Rattle.json_tree.specs.Printing.{escaped}
 use Rattle.json_tree.proofs.Escaped.{run_printed, byte_printed, escaped_ascii}
 use Rattle.json_tree.proofs.printing.push_escaped.Goals as goal
 

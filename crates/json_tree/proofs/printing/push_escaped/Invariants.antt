@@ -1,4 +1,4 @@
-use Rattle.std.proofs.Common.{◌≡◌, ◌++◌, ◌-◌, ◌≤◌, length, take, string_bytes}
+use Rattle.std.proofs.Common.{◌≡◌, ◌++◌, ◌-◌, length, take, string_bytes}
 use Rattle.std.specs.Str.{IsCharBoundary}
 use Rattle.json_tree.specs.Printing.{escaped}
 use Rattle.json_tree.proofs.printing.push_escaped.Given as goal

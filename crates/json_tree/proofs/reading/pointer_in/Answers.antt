@@ -1,4 +1,3 @@
-use Rattle.std.proofs.Common.{◌≡◌, ℕ, List}
 use Rattle.json_tree.specs.View.{view}
 use Rattle.json_tree.specs.Values.{Raw}
 use Rattle.json_tree.specs.Grammar.{IsText}
