@@ -17,7 +17,10 @@ pub struct Number {
 }
 
 impl Number {
-    pub fn new() -> Number {
+    /// The number 0.
+    pub fn new() -> Number
+        ensures { ⟦<Number as Object>⟧.state result ≡ 0 }
+    {
         Number { value: 0 }
     }
 }

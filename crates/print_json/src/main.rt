@@ -43,3 +43,6 @@ fn main(rt: HostRuntime) -> ExitCode {
         ExitCode::FAILURE
     }
 }
+
+#[cfg(test)]
+mod tests;
