@@ -225,7 +225,7 @@ reads_back n d = by_exponent n.exponent refl
     by_exponent (negsuc k) e = let P : ℤ → Type 0 = λ t. IsLiteralOf (minus_bytes n.negative ++ size_text (decimal n.coefficient) t) n in subst P (sym e) (fraction_reads_back n k d e)
 
 pub is_decimal : (d : Decimal) → IsDecimal (number_of d)
-is_decimal d = record { bounded = d.bounded; trimmed = d.trimmed; low = d.low; high = d.high; zero = d.zero }
+is_decimal d = record { bounded = d.bounded; trimmed = d.trimmed; low = d.least; high = d.most; zero = d.zero }
 
 pub decimal_reads_back : (d : Decimal) → IsLiteralOf (text_of (number_of d)) (number_of d)
 decimal_reads_back d = reads_back (number_of d) (is_decimal d)

@@ -3,12 +3,13 @@ use Rattle.std.specs.Prelude.{◌≡◌, List, ℕ, Result, Ok, Err}
 use Rattle.json_decimal.specs.declared.decimal.Decimal.{Decimal}
 use Rattle.json_decimal.specs.declared.DecimalFault.{DecimalFault}
 use Rattle.json_decimal.specs.declared.DecimalFault.TheVariants.{NotALiteral, Range}
+use Rattle.json_decimal.specs.Halves.{joined}
 use Rattle.json_decimal.specs.Number.{Number, IsOutOfRange}
 use Rattle.json_decimal.specs.Literal.{Literal, IsLiteral, IsLiteralOf, spelling}
 
 -- the number that a decimal is
 abbrev pub number_of : Decimal → Number
-number_of d = record { negative = d.negative; coefficient = d.coefficient; exponent = d.exponent }
+number_of d = record { negative = d.negative; coefficient = joined d.high d.low; exponent = d.exponent }
 
 -- What the answer says of the bytes: they are a literal of the decimal, or a literal of a number that is
 -- out of range, or no literal.

@@ -1,4 +1,5 @@
 pub mod Number
+pub mod Halves
 pub mod Literal
 pub mod Digits
 pub mod Reading

@@ -5,6 +5,7 @@ use thiserror::Error;
 
 mod decimal;
 mod digits;
+mod halves;
 mod order;
 mod print;
 mod read;

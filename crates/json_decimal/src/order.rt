@@ -1,10 +1,11 @@
 //! The order of decimals, and those that are whole numbers.
-ghost use Rattle.std.specs.Prelude.{◌≡◌, ℕ, ◌-◌, ◌*◌, ◌^◌, ◌<◌, ◌≤◌, ℤ, FitsSigned, MatchOption};
+ghost use Rattle.std.specs.Prelude.{◌≡◌, ◌↔◌, ℕ, ◌-◌, ◌*◌, ◌^◌, ◌<◌, ◌≤◌, ℤ, FitsSigned, IsTrue, MatchOption};
 ghost use Rattle.std.specs.Int.{w32, w64};
 ghost use Rattle.std.specs.Ordering.{nat_cmp};
 ghost use Rattle.std.specs.declared.cmp.Ordering.TheVariants.{Equal};
 ghost use Rattle.json_decimal.specs.declared.decimal.Decimal.{Decimal};
 ghost use Rattle.json_decimal.specs.Decimals.{number_of};
+ghost use Rattle.json_decimal.specs.Number.{zero_number};
 ghost use Rattle.json_decimal.specs.Comparing.{order_of, IsWhole, IsSize, above};
 
 use crate::decimal::Decimal;
@@ -22,6 +23,13 @@ impl Decimal {
             (true, false) => Ordering::Less,
             (false, true) => Ordering::Greater,
         }
+    }
+
+    /// Whether the number is zero. Takes no memory.
+    pub fn is_zero(&self) -> bool
+        ensures { IsTrue result ↔ (number_of self.now ≡ zero_number) }
+    {
+        self.coefficient() == 0
     }
 
     /// The number, where it is whole and fits 32 bits; None exactly where it does not. Takes no memory.
@@ -61,10 +69,11 @@ pub fn one_decimal()
 /// How two numbers compare, but for their signs.
 fn order_of_sizes(left: &Decimal, right: &Decimal) -> Ordering
     ensures { result ≡ nat_cmp
-        (left.now.coefficient * 10 ^ above right.now.exponent left.now.exponent)
-        (right.now.coefficient * 10 ^ above left.now.exponent right.now.exponent) }
+        ((number_of left.now).coefficient * 10 ^ above right.now.exponent left.now.exponent)
+        ((number_of right.now).coefficient * 10 ^ above left.now.exponent right.now.exponent) }
 {
-    let (a, b) = (left.coefficient, right.coefficient);
+    let a = left.coefficient();
+    let b = right.coefficient();
     if a == 0 || b == 0 {
         return a.cmp(&b);
     }
@@ -98,11 +107,8 @@ fn whole_size(decimal: &Decimal) -> Option<u64>
         ((n : ℕ) → n ≤ 2 ^ 63 → IsSize (number_of decimal.now) n → ⊥)
         (λ n. (n ≤ 2 ^ 63) × IsSize (number_of decimal.now) n) }
 {
-    let Decimal {
-        coefficient,
-        exponent,
-        ..
-    } = *decimal;
+    let exponent = decimal.exponent;
+    let coefficient = decimal.coefficient();
     if exponent < 0 || exponent > 18 {
         return None;
     }

@@ -28,17 +28,11 @@ impl Decimal {
         // The text reads back.
         ensures literal { IfOk result (λ text. IsLiteralOf (string_bytes text) (number_of self.now)) }
     {
-        let Decimal {
-            negative,
-            coefficient,
-            exponent,
-            ..
-        } = *self;
         let mut text = String::with_capacity(alloc, LONGEST)?;
-        if negative {
+        if self.negative {
             text.push('-')?;
         }
-        push_size(&mut text, coefficient, exponent)?;
+        push_size(&mut text, self.coefficient(), self.exponent)?;
         Ok(text)
     }
 }

@@ -58,11 +58,7 @@ fn normal_form(scanned: Scanned) -> Option<Decimal>
         scale,
     } = scanned;
     if value == 0 {
-        return Some(Decimal {
-            negative: false,
-            coefficient: 0,
-            exponent: 0,
-        });
+        return Some(Decimal::of(false, 0, 0));
     }
     let (coefficient, zeros) = without_trailing_zeros(value);
     let exponent = scale + zeros as i32;
@@ -72,9 +68,5 @@ fn normal_form(scanned: Scanned) -> Option<Decimal>
     if exponent > 900 {
         return None;
     }
-    Some(Decimal {
-        negative,
-        coefficient,
-        exponent,
-    })
+    Some(Decimal::of(negative, coefficient, exponent))
 }

@@ -1,6 +1,7 @@
 //! Examples from outside: literals with their canonical text, faults, the order and whole numbers.
 use super::*;
 use std::cmp::Ordering;
+use std::collections::BTreeSet;
 use std::test::Fail;
 
 #[test]
@@ -136,5 +137,41 @@ fn gives_whole_numbers(rt: HostRuntime) -> Result<(), Fail> {
         assert_eq!(rt; decimal.as_i32(), small);
         assert_eq!(rt; decimal.as_i64(), large);
     }
+    Ok(())
+}
+
+#[test]
+fn holds_the_coefficient_in_halves(rt: HostRuntime) -> Result<(), Fail> {
+    let table: [(&[u8], u64, u64, u128); 4] = [
+        (b"-215e1", 0, 215, 215),
+        (
+            b"18446744073709551615",
+            0,
+            18446744073709551615,
+            18446744073709551615,
+        ),
+        (b"18446744073709551617", 1, 1, 18446744073709551617),
+        (
+            b"99999999999999999999999999999999999999",
+            5421010862427522170,
+            687399551400673279,
+            99999999999999999999999999999999999999,
+        ),
+    ];
+    for (literal, high, low, coefficient) in table {
+        let decimal = Decimal::read(literal)?;
+        assert_eq!(rt; decimal.high, high);
+        assert_eq!(rt; decimal.low, low);
+        assert_eq!(rt; decimal.coefficient(), coefficient);
+    }
+    Ok(())
+}
+
+#[test]
+fn stands_in_sets_once(rt: HostRuntime) -> Result<(), Fail> {
+    let mut set = BTreeSet::new(rt.alloc());
+    assert!(rt; set.insert(Decimal::read(b"21.50")?)?);
+    assert!(rt; set.insert(Decimal::read(b"-21.50")?)?);
+    assert!(rt; !set.insert(Decimal::read(b"2150e-2")?)?);
     Ok(())
 }

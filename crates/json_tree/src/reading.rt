@@ -97,9 +97,10 @@ fn number_of(alloc: Global, bytes: &[u8], at: usize) -> Result<Found, JsonFault>
         Ok(decimal) => Ok(found_at(Tree::Number(decimal), end)),
         Err(DecimalFault::Range) => Ok(Found {
             tree: Tree::Number(Decimal {
-                negative: false,
-                coefficient: 0,
+                high: 0,
+                low: 0,
                 exponent: 0,
+                negative: false,
             }),
             range: Some(Vec::new(alloc)),
             at: end,

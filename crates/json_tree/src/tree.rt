@@ -26,3 +26,8 @@ pub struct Member {
     pub key: Text,
     pub value: Tree,
 }
+
+// Where a text is read, its tree takes most of the memory.
+const _: () = prove!(size_of::<Tree>() == 32);
+
+const _: () = prove!(size_of::<Member>() == 56);

@@ -8,7 +8,7 @@ pub returns-in-Ok-clause-read : goal.returns-in-Ok-clause-read
 returns-in-Ok-clause-read c d k =
     rw (c.found_at.ensures.tree, c.found_at.ensures.range, c.found_at.ensures.at)
     (number_read c.args.bytes.now (after d k) (slice_range c.args.bytes.now c.args.at c.in_ok-end.end) c.in-Ok.decimal c.in_ok-end.end _
-    c.in-Ok.ensures.reads (record { low = c.in-Ok.decimal.low; high = c.in-Ok.decimal.high }) c.in-Ok.ensures.exact (c.in_ok-end.ensures.read d k))
+    c.in-Ok.ensures.reads (record { low = c.in-Ok.decimal.least; high = c.in-Ok.decimal.most }) c.in-Ok.ensures.exact (c.in_ok-end.ensures.read d k))
 
 pub returns-in-Err-Range-clause-read : goal.returns-in-Err-Range-clause-read
 returns-in-Err-Range-clause-read c d k =

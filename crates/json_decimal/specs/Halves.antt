@@ -1,0 +1,6 @@
+-- A number in two halves of 64 bits.
+use Rattle.std.specs.Prelude.{ℕ, ◌+◌, ◌*◌, ◌^◌}
+
+-- the number with these upper and lower halves
+abbrev pub joined : ℕ → ℕ → ℕ
+joined high low = high * 2 ^ 64 + low
