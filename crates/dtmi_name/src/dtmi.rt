@@ -132,6 +132,13 @@ pub fn has_dtmi_form(text: &str) -> bool
     }
 }
 
+/// Whether a text begins as the reserved identifiers do.
+pub fn is_reserved_id(text: &str) -> bool
+    ensures { result ≡ is_reserved text.now }
+{
+    is_reserved(text.as_bytes())
+}
+
 /// What a text that is read tells beside its bytes.
 #[derive(Clone, Copy)]
 struct Form {

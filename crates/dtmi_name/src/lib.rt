@@ -7,9 +7,9 @@ mod fault;
 mod name;
 mod place;
 
-pub use dtmi::{Dtmi, has_dtmi_form, order, same_path};
+pub use dtmi::{Dtmi, has_dtmi_form, is_reserved_id, order, same_path};
 pub use fault::NameFault;
-pub use name::Name;
+pub use name::{Name, is_name};
 
 #[cfg(test)]
 mod tests;

@@ -1,6 +1,6 @@
 //! Names, as contents, fields and enumeration entries have them.
 
-ghost use Rattle.std.specs.Prelude.{◌≡◌, ◌<◌, length, IfOk, MatchResult};
+ghost use Rattle.std.specs.Prelude.{◌≡◌, ◌↔◌, ◌<◌, length, IfOk, IsTrue, MatchResult};
 ghost use Rattle.dtmi_name.specs.Grammar.{NameText};
 ghost use Rattle.dtmi_name.specs.Faults.{RefusesName};
 ghost use Rattle.dtmi_name.specs.Machine.{Tells};
@@ -64,6 +64,19 @@ impl Name {
     {
         let text = String::from_str(alloc, self.text.as_str())?;
         Ok(Name { text })
+    }
+}
+
+/// Whether a text is a name. Takes no memory.
+pub fn is_name(text: &str) -> bool
+    ensures { IsTrue result ↔ NameText text.now }
+{
+    if text.len() > MOST_BYTES {
+        return false;
+    }
+    match walk(Place::NameStart, MOST_BYTES, text.as_bytes()) {
+        Outcome::Whole(place) => ends(place),
+        Outcome::Wrong { .. } => false,
     }
 }
 
