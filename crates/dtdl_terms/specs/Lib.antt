@@ -1,0 +1,4 @@
+pub mod formers
+pub mod Primitives
+pub mod Terms
+pub mod TermViews

@@ -1,0 +1,25 @@
+//! The elements of the Digital Twins Definition Language, version 2, as plain data: interfaces with their
+//! contents and schemas, and where an interface stands in its document.
+#![tactic(auto)]
+
+mod boxed;
+mod common;
+mod content;
+mod enumeration;
+mod interface;
+mod options;
+mod primitive;
+mod schema;
+mod uploaded;
+
+pub use boxed::Boxed;
+pub use common::{Common, Entry, Localized};
+pub use content::{Content, ContentKind};
+pub use enumeration::{EnumEntry, EnumValue};
+pub use interface::Interface;
+pub use primitive::{Primitive, primitive_named};
+pub use schema::{Payload, Schema};
+pub use uploaded::Uploaded;
+
+#[cfg(test)]
+mod tests;
