@@ -1,0 +1,116 @@
+-- Entries that repeat an earlier one.
+use Rattle.std.proofs.Common.{◌≡◌, ℕ, zero, suc, ◌+◌, ◌<◌, ◌⊎◌, inl, inr, List, [], ◌∷◌, ◌++◌, length, map, take, get_or, Bool, true, false, cond, not, ◌||◌, Option, Some, None, refl, sym, ap, ap₂, ◌∙◌, arith, rules}
+use Rattle.std.specs.Prelude.{slice_get}
+use Rattle.std.specs.Option.{option_map}
+use Rattle.std.specs.List.{list_any, take-map}
+use Rattle.std.specs.Ordering.{is_eq}
+use Rattle.std.specs.BTreeSet.{BTreeSet, contains}
+use Rattle.std.proofs.lemmas.List.{take_more, map_push, get_or_push, get_or_append_left}
+use Rattle.std.proofs.lemmas.List.Folds.{list_any-append}
+use Rattle.std.proofs.lemmas.Map.Text.{is_eq-slice_cmp}
+use Rattle.json_tree.specs.Values.{Json}
+use Rattle.json_tree.specs.View.{view}
+use Rattle.json_tree.specs.declared.tree.Tree.{Tree}
+use Rattle.local_rules.specs.Roles.{holds_some, is_among, same_value}
+use Rattle.local_rules.specs.Repeated.{HasSeen, compared, is_seen, repeats_by, value_by}
+use Rattle.local_rules.specs.declared.repeated.Mark.{Mark}
+use Rattle.local_rules.specs.declared.repeated.Mark.TheVariants as mark
+use Rattle.local_rules.specs.declared.repeated.Sort.{Sort}
+use Rattle.local_rules.specs.contracts.repeated.MarkOrd.TheImpl as order
+
+got : (f : Json → Option Json) (ts : List Tree) (i : ℕ) (t : Tree) → i < length ts → t ≡ get_or ts i t → slice_get (map f (map view ts)) i ≡ Some (f (view t))
+got f [] i t lt e = absurd (omega (arith, lt))
+got f (u ∷ ts) zero t lt e = ap (λ (x : Tree). Some (f (view x))) (sym e)
+got f (u ∷ ts) (suc i) t lt e = got f ts i t (omega (arith, lt)) e
+
+front : (f : Json → Option Json) (ts : List Tree) (i : ℕ) → take i (map f (map view ts)) ≡ map f (map view (take i ts))
+front f ts i = take-map f i (map view ts) ∙ ap (λ (vs : List Json). map f vs) (take-map view i ts)
+
+pub repeats_here : (s : Sort) (ts : List Tree) (i : ℕ) (t : Tree) → i < length ts → t ≡ get_or ts i t
+    → repeats_by s (map view ts) i ≡ is_among same_value (map (compared s) (map view (take i ts))) (compared s (view t))
+repeats_here s ts i t lt e = rw (got (compared s) ts i t lt e, front (compared s) ts i) refl
+
+-- ---- marks in a set
+mark_same : (m n : Mark) → is_eq ((order.cmp-value).it m n) ≡ same_value (value_by m) (value_by n)
+mark_same (mark.Number d) (mark.Number e) = search (rules, order.cmp-value)
+mark_same (mark.Number d) (mark.Text t) = refl
+mark_same (mark.Text t) (mark.Number d) = refl
+mark_same (mark.Text t) (mark.Text u) = is_eq-slice_cmp t.now u.now
+
+any_same : (ks : List Mark) (q : Mark) → list_any (λ k. is_eq ((order.cmp-value).it q k)) ks ≡ list_any (λ k. same_value (value_by q) (value_by k)) ks
+any_same [] q = refl
+any_same (k ∷ ks) q = ap₂ ◌||◌ (mark_same q k) (any_same ks q)
+
+not_not : (a b : Bool) → a ≡ not b → not a ≡ b
+not_not a true e = ap not e
+not_not a false e = ap not e
+
+as_or : (a b c : Bool) → a ≡ c → cond a true b ≡ (b || c)
+as_or true true c e = refl
+as_or true false c e = e
+as_or false true c e = refl
+as_or false false c e = e
+
+pub put_in : (old new : BTreeSet Mark) (m : Mark) (added : Bool) → added ≡ not (contains (order.cmp-value).it old m)
+    → ((q : Mark) → contains (order.cmp-value).it new q ≡ cond (is_eq ((order.cmp-value).it m q)) true (contains (order.cmp-value).it old q))
+    → HasSeen old new (not added) (Some m)
+put_in old new m added e more = (
+  not_not added (contains (order.cmp-value).it old m) e ∙ any_same old.keys m,
+  λ q. sym (any_same new.keys q) ∙ more q ∙ as_or (is_eq ((order.cmp-value).it m q)) (contains (order.cmp-value).it old q) (same_value (value_by m) (value_by q)) (mark_same m q)
+      ∙ ap (λ (b : Bool). b || same_value (value_by m) (value_by q)) (any_same old.keys q),
+)
+
+-- ---- one more entry
+or_nothing : (a : Bool) → (a || false) ≡ a
+or_nothing true = refl
+or_nothing false = refl
+
+any_push : {X : Type 0} (test : X → Bool) (xs : List X) (x : X) → list_any test (xs ++ x ∷ []) ≡ (list_any test xs || test x)
+any_push test xs x = list_any-append test xs (x ∷ []) ∙ ap (λ (b : Bool). list_any test xs || b) (or_nothing (test x))
+
+one_more : (s : Sort) (ts : List Tree) (i : ℕ) (t : Tree) → i < length ts → t ≡ get_or ts i t
+    → map (compared s) (map view (take (i + 1) ts)) ≡ map (compared s) (map view (take i ts)) ++ compared s (view t) ∷ []
+one_more s ts i t lt e =
+    let more : take (i + 1) ts ≡ take i ts ++ t ∷ [] = take_more ts i t lt ∙ ap (λ (x : Tree). take i ts ++ x ∷ []) (sym e) in
+    ap (λ (us : List Tree). map (compared s) (map view us)) more
+    ∙ ap (λ (vs : List Json). map (compared s) vs) (map_push view (take i ts) t)
+    ∙ map_push (compared s) (map view (take i ts)) (view t)
+
+-- what was seen is what the entries so far are compared by
+abbrev pub HasSeenAll : Sort → List Tree → ℕ → BTreeSet Mark → Type 0
+HasSeenAll s ts i seen = (q : Mark) → is_seen seen (value_by q) ≡ list_any (holds_some (λ u. same_value u (value_by q))) (map (compared s) (map view (take i ts)))
+
+pub seen_more : (s : Sort) (ts : List Tree) (i : ℕ) (t : Tree) (old new : BTreeSet Mark) (b : Bool) (m : Option Mark) → i < length ts → t ≡ get_or ts i t
+    → HasSeenAll s ts i old → option_map value_by m ≡ compared s (view t) → HasSeen old new b m → HasSeenAll s ts (i + 1) new
+seen_more s ts i t old new b None lt e all is h = λ q.
+    let test : Option Json → Bool = holds_some (λ u. same_value u (value_by q)) in
+    h.1 q ∙ all q ∙ sym (or_nothing (list_any test (map (compared s) (map view (take i ts)))))
+    ∙ ap (λ (v : Option Json). list_any test (map (compared s) (map view (take i ts))) || test v) is
+    ∙ sym (ap (λ (vs : List (Option Json)). list_any test vs) (one_more s ts i t lt e) ∙ any_push test (map (compared s) (map view (take i ts))) (compared s (view t)))
+seen_more s ts i t old new b (Some m) lt e all is h = λ q.
+    let test : Option Json → Bool = holds_some (λ u. same_value u (value_by q)) in
+    h.1 q ∙ ap (λ (c : Bool). c || same_value (value_by m) (value_by q)) (all q)
+    ∙ ap (λ (v : Option Json). list_any test (map (compared s) (map view (take i ts))) || test v) is
+    ∙ sym (ap (λ (vs : List (Option Json)). list_any test vs) (one_more s ts i t lt e) ∙ any_push test (map (compared s) (map view (take i ts))) (compared s (view t)))
+
+answered : (s : Sort) (ts : List Tree) (i : ℕ) (t : Tree) (old new : BTreeSet Mark) (b : Bool) (m : Option Mark)
+    → HasSeenAll s ts i old → option_map value_by m ≡ compared s (view t) → HasSeen old new b m
+    → b ≡ is_among same_value (map (compared s) (map view (take i ts))) (compared s (view t))
+answered s ts i t old new b None all is h = h.0 ∙ ap (λ (v : Option Json). is_among same_value (map (compared s) (map view (take i ts))) v) is
+answered s ts i t old new b (Some m) all is h = h.0 ∙ all m ∙ ap (λ (v : Option Json). is_among same_value (map (compared s) (map view (take i ts))) v) is
+
+either : (k i : ℕ) → k < i + 1 → (k < i) ⊎ (k ≡ i)
+either k i lt = grind arith
+
+-- the marks so far are right
+abbrev pub AreMarked : Sort → List Tree → ℕ → List Bool → Type 0
+AreMarked s ts i marks = (k : ℕ) → k < i → get_or marks k false ≡ repeats_by s (map view ts) k
+
+pub marked_more : (s : Sort) (ts : List Tree) (i : ℕ) (t : Tree) (marks : List Bool) (old new : BTreeSet Mark) (b : Bool) (m : Option Mark)
+    → i < length ts → t ≡ get_or ts i t → length marks ≡ i → AreMarked s ts i marks
+    → HasSeenAll s ts i old → option_map value_by m ≡ compared s (view t) → HasSeen old new b m → AreMarked s ts (i + 1) (marks ++ b ∷ [])
+marked_more s ts i t marks old new b m lt e count marked all is h = λ k below. elim (either k i below) [
+  | inl l ↦ get_or_append_left marks (b ∷ []) false k (omega (arith, count, l)) ∙ marked k l
+  | inr same ↦ ap (λ (j : ℕ). get_or (marks ++ b ∷ []) j false) same ∙ get_or_push marks b false i count
+      ∙ answered s ts i t old new b m all is h ∙ sym (repeats_here s ts i t lt e) ∙ ap (λ (j : ℕ). repeats_by s (map view ts) j) (sym same)
+]

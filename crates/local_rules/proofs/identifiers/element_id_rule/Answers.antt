@@ -1,0 +1,12 @@
+use Rattle.std.proofs.Common.{◌≡◌, sym, ap, ◌∙◌, subst}
+use Rattle.json_tree.specs.Values.{Json, text}
+use Rattle.json_tree.specs.View.{view}
+use Rattle.local_rules.specs.Firsts.{IdBreaksAt, IsFirstAmong, id_rules}
+use Rattle.local_rules.specs.Identifiers.{of_element}
+use Rattle.local_rules.proofs.Views.{view-Text}
+use Rattle.local_rules.proofs.identifiers.element_id_rule.Goals as goal
+
+pub returns-in-Text : goal.returns-in-Text
+returns-in-Text c =
+    let is : view c.args.tree.now ≡ text c.as_str.result.now = rw c.as_str.ensures (ap view c.in-Text.is ∙ view-Text c.in-Text.text) in
+    subst (λ (v : Json). IsFirstAmong (IdBreaksAt (λ _. of_element) v) id_rules c.element_id_text_rule.result) (sym is) c.element_id_text_rule.ensures

@@ -1,0 +1,16 @@
+use Rattle.std.proofs.Common.{[], ◌∷◌, Some, refl, rules}
+use Rattle.json_tree.specs.View.{view}
+use Rattle.local_rules.specs.Choices.{BreaksAlone}
+use Rattle.local_rules.specs.Firsts.{id_rules}
+use Rattle.local_rules.specs.declared.rule.LocalRule.TheVariants as rule
+use Rattle.local_rules.specs.declared.role.Role.TheVariants as role
+use Rattle.local_rules.proofs.Firsts.{first_before, first_behind}
+use Rattle.local_rules.proofs.identifiers.parent_rule.Goals as goal
+
+pub returns-in-Some : goal.returns-in-Some
+returns-in-Some c =
+    first_before (λ one. BreaksAlone one (role.Parent c.args.repeats) (view c.args.tree.now)) id_rules (rule.RepeatedParent ∷ []) (Some c.in-Some.rule) c.in-Some.rule c.in-Some.ensures refl
+
+pub returns-in-None : goal.returns-in-None
+returns-in-None c =
+    first_behind (λ one. BreaksAlone one (role.Parent c.args.repeats) (view c.args.tree.now)) id_rules (rule.RepeatedParent ∷ []) c.then_some.result c.in-None.ensures (search rules)

@@ -1,0 +1,15 @@
+pub mod Codes
+pub mod Members
+pub mod Tables
+pub mod Roles
+pub mod Kinds
+pub mod Types
+pub mod Identifiers
+pub mod Texts
+pub mod Lists
+pub mod Quantities
+pub mod Levels
+pub mod Breaches
+pub mod Choices
+pub mod Firsts
+pub mod Repeated

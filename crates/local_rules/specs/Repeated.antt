@@ -1,0 +1,69 @@
+-- What the entries of a list are compared by, to find those that repeat an earlier one. These words serve private
+-- clauses.
+use Rattle.std.specs.Prelude.{◌≡◌, ℕ, ◌<◌, List, map, length, get_or, Bool, false, ◌||◌, Option, Some, None, codes, option_and_then}
+use Rattle.std.specs.Option.{option_map}
+use Rattle.std.specs.List.{list_any}
+use Rattle.std.specs.BTreeSet.{BTreeSet}
+use Rattle.json_decimal.specs.Number.{Number}
+use Rattle.json_tree.specs.Values.{Json, null, truth, number, text, array, object}
+use Rattle.local_rules.specs.Members.{text_in, value_in}
+use Rattle.local_rules.specs.Roles.{name_in, repeats, same_value}
+use Rattle.local_rules.specs.declared.role.Role.{Role}
+use Rattle.local_rules.specs.declared.role.Role.TheVariants as role
+use Rattle.local_rules.specs.declared.role.ValueKind.{ValueKind}
+use Rattle.local_rules.specs.declared.repeated.Digits.{Digits}
+use Rattle.local_rules.specs.declared.repeated.Mark.{Mark}
+use Rattle.local_rules.specs.declared.repeated.Mark.TheVariants as mark
+use Rattle.local_rules.specs.declared.repeated.Sort.{Sort}
+use Rattle.local_rules.specs.declared.repeated.Sort.TheVariants as sort
+
+abbrev pub number_by : Digits → Number
+number_by d = record { negative = d.negative; coefficient = d.coefficient; exponent = d.exponent }
+
+abbrev pub value_by : Mark → Json
+value_by (mark.Number d) = number (number_by d)
+value_by (mark.Text t) = text t.now
+
+-- A value that is a number or a text; no other is equal to one.
+abbrev pub comparable : Json → Option Json
+comparable null = None
+comparable (truth b) = None
+comparable (number n) = Some (number n)
+comparable (text bytes) = Some (text bytes)
+comparable (array vs) = None
+comparable (object ms) = None
+
+-- What is compared of an entry.
+abbrev pub compared : Sort → Json → Option Json
+compared sort.Name v = option_map text (name_in v)
+compared sort.Whole v = option_map text (text_in v)
+compared sort.Value v = option_and_then comparable (value_in (codes "enumValue") v)
+
+abbrev pub repeats_by : Sort → List Json → ℕ → Bool
+repeats_by s vs i = repeats same_value (map (compared s) vs) i
+
+-- These tell of each value whether it repeats an earlier one.
+abbrev pub AreRepeats : Sort → List Json → List Bool → Type 0
+AreRepeats s vs marks = (length marks ≡ length vs) × ((i : ℕ) → i < length vs → get_or marks i false ≡ repeats_by s vs i)
+
+-- Whether a value is among those that were seen.
+abbrev pub is_seen : BTreeSet Mark → Json → Bool
+is_seen seen v = list_any (λ m. same_value v (value_by m)) seen.keys
+
+-- The answer tells whether what an entry is compared by was seen, and it is seen now.
+abbrev pub HasSeen : BTreeSet Mark → BTreeSet Mark → Bool → Option Mark → Type 0
+HasSeen old new b None = (b ≡ false) × ((q : Mark) → is_seen new (value_by q) ≡ is_seen old (value_by q))
+HasSeen old new b (Some m) = (b ≡ is_seen old (value_by m))
+    × ((q : Mark) → is_seen new (value_by q) ≡ (is_seen old (value_by q) || same_value (value_by m) (value_by q)))
+
+-- By what the entries of a list in this role are compared.
+abbrev pub sort_of : Role → Sort
+sort_of role.Extends = sort.Whole
+sort_of other = sort.Name
+
+-- Where the values are more than 8, these tell of each whether it repeats an earlier one.
+abbrev pub AreMarks : Sort → List Json → List Bool → Type 0
+AreMarks s vs marks = 8 < length vs → AreRepeats s vs marks
+
+abbrev pub AreValueMarks : Role → List Json → List Bool → Type 0
+AreValueMarks r vs marks = (k : ValueKind) → r ≡ role.EnumValues k → AreMarks sort.Value vs marks

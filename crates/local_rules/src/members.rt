@@ -1,0 +1,70 @@
+//! Looking into JSON values.
+
+ghost use Rattle.std.specs.Prelude.{◌≡◌, map, option_and_then};
+ghost use Rattle.std.specs.Option.{option_map};
+ghost use Rattle.json_tree.specs.View.{view, members_view};
+ghost use Rattle.local_rules.specs.Members.{elements_in, members_in, text_in, value_at, value_in};
+
+use json_tree::{Member, Tree};
+
+/// The text that a value is.
+#[tactic(auto, using(crate::proofs::Views::views))]
+pub fn text_in(tree: &Tree) -> Option<&str>
+    ensures { option_map (λ t. t.now) result ≡ text_in (view tree.now) }
+{
+    match tree {
+        Tree::Text(text) => Some(text.as_str()),
+        Tree::Null | Tree::Bool(_) | Tree::Number(_) | Tree::List(_) | Tree::Members(_) => None,
+    }
+}
+
+/// The members that a value has: none where it is no object.
+#[tactic(auto, using(crate::proofs::Views::views))]
+pub fn members_in(tree: &Tree) -> &[Member]
+    ensures { members_view result.now ≡ members_in (view tree.now) }
+{
+    match tree {
+        Tree::Members(members) => members.as_slice(),
+        Tree::Null | Tree::Bool(_) | Tree::Number(_) | Tree::Text(_) | Tree::List(_) => &[],
+    }
+}
+
+/// The elements that a value has: none where it is no array.
+#[tactic(auto, using(crate::proofs::Views::views, crate::proofs::Views::lists))]
+pub fn elements_in(tree: &Tree) -> &[Tree]
+    ensures { map view result.now ≡ elements_in (view tree.now) }
+{
+    match tree {
+        Tree::List(elements) => elements.as_slice(),
+        Tree::Null | Tree::Bool(_) | Tree::Number(_) | Tree::Text(_) | Tree::Members(_) => &[],
+    }
+}
+
+/// The value of the first member with this key.
+pub fn value_at<'a>(members: &'a [Member], key: &str) -> Option<&'a Tree>
+    ensures { option_map (λ t. view t.now) result ≡ value_at key.now (members_view members.now) }
+{
+    for member in members {
+        if member.key.as_str() == key {
+            return Some(&member.value);
+        }
+    }
+    None
+}
+
+/// The text of the first member with this key.
+pub fn text_at<'a>(members: &'a [Member], key: &str) -> Option<&'a str>
+    ensures { option_map (λ t. t.now) result ≡ option_and_then text_in (value_at key.now (members_view members.now)) }
+{
+    match value_at(members, key) {
+        Some(value) => text_in(value),
+        None => None,
+    }
+}
+
+/// What a value has under a key: nothing where it is no object or has no such member.
+pub fn value_in<'a>(tree: &'a Tree, key: &str) -> Option<&'a Tree>
+    ensures { option_map (λ t. view t.now) result ≡ value_in key.now (view tree.now) }
+{
+    value_at(members_in(tree), key)
+}

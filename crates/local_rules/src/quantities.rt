@@ -1,0 +1,124 @@
+//! The rules on the values of enums, on the keys of maps and on multiplicities.
+
+ghost use Rattle.std.specs.Prelude.{◌≡◌, ◌↔◌, IsTrue, codes};
+ghost use Rattle.json_decimal.specs.Decimals.{number_of};
+ghost use Rattle.json_tree.specs.Values.{number as number_value, text};
+ghost use Rattle.json_tree.specs.View.{view};
+ghost use Rattle.local_rules.specs.Choices.{BreaksAlone};
+ghost use Rattle.local_rules.specs.Firsts.{IsFirstAmong, further_rules};
+ghost use Rattle.local_rules.specs.Quantities.{BadMapKey, BadMultiplicity, BadValueSchema, IsInteger, IsMultiplicity, IsNoneOf, IsWord};
+
+use crate::role::{Role, SchemaUse, ValueKind};
+use crate::rule::LocalRule;
+use crate::texts::is_text;
+use json_decimal::Decimal;
+use json_tree::Tree;
+
+/// Whether `valueSchema` names no kind of value.
+pub fn is_bad_value_schema(tree: &Tree) -> bool
+    ensures { IsTrue result ↔ BadValueSchema Role.ValueSchema (view tree.now) }
+{
+    !is_text(tree, "integer") && !is_text(tree, "string")
+}
+
+/// Whether a value is a whole number of 32 bits.
+#[tactic(auto, using(crate::proofs::Views::views))]
+fn is_integer(tree: &Tree) -> bool
+    ensures { IsTrue result ↔ IsInteger (view tree.now) }
+{
+    match tree {
+        Tree::Number(number) => is_small(number),
+        Tree::Null | Tree::Bool(_) | Tree::Text(_) | Tree::List(_) | Tree::Members(_) => false,
+    }
+}
+
+/// Whether a number is a whole one of 32 bits.
+fn is_small(number: &Decimal) -> bool
+    ensures { IsTrue result ↔ IsInteger (number_value (number_of number.now)) }
+{
+    match number.as_i32() {
+        Some(_) => true,
+        None => false,
+    }
+}
+
+/// Whether a value is a text.
+#[tactic(auto, using(crate::proofs::Views::views))]
+fn is_word(tree: &Tree) -> bool
+    ensures { IsTrue result ↔ IsWord (view tree.now) }
+{
+    match tree {
+        Tree::Text(_) => true,
+        Tree::Null | Tree::Bool(_) | Tree::Number(_) | Tree::List(_) | Tree::Members(_) => false,
+    }
+}
+
+/// Whether an enum value is not of the kind that its `valueSchema` asks for.
+fn is_none_of(kind: ValueKind, tree: &Tree) -> bool
+    ensures { IsTrue result ↔ IsNoneOf kind (view tree.now) }
+{
+    match kind {
+        ValueKind::Integer => !is_integer(tree),
+        ValueKind::Word => !is_word(tree),
+        ValueKind::Neither => false,
+    }
+}
+
+/// The first rule that an enum value breaks.
+pub fn enum_value_rule(kind: ValueKind, same_value: bool, tree: &Tree) -> Option<LocalRule>
+    ensures { IsFirstAmong (λ broken. BreaksAlone broken (Role.EnumValue kind same_value) (view tree.now)) (further_rules (Role.EnumValue kind same_value)) result }
+{
+    if same_value {
+        return Some(LocalRule::DuplicateEnumValue);
+    }
+    is_none_of(kind, tree).then_some(LocalRule::BadEnumValue)
+}
+
+/// Whether a schema is that of a map's key, and not `string`.
+pub fn is_bad_map_key(part: SchemaUse, tree: &Tree) -> bool
+    ensures { IsTrue result ↔ BadMapKey (Role.Schema part) (view tree.now) }
+{
+    match part {
+        SchemaUse::MapKey => !is_text(tree, "string"),
+        SchemaUse::Outer | SchemaUse::Property | SchemaUse::Inner => false,
+    }
+}
+
+/// Whether a value is a whole number from 1 to 2,147,483,647.
+#[tactic(auto, using(crate::proofs::Views::views))]
+fn is_multiplicity(tree: &Tree) -> bool
+    ensures { IsTrue result ↔ IsMultiplicity (view tree.now) }
+{
+    match tree {
+        Tree::Number(number) => is_positive(number),
+        Tree::Null | Tree::Bool(_) | Tree::Text(_) | Tree::List(_) | Tree::Members(_) => false,
+    }
+}
+
+/// Whether a number is a whole one from 1 to 2,147,483,647.
+fn is_positive(number: &Decimal) -> bool
+    ensures { IsTrue result ↔ IsMultiplicity (number_value (number_of number.now)) }
+{
+    match number.as_i32() {
+        Some(whole) => whole >= 1,
+        None => false,
+    }
+}
+
+/// Whether `minMultiplicity` is not 0.
+#[tactic(auto, using(crate::proofs::Views::views))]
+pub fn is_bad_least(tree: &Tree) -> bool
+    ensures { IsTrue result ↔ BadMultiplicity Role.MinMultiplicity (view tree.now) }
+{
+    match tree {
+        Tree::Number(number) => !number.is_zero(),
+        Tree::Null | Tree::Bool(_) | Tree::Text(_) | Tree::List(_) | Tree::Members(_) => true,
+    }
+}
+
+/// Whether `maxMultiplicity` is no whole number from 1 to 2,147,483,647.
+pub fn is_bad_most(tree: &Tree) -> bool
+    ensures { IsTrue result ↔ BadMultiplicity Role.MaxMultiplicity (view tree.now) }
+{
+    !is_multiplicity(tree)
+}

@@ -1,0 +1,118 @@
+//! The rules on `@context` and `@type`.
+
+ghost use Rattle.std.specs.Prelude.{◌≡◌, ◌≢◌, ◌↔◌, [], ◌∷◌, length, map, IsTrue, MatchOption, Some};
+ghost use Rattle.json_tree.specs.View.{view};
+ghost use Rattle.local_rules.specs.Choices.{BreaksAlone};
+ghost use Rattle.local_rules.specs.Firsts.{IsFirstAmong, further_rules, has_semantic_type};
+ghost use Rattle.local_rules.specs.Types.{BadContext, BadSemanticType, BadType, MayHaveBeside, NamesNothing, further};
+
+use crate::role::{Element, Position, Role};
+use crate::roles::{type_in, type_named};
+use crate::rule::LocalRule;
+use crate::texts::{is_name, is_text};
+use json_tree::Tree;
+
+/// The identifier of the context of DTDL v2.
+const CONTEXT: &str = "dtmi:dtdl:context;2";
+
+/// The entry of a list that has one alone.
+fn only_entry(entries: &[Tree]) -> Option<&Tree>
+    ensures { MatchOption result (length entries.now ≢ 1) (λ entry. entries.now ≡ entry.now ∷ []) }
+{
+    if entries.len() == 1 {
+        Some(&entries[0])
+    } else {
+        None
+    }
+}
+
+/// Whether `@context` is neither the context of DTDL v2 nor a list with that one entry.
+#[tactic(auto, using(crate::proofs::Views::views))]
+pub fn is_bad_context(tree: &Tree) -> bool
+    ensures { IsTrue result ↔ BadContext Role.Context (view tree.now) }
+{
+    match tree {
+        Tree::List(entries) => match only_entry(entries.as_slice()) {
+            Some(entry) => !is_text(entry, CONTEXT),
+            None => true,
+        },
+        Tree::Null | Tree::Bool(_) | Tree::Number(_) | Tree::Text(_) | Tree::Members(_) => {
+            !is_text(tree, CONTEXT)
+        }
+    }
+}
+
+/// Whether `@type` names no role, or in a payload or an enum entry is no name.
+fn is_bad_type(position: Position, tree: &Tree) -> bool
+    ensures { IsTrue result ↔ NamesNothing position (view tree.now) }
+{
+    match position {
+        Position::Free => !is_name(tree),
+        Position::Interface | Position::Content | Position::Property | Position::Schema => {
+            type_in(position, tree).is_none()
+        }
+    }
+}
+
+/// An entry of `@type` and those behind it.
+#[derive(Clone, Copy)]
+struct Further<'a> {
+    entry: &'a Tree,
+    rest: &'a [Tree],
+}
+
+/// The first entry that names no type of the position.
+fn first_further(position: Position, entries: &[Tree]) -> Option<Further<'_>>
+    ensures { MatchOption result (further position (map view entries.now) ≡ []) (λ found. further position (map view entries.now) ≡ view found.entry.now ∷ further position (map view found.rest.now)) }
+{
+    for (at, entry) in entries.iter().enumerate() {
+        if type_named(position, entry).is_none() {
+            let rest = &entries[at + 1..];
+            return Some(Further { entry, rest });
+        }
+    }
+    None
+}
+
+/// Whether an element of this kind may have a semantic type.
+fn has_semantic_type(element: Element) -> bool
+    ensures { result ≡ has_semantic_type element }
+{
+    matches!(element, Element::Telemetry | Element::Property)
+}
+
+/// Whether what stands beside the type in a list `@type` may stand there.
+fn may_have_beside(element: Element, position: Position, entries: &[Tree]) -> bool
+    ensures { IsTrue result ↔ MayHaveBeside element (further position (map view entries.now)) }
+{
+    match first_further(position, entries) {
+        None => true,
+        Some(Further { entry, rest }) => {
+            has_semantic_type(element) && is_name(entry) && first_further(position, rest).is_none()
+        }
+    }
+}
+
+/// Whether the list `@type` names a role and has further entries that it may not have.
+#[tactic(auto, using(crate::proofs::Views::views))]
+fn is_bad_semantic_type(position: Position, tree: &Tree) -> bool
+    ensures { IsTrue result ↔ BadSemanticType (Role.Type position) (view tree.now) }
+{
+    match tree {
+        Tree::List(entries) => match type_in(position, tree) {
+            Some(element) => !may_have_beside(element, position, entries.as_slice()),
+            None => false,
+        },
+        Tree::Null | Tree::Bool(_) | Tree::Number(_) | Tree::Text(_) | Tree::Members(_) => false,
+    }
+}
+
+/// The first rule that a value of `@type` breaks.
+pub fn type_rule(position: Position, tree: &Tree) -> Option<LocalRule>
+    ensures { IsFirstAmong (λ broken. BreaksAlone broken (Role.Type position) (view tree.now)) (further_rules (Role.Type position)) result }
+{
+    if is_bad_type(position, tree) {
+        return Some(LocalRule::BadType);
+    }
+    is_bad_semantic_type(position, tree).then_some(LocalRule::BadSemanticType)
+}
