@@ -1,0 +1,6 @@
+mod Indexed
+mod Sizes
+mod Climbs
+mod Steps
+mod Tabled
+mod Judged
