@@ -1,0 +1,65 @@
+//! The `@id`s of one interface, and the first rule that one value breaks.
+
+ghost use Rattle.std.specs.Prelude.{◌≡◌, IfOk};
+ghost use Rattle.std.specs.Option.{option_map};
+ghost use Rattle.json_tree.specs.View.{view, members_view};
+ghost use Rattle.local_faults.specs.Walks.{Adds, Judges, JudgesId, id_in};
+
+use dt_base::OutOfMemory;
+use json_tree::Tree;
+use local_rules::{LocalRule, Role, own_rule, text_in};
+use schema_levels::NamedSchemas;
+use std::collections::BTreeSet;
+
+/// The text that a value is as an `@id`.
+fn id_in(role: Role, tree: &Tree) -> Option<&str>
+    ensures { option_map (λ t. t.now) result ≡ id_in role (view tree.now) }
+{
+    match role {
+        Role::InterfaceId | Role::ElementId => text_in(tree),
+        _ => None,
+    }
+}
+
+/// Puts an `@id` into the set, or says that it is there.
+fn add_id<'a>(id: &'a str, ids: &mut BTreeSet<&'a str>) -> Result<Option<LocalRule>, OutOfMemory>
+    ensures { IfOk result (Adds ids.old ids.new id.now) }
+{
+    if ids.insert(id)? {
+        Ok(None)
+    } else {
+        Ok(Some(LocalRule::RepeatedId))
+    }
+}
+
+/// Whether the value is an `@id` that stands in the set; another `@id` is put into it.
+fn judge_id<'a>(
+    role: Role,
+    tree: &'a Tree,
+    ids: &mut BTreeSet<&'a str>,
+) -> Result<Option<LocalRule>, OutOfMemory>
+    ensures { IfOk result (JudgesId ids.old ids.new role (view tree.now)) }
+{
+    match id_in(role, tree) {
+        Some(id) => add_id(id, ids),
+        None => Ok(None),
+    }
+}
+
+/// The first rule that the value itself breaks. An `@id` that is new is put into the set.
+pub fn judge<'a>(
+    schemas: &NamedSchemas<'a>,
+    role: Role,
+    tree: &'a Tree,
+    ids: &mut BTreeSet<&'a str>,
+) -> Result<Option<LocalRule>, OutOfMemory>
+    ensures { IfOk result (Judges (members_view schemas.now) ids.old ids.new role (view tree.now)) }
+{
+    if let Some(rule) = own_rule(role, tree) {
+        return Ok(Some(rule));
+    }
+    if let Some(rule) = schemas.rule(role, tree) {
+        return Ok(Some(rule));
+    }
+    judge_id(role, tree, ids)
+}

@@ -1,0 +1,126 @@
+//! The walk over one interface, in preorder.
+
+ghost use Rattle.std.specs.Prelude.{◌≡◌, [], ◌∷◌, ◌++◌, IfOk};
+ghost use Rattle.json_tree.specs.Values.{array, object};
+ghost use Rattle.json_tree.specs.View.{view, elements_view, members_view};
+ghost use Rattle.local_rules.specs.Breaches.{IsBroken};
+ghost use Rattle.local_faults.specs.Walks.{FindsFirst, Walks, WalksClear, WalksPart};
+
+use crate::ids::judge;
+use dt_base::OutOfMemory;
+use json_tree::{Member, Tree};
+use local_rules::{EntryRoles, LocalRule, Role, element_of, member_role, members_in};
+use schema_levels::NamedSchemas;
+use std::alloc::Global;
+use std::collections::BTreeSet;
+
+/// The way up from a breach, and its rule.
+#[derive(Drop)]
+pub struct Found {
+    pub steps: Vec<u64>,
+    pub rule: LocalRule,
+}
+
+impl Found {
+    /// The same breach, seen from the value in which this part stands.
+    pub fn up(mut self, at: usize) -> Result<Found, OutOfMemory>
+        ensures { IfOk result (λ found. (found.steps.items ≡ self.steps.items ++ at ∷ []) × (found.rule ≡ self.rule)) }
+    {
+        self.steps.push(at as u64)?;
+        Ok(self)
+    }
+}
+
+/// The first breach in an interface.
+pub fn first_in_interface(alloc: Global, tree: &Tree) -> Result<Option<Found>, OutOfMemory>
+    ensures { IfOk result (FindsFirst (IsBroken (view tree.now))) }
+{
+    let schemas = NamedSchemas::of(alloc, members_in(tree))?;
+    let mut ids = BTreeSet::new(alloc);
+    first_in(tree, alloc, &schemas, Role::Interface, &mut ids)
+}
+
+/// The first breach in a value that stands in a role, where the set has the `@id`s before it.
+#[cycle(walk)]
+fn first_in<'a>(
+    tree: &'a Tree,
+    alloc: Global,
+    schemas: &NamedSchemas<'a>,
+    role: Role,
+    ids: &mut BTreeSet<&'a str>,
+) -> Result<Option<Found>, OutOfMemory>
+    ensures { IfOk result (Walks (members_view schemas.now) ids.old ids.new role (view tree.now)) }
+{
+    if let Some(rule) = judge(schemas, role, tree, ids)? {
+        return Ok(Some(Found {
+            steps: Vec::new(alloc),
+            rule,
+        }));
+    }
+    match tree {
+        Tree::Null | Tree::Bool(_) | Tree::Number(_) | Tree::Text(_) => Ok(None),
+        Tree::List(entries) => first_in_entries(entries.as_slice(), alloc, schemas, role, ids),
+        Tree::Members(members) => first_in_members(members.as_slice(), alloc, schemas, role, ids),
+    }
+}
+
+/// The same in a part; what has no role breaks nothing.
+#[cycle(walk)]
+fn first_in_part<'a>(
+    tree: &'a Tree,
+    alloc: Global,
+    schemas: &NamedSchemas<'a>,
+    role: Option<Role>,
+    ids: &mut BTreeSet<&'a str>,
+) -> Result<Option<Found>, OutOfMemory>
+    ensures { IfOk result (WalksPart (members_view schemas.now) ids.old ids.new role (view tree.now)) }
+{
+    match role {
+        Some(role) => first_in(tree, alloc, schemas, role, ids),
+        None => Ok(None),
+    }
+}
+
+/// The same in the members of an object that breaks no rule itself.
+#[cycle(walk)]
+fn first_in_members<'a>(
+    members: &'a [Member],
+    alloc: Global,
+    schemas: &NamedSchemas<'a>,
+    role: Role,
+    ids: &mut BTreeSet<&'a str>,
+) -> Result<Option<Found>, OutOfMemory>
+    ensures { IfOk result (WalksClear (members_view schemas.now) ids.old ids.new role (object (members_view members.now))) }
+{
+    let element = element_of(role, members);
+    for (at, member) in members.iter().enumerate() {
+        let part_role = member_role(role, element, members, member.key.as_str());
+        if let Some(found) = first_in_part(&member.value, alloc, schemas, part_role, ids)? {
+            let found = found.up(at)?;
+            return Ok(Some(found));
+        }
+    }
+    Ok(None)
+}
+
+/// The same in the entries of a list that breaks no rule itself.
+#[cycle(walk)]
+fn first_in_entries<'a>(
+    entries: &'a [Tree],
+    alloc: Global,
+    schemas: &NamedSchemas<'a>,
+    role: Role,
+    ids: &mut BTreeSet<&'a str>,
+) -> Result<Option<Found>, OutOfMemory>
+    ensures { IfOk result (WalksClear (members_view schemas.now) ids.old ids.new role (array (elements_view entries.now))) }
+{
+    let roles = EntryRoles::of(alloc, role, entries)?;
+    for (at, entry) in entries.iter().enumerate() {
+        let part_role = roles.at(at);
+        if let Some(found) = first_in_part(entry, alloc, schemas, part_role, ids)? {
+            let found = found.up(at)?;
+            return Ok(Some(found));
+        }
+    }
+    Ok(None)
+}
