@@ -1,0 +1,4 @@
+pub mod Grown
+pub mod Placed
+pub mod Seen
+pub mod Sizes

@@ -1,0 +1,9 @@
+use Rattle.std.proofs.Common.{take}
+use Rattle.json_tree.specs.View.{elements_view}
+use Rattle.dtdl_terms.specs.TermViews.{contents_term}
+use Rattle.model_read.specs.Declarations.{AreContents}
+use Rattle.model_read.proofs.contents.contents_of.Given as goal
+
+-- what was read so far is that of the parts so far
+abbrev pub invariant-loop-tree : goal.invariant-loop-tree
+invariant-loop-tree l = AreContents (contents_term l.contents.items) (elements_view (take l.tree-index l.trees))

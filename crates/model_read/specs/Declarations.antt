@@ -1,0 +1,234 @@
+-- What a JSON value declares as an element of DTDL v2: the relation between the value and the element's term. The
+-- lists of a term stand in the order of the text. The relation speaks of documents that break no local rule, so it
+-- says nothing of limits.
+use Rattle.std.specs.Prelude.{◌≡◌, ℕ, ◌⊎◌, List, [], ◌∷◌, map, Bool, true, false, Option, Some, None, codes, pos}
+use Rattle.dtmi_name.specs.Grammar.{Identifier, dtmi_text}
+use Rattle.json_decimal.specs.Number.{Number}
+use Rattle.json_decimal.specs.Comparing.{IsWhole}
+use Rattle.json_tree.specs.Values.{Json, null, truth, number, text, array, object, Elements, no_elements, element, Members, no_members, member}
+use Rattle.dtdl_terms.specs.Primitives.{primitive_name}
+use Rattle.dtdl_terms.specs.Terms.{SchemaTerm, primitive, named, array_of, enumeration, map_of, object_of, PayloadTerm, payload, PayloadTerms, no_payloads, more_payloads, ContentTerm, content, KindTerm, telemetry, property, command, relationship, component, ContentTerms, no_contents, more_contents}
+use Rattle.dtdl_terms.specs.TermViews.{schema_term, contents_term}
+use Rattle.dtdl_terms.specs.declared.common.Common.{Common}
+use Rattle.dtdl_terms.specs.declared.common.Entry.{Entry}
+use Rattle.dtdl_terms.specs.declared.enumeration.EnumEntry.{EnumEntry}
+use Rattle.dtdl_terms.specs.declared.enumeration.EnumValue.{EnumValue}
+use Rattle.dtdl_terms.specs.declared.enumeration.EnumValue.TheVariants as values
+use Rattle.dtdl_terms.specs.declared.interface.Interface.{Interface}
+use Rattle.local_rules.specs.Members.{list_of, value_at, members_in}
+use Rattle.local_rules.specs.Roles.{type_of}
+use Rattle.local_rules.specs.Types.{further}
+use Rattle.local_rules.specs.declared.role.Element.{Element}
+use Rattle.local_rules.specs.declared.role.Element.TheVariants as element_kind
+use Rattle.local_rules.specs.declared.role.Position.{Position}
+use Rattle.local_rules.specs.declared.role.Position.TheVariants as position
+
+-- ---- what every element may have
+-- The member with this key is this text; or it is absent where there is none.
+abbrev pub HasText : List ℕ → Members Number → List ℕ → Type 0
+HasText key ms bytes = value_at key ms ≡ Some (text bytes)
+
+abbrev pub HasOptionalText : List ℕ → Members Number → Option (List ℕ) → Type 0
+HasOptionalText key ms None = value_at key ms ≡ None
+HasOptionalText key ms (Some bytes) = HasText key ms bytes
+
+abbrev pub HasId : List ℕ → Members Number → Identifier → Type 0
+HasId key ms id = HasText key ms (dtmi_text id)
+
+abbrev pub HasOptionalId : List ℕ → Members Number → Option Identifier → Type 0
+HasOptionalId key ms None = value_at key ms ≡ None
+HasOptionalId key ms (Some id) = HasId key ms id
+
+-- `writable` is false where it is absent.
+abbrev pub IsWritable : Option Json → Bool → Type 0
+IsWritable None writable = writable ≡ false
+IsWritable (Some v) writable = v ≡ truth writable
+
+-- The texts of a localized text, by the members of an object.
+abbrev pub AreEntries : Members Number → List Entry → Type 0
+AreEntries no_members [] = Unit {0}
+AreEntries no_members (e ∷ es) = ⊥
+AreEntries (member key v ms) [] = ⊥
+AreEntries (member key v ms) (e ∷ es) = (key ≡ e.language) × (v ≡ text e.text) × AreEntries ms es
+
+abbrev pub IsLocalizedBy : Json → List Entry → Type 0
+IsLocalizedBy null es = ⊥
+IsLocalizedBy (truth b) es = ⊥
+IsLocalizedBy (number n) es = ⊥
+IsLocalizedBy (text bytes) es = es ≡ record { language = codes "en"; text = bytes } ∷ []
+IsLocalizedBy (array vs) es = ⊥
+IsLocalizedBy (object ms) es = AreEntries ms es
+
+-- A localized text (DTDL v2, "Internationalization"): a plain text stands for its entry of the language `en`; an
+-- absent one has no entry.
+abbrev pub IsLocalized : Option Json → List Entry → Type 0
+IsLocalized None es = es ≡ []
+IsLocalized (Some v) es = IsLocalizedBy v es
+
+abbrev pub HasLocalized : List ℕ → Members Number → List Entry → Type 0
+HasLocalized key ms es = IsLocalized (value_at key ms) es
+
+pub record HasCommon (ms : Members Number) (c : Common) : Type 0 where
+  pub id : HasOptionalId (codes "@id") ms c.id
+  pub comment : HasOptionalText (codes "comment") ms c.comment
+  pub description : HasLocalized (codes "description") ms c.description.entries
+  pub display_name : HasLocalized (codes "displayName") ms c.display_name.entries
+
+-- ---- enums
+-- The value of an enum entry: a whole number of 32 bits, or a text (DTDL v2, "EnumValue").
+abbrev pub IsEnumValue : Json → EnumValue → Type 0
+IsEnumValue v (values.Number z) = (n : Number) × (v ≡ number n) × IsWhole n z
+IsEnumValue v (values.Word bytes) = v ≡ text bytes
+
+pub record AreEnumEntry (ms : Members Number) (e : EnumEntry) : Type 0 where
+  pub name : HasText (codes "name") ms e.name
+  pub common : HasCommon ms e.common
+  pub value : (v : Json) × (value_at (codes "enumValue") ms ≡ Some v) × IsEnumValue v e.value
+
+abbrev pub AreEnumEntries : Elements Number → List EnumEntry → Type 0
+AreEnumEntries no_elements [] = Unit {0}
+AreEnumEntries no_elements (e ∷ es) = ⊥
+AreEnumEntries (element v vs) [] = ⊥
+AreEnumEntries (element v vs) (e ∷ es) = ((ms : Members Number) × (v ≡ object ms) × AreEnumEntry ms e) × AreEnumEntries vs es
+
+-- `valueSchema` is `string` or `integer`.
+abbrev pub value_schema : Bool → List ℕ
+value_schema true = codes "string"
+value_schema false = codes "integer"
+
+-- ---- schemas and payloads
+-- The value is an object whose `@type` names this kind of schema.
+abbrev pub IsSchemaObject : Element → Json → Members Number → Type 0
+IsSchemaObject type v ms = (v ≡ object ms) × (type_of position.Schema ms ≡ Some type)
+
+abbrev mutual
+  -- A schema (DTDL v2, "Schemas"): a primitive's name, the identifier of a named schema, or an object.
+  pub IsSchema : SchemaTerm → Json → Type 0
+  IsSchema (primitive p) v = v ≡ text (primitive_name p)
+  IsSchema (named id) v = v ≡ text (dtmi_text id)
+  IsSchema (array_of c s) v = (ms : Members Number) × (part : Json) × IsSchemaObject element_kind.Array v ms × HasCommon ms c
+      × (value_at (codes "elementSchema") ms ≡ Some part) × IsSchema s part
+  IsSchema (enumeration c of_text es) v = (ms : Members Number) × (vs : Elements Number) × IsSchemaObject element_kind.Enumeration v ms × HasCommon ms c
+      × HasText (codes "valueSchema") ms (value_schema of_text) × (value_at (codes "enumValues") ms ≡ Some (array vs)) × AreEnumEntries vs es
+  IsSchema (map_of c k e) v = (ms : Members Number) × (key value : Json) × IsSchemaObject element_kind.Map v ms × HasCommon ms c
+      × (value_at (codes "mapKey") ms ≡ Some key) × IsPayload k key × (value_at (codes "mapValue") ms ≡ Some value) × IsPayload e value
+  IsSchema (object_of c fs) v = (ms : Members Number) × (vs : Elements Number) × IsSchemaObject element_kind.Object v ms × HasCommon ms c
+      × (value_at (codes "fields") ms ≡ Some (array vs)) × ArePayloads fs vs
+
+  -- A payload of a command, a field, or the key or value of a map: its name, and its schema.
+  pub IsPayload : PayloadTerm → Json → Type 0
+  IsPayload (payload n c s) v = (ms : Members Number) × (part : Json) × (v ≡ object ms) × HasText (codes "name") ms n × HasCommon ms c
+      × (value_at (codes "schema") ms ≡ Some part) × IsSchema s part
+
+  pub ArePayloads : PayloadTerms → Elements Number → Type 0
+  ArePayloads no_payloads no_elements = Unit {0}
+  ArePayloads no_payloads (element v vs) = ⊥
+  ArePayloads (more_payloads p ps) no_elements = ⊥
+  ArePayloads (more_payloads p ps) (element v vs) = IsPayload p v × ArePayloads ps vs
+
+-- The payload under a key, and where there is one.
+abbrev pub HasPayload : List ℕ → Members Number → PayloadTerm → Type 0
+HasPayload key ms p = (part : Json) × (value_at key ms ≡ Some part) × IsPayload p part
+
+abbrev pub HasOptionalPayload : List ℕ → Members Number → Option PayloadTerm → Type 0
+HasOptionalPayload key ms None = value_at key ms ≡ None
+HasOptionalPayload key ms (Some p) = HasPayload key ms p
+
+-- The schema under a key.
+abbrev pub HasSchema : List ℕ → Members Number → SchemaTerm → Type 0
+HasSchema key ms s = (part : Json) × (value_at key ms ≡ Some part) × IsSchema s part
+
+-- ---- contents
+-- The entries of a list, of which there are none where it is absent.
+abbrev pub AreEntriesOf : Option Json → Elements Number → Type 0
+AreEntriesOf None vs = vs ≡ no_elements
+AreEntriesOf (Some v) vs = v ≡ array vs
+
+-- The semantic type is the entry of `@type` beside the content's type (DTDL v2, "Semantic types").
+abbrev pub IsSemantic : Position → Option Json → Option (List ℕ) → Type 0
+IsSemantic p (Some (array vs)) None = further p (list_of vs) ≡ []
+IsSemantic p (Some (array vs)) (Some name) = further p (list_of vs) ≡ text name ∷ []
+IsSemantic p other None = Unit {0}
+IsSemantic p other (Some name) = ⊥
+
+abbrev pub HasSemantic : Position → Members Number → Option (List ℕ) → Type 0
+HasSemantic p ms semantic = IsSemantic p (value_at (codes "@type") ms) semantic
+
+-- `maxMultiplicity` is no bound where it is absent.
+abbrev pub HasMax : Members Number → Option ℕ → Type 0
+HasMax ms None = value_at (codes "maxMultiplicity") ms ≡ None
+HasMax ms (Some most) = (n : Number) × (value_at (codes "maxMultiplicity") ms ≡ Some (number n)) × IsWhole n (pos most)
+
+-- The kind of a content by its term. An entry of a relationship's `properties` is a property whatever its `@type`
+-- names.
+abbrev pub type_of_kind : KindTerm → Element
+type_of_kind (telemetry s semantic unit) = element_kind.Telemetry
+type_of_kind (property s semantic unit writable) = element_kind.Property
+type_of_kind (command request response) = element_kind.Command
+type_of_kind (relationship target properties most writable) = element_kind.Relationship
+type_of_kind (component id) = element_kind.Component
+
+abbrev pub IsPropertyTerm : ContentTerm → Type 0
+IsPropertyTerm (content n c k) = type_of_kind k ≡ element_kind.Property
+
+abbrev mutual
+  pub AreKind : Position → KindTerm → Members Number → Type 0
+  AreKind p (telemetry s semantic unit) ms = HasSchema (codes "schema") ms s × HasSemantic p ms semantic × HasOptionalText (codes "unit") ms unit
+  AreKind p (property s semantic unit writable) ms = HasSchema (codes "schema") ms s × HasSemantic p ms semantic × HasOptionalText (codes "unit") ms unit
+      × IsWritable (value_at (codes "writable") ms) writable
+  AreKind p (command request response) ms = HasOptionalPayload (codes "request") ms request × HasOptionalPayload (codes "response") ms response
+  AreKind p (relationship target properties most writable) ms = HasOptionalId (codes "target") ms target
+      × ((vs : Elements Number) × AreEntriesOf (value_at (codes "properties") ms) vs × AreProperties properties vs)
+      × HasMax ms most × IsWritable (value_at (codes "writable") ms) writable
+  AreKind p (component id) ms = HasId (codes "schema") ms id
+
+  -- A content at a position of `@type`: its name, what every element has, and what its kind has.
+  pub IsContent : Position → ContentTerm → Json → Type 0
+  IsContent p (content n c k) v = (ms : Members Number) × (v ≡ object ms) × HasText (codes "name") ms n × HasCommon ms c × AreKind p k ms
+
+  -- The entries of a relationship's `properties`, each a property whatever its `@type` names.
+  pub AreProperties : ContentTerms → Elements Number → Type 0
+  AreProperties no_contents no_elements = Unit {0}
+  AreProperties no_contents (element v vs) = ⊥
+  AreProperties (more_contents p ps) no_elements = ⊥
+  AreProperties (more_contents p ps) (element v vs) = (IsContent position.Property p v × IsPropertyTerm p) × AreProperties ps vs
+
+-- The entries of `contents`, each of the kind that its `@type` names.
+abbrev pub HasKindOf : ContentTerm → Json → Type 0
+HasKindOf (content n c k) v = type_of position.Content (members_in v) ≡ Some (type_of_kind k)
+
+abbrev pub AreContents : ContentTerms → Elements Number → Type 0
+AreContents no_contents no_elements = Unit {0}
+AreContents no_contents (element v vs) = ⊥
+AreContents (more_contents p ps) no_elements = ⊥
+AreContents (more_contents p ps) (element v vs) = (HasKindOf p v × IsContent position.Content p v) × AreContents ps vs
+
+-- ---- interfaces
+-- Absent and empty lists are equal.
+abbrev pub HasContents : Option Json → ContentTerms → Type 0
+HasContents list ps = (vs : Elements Number) × AreEntriesOf list vs × AreContents ps vs
+
+abbrev pub AreSchemas : Elements Number → List SchemaTerm → Type 0
+AreSchemas no_elements [] = Unit {0}
+AreSchemas no_elements (s ∷ ss) = ⊥
+AreSchemas (element v vs) [] = ⊥
+AreSchemas (element v vs) (s ∷ ss) = IsSchema s v × AreSchemas vs ss
+
+abbrev pub HasSchemas : Option Json → List SchemaTerm → Type 0
+HasSchemas list ss = (vs : Elements Number) × AreEntriesOf list vs × AreSchemas vs ss
+
+-- The parents of an interface: one as a text, or those of a list.
+abbrev pub HasParents : Option Json → List Identifier → Type 0
+HasParents None ids = ids ≡ []
+HasParents (Some v) ids = ((id : Identifier) × (ids ≡ id ∷ []) × (v ≡ text (dtmi_text id)))
+    ⊎ ((vs : Elements Number) × (v ≡ array vs) × (list_of vs ≡ map (λ id. text (dtmi_text id)) ids))
+
+-- The members of an object declare this interface (DTDL v2, "Interface").
+pub record AreInterface (ms : Members Number) (i : Interface) : Type 0 where
+  pub id : HasId (codes "@id") ms i.id
+  pub comment : HasOptionalText (codes "comment") ms i.comment
+  pub description : HasLocalized (codes "description") ms i.description.entries
+  pub display_name : HasLocalized (codes "displayName") ms i.display_name.entries
+  pub parents : HasParents (value_at (codes "extends") ms) i.parents
+  pub contents : HasContents (value_at (codes "contents") ms) (contents_term i.contents)
+  pub schemas : HasSchemas (value_at (codes "schemas") ms) (map schema_term i.schemas)

@@ -1,0 +1,42 @@
+-- The interfaces of a document with where each stands in it.
+use Rattle.std.specs.Prelude.{◌≡◌, ℕ, suc, ◌↔◌, List, [], ◌∷◌, Option, Some, None, IsTrue, codes}
+use Rattle.json_decimal.specs.Number.{Number}
+use Rattle.json_tree.specs.Values.{Json, null, truth, number, text, array, object, Elements, no_elements, element, Members}
+use Rattle.json_tree.specs.Faults.{member_at}
+use Rattle.json_tree.specs.Pointers.{IsPointerOf}
+use Rattle.dtdl_terms.specs.declared.uploaded.Uploaded.{Uploaded}
+use Rattle.local_rules.specs.Members.{value_at}
+use Rattle.model_read.specs.Declarations.{AreInterface}
+
+-- The ordinal of the member with this key; None where there is none.
+abbrev pub HasOrdinal : List ℕ → Members Number → Option ℕ → Type 0
+HasOrdinal key ms None = value_at key ms ≡ None
+HasOrdinal key ms (Some at) = (v : Json) × (member_at ms at ≡ Some (key, v)) × (value_at key ms ≡ Some v)
+
+-- The value, at this position of the nth document, declares this interface with its place in the document.
+pub record IsUploaded (whole : Json) (place : List ℕ) (at nth : ℕ) (v : Json) (u : Uploaded) : Type 0 where
+  pub members : Members Number
+  pub is : v ≡ object members
+  pub declares : AreInterface members u.interface
+  pub document : u.document ≡ nth
+  pub base : IsPointerOf whole place u.base
+  pub index : u.index ≡ at
+  pub id_at : HasOrdinal (codes "@id") members (Some u.id_at)
+  pub parents_at : HasOrdinal (codes "extends") members u.parents_at
+  pub parents_as_text : IsTrue u.parents_as_text ↔ ((bytes : List ℕ) × (value_at (codes "extends") members ≡ Some (text bytes)))
+  pub contents_at : HasOrdinal (codes "contents") members u.contents_at
+
+abbrev pub AreUploadedFrom : Json → ℕ → ℕ → Elements Number → List Uploaded → Type 0
+AreUploadedFrom whole at nth no_elements [] = Unit {0}
+AreUploadedFrom whole at nth no_elements (u ∷ us) = ⊥
+AreUploadedFrom whole at nth (element v vs) [] = ⊥
+AreUploadedFrom whole at nth (element v vs) (u ∷ us) = IsUploaded whole (at ∷ []) at nth v u × AreUploadedFrom whole (suc at) nth vs us
+
+-- The interfaces of the nth document, in their order.
+abbrev pub AreUploaded : Json → ℕ → List Uploaded → Type 0
+AreUploaded null nth us = ⊥
+AreUploaded (truth b) nth us = ⊥
+AreUploaded (number n) nth us = ⊥
+AreUploaded (text bytes) nth us = ⊥
+AreUploaded (array vs) nth us = AreUploadedFrom (array vs) 0 nth vs us
+AreUploaded (object ms) nth us = (u : Uploaded) × (us ≡ u ∷ []) × IsUploaded (object ms) [] 0 nth (object ms) u

@@ -1,0 +1,28 @@
+//! What every element may have.
+
+ghost use Rattle.std.specs.Prelude.{◌≡◌, IfOk};
+ghost use Rattle.json_tree.specs.View.{members_view};
+ghost use Rattle.model_read.specs.Declarations.{HasCommon};
+
+use crate::end::Unread;
+use crate::localized::localized_at;
+use crate::texts::{optional_id, optional_text};
+use dtdl_terms::Common;
+use json_tree::Member;
+use std::alloc::Global;
+
+/// What an element has of what every element may have.
+pub fn common_of(alloc: Global, members: &[Member]) -> Result<Common, Unread>
+    ensures { IfOk result (λ c. HasCommon (members_view members.now) c) }
+{
+    let id = optional_id(alloc, members, "@id")?;
+    let comment = optional_text(alloc, members, "comment")?;
+    let description = localized_at(alloc, members, "description")?;
+    let display_name = localized_at(alloc, members, "displayName")?;
+    Ok(Common {
+        id,
+        comment,
+        description,
+        display_name,
+    })
+}

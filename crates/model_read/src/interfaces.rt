@@ -1,0 +1,112 @@
+//! Interfaces.
+
+ghost use Rattle.std.specs.Prelude.{◌≡◌, map, Some, IfOk, codes};
+ghost use Rattle.dtmi_name.specs.Grammar.{dtmi_text};
+ghost use Rattle.json_tree.specs.Values.{text};
+ghost use Rattle.json_tree.specs.View.{view, members_view, elements_view};
+ghost use Rattle.local_rules.specs.Members.{value_at};
+ghost use Rattle.dtdl_terms.specs.TermViews.{schema_term};
+ghost use Rattle.model_read.specs.Declarations.{AreInterface, AreSchemas, HasParents, HasSchemas};
+
+use crate::contents::contents_at;
+use crate::end::Unread;
+use crate::localized::localized_at;
+use crate::parts::{entries_at, entries_of};
+use crate::schemas::schema_of;
+use crate::texts::{id_at, id_of, optional_text};
+use dt_base::List;
+use dtdl_terms::{Interface, Schema};
+use dtmi_name::Dtmi;
+use json_tree::{Member, Tree};
+use local_rules::value_at;
+use std::alloc::Global;
+
+/// The identifiers that the entries of a list are.
+fn ids_of(alloc: Global, trees: &[Tree]) -> Result<List<Dtmi>, Unread>
+    ensures { IfOk result (λ ids. map view trees.now ≡ map (λ id. text (dtmi_text id)) ids) }
+{
+    let mut ids = Vec::with_capacity(alloc, trees.len())?;
+    for tree in trees {
+        ids.push(id_of(alloc, tree)?)?;
+    }
+    Ok(List::from_vec(ids))
+}
+
+/// The parents that a list names.
+fn listed_parents(alloc: Global, tree: &Tree) -> Result<List<Dtmi>, Unread>
+    ensures { IfOk result (λ ids. HasParents (Some (view tree.now)) ids) }
+{
+    let entries = entries_of(tree)?;
+    ids_of(alloc, entries)
+}
+
+/// The one parent that a text names.
+fn one_parent(alloc: Global, tree: &Tree) -> Result<List<Dtmi>, Unread>
+    ensures { IfOk result (λ ids. HasParents (Some (view tree.now)) ids) }
+{
+    let id = id_of(alloc, tree)?;
+    let mut ids = List::new(alloc);
+    ids.push(id)?;
+    Ok(ids)
+}
+
+/// The parents that a value of `extends` names.
+fn parents_of(alloc: Global, tree: &Tree) -> Result<List<Dtmi>, Unread>
+    ensures { IfOk result (λ ids. HasParents (Some (view tree.now)) ids) }
+{
+    match tree {
+        Tree::List(_) => listed_parents(alloc, tree),
+        _ => one_parent(alloc, tree),
+    }
+}
+
+/// The parents of an interface.
+fn parents_at(alloc: Global, members: &[Member]) -> Result<List<Dtmi>, Unread>
+    ensures { IfOk result (λ ids. HasParents (value_at (codes "extends") (members_view members.now)) ids) }
+{
+    match value_at(members, "extends") {
+        Some(value) => parents_of(alloc, value),
+        None => Ok(List::new(alloc)),
+    }
+}
+
+/// The schemas that the entries of a list are.
+fn schemas_of(alloc: Global, trees: &[Tree]) -> Result<List<Schema>, Unread>
+    ensures { IfOk result (λ ss. AreSchemas (elements_view trees.now) (map schema_term ss)) }
+{
+    let mut schemas = Vec::with_capacity(alloc, trees.len())?;
+    for tree in trees {
+        schemas.push(schema_of(alloc, tree)?)?;
+    }
+    Ok(List::from_vec(schemas))
+}
+
+/// The schemas that an interface declares for use by their identifiers.
+fn schemas_at(alloc: Global, members: &[Member]) -> Result<List<Schema>, Unread>
+    ensures { IfOk result (λ ss. HasSchemas (value_at (codes "schemas") (members_view members.now)) (map schema_term ss)) }
+{
+    let entries = entries_at(members, "schemas")?;
+    schemas_of(alloc, entries)
+}
+
+/// The interface that members declare.
+pub fn interface_in(alloc: Global, members: &[Member]) -> Result<Interface, Unread>
+    ensures { IfOk result (λ i. AreInterface (members_view members.now) i) }
+{
+    let id = id_at(alloc, members, "@id")?;
+    let comment = optional_text(alloc, members, "comment")?;
+    let description = localized_at(alloc, members, "description")?;
+    let display_name = localized_at(alloc, members, "displayName")?;
+    let parents = parents_at(alloc, members)?;
+    let contents = contents_at(alloc, members)?;
+    let schemas = schemas_at(alloc, members)?;
+    Ok(Interface {
+        id,
+        comment,
+        description,
+        display_name,
+        parents,
+        contents,
+        schemas,
+    })
+}

@@ -1,0 +1,22 @@
+//! Reading a document that breaks no local rule into the records of its elements.
+#![tactic(auto)]
+
+mod common;
+mod contents;
+mod end;
+mod enums;
+mod interfaces;
+mod kinds;
+mod localized;
+mod parts;
+mod places;
+mod read;
+mod schemas;
+mod semantics;
+mod texts;
+
+pub use end::LocalEnd;
+pub use read::read_interfaces;
+
+#[cfg(test)]
+mod tests;

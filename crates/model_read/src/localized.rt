@@ -1,0 +1,72 @@
+//! Texts in several languages.
+
+ghost use Rattle.std.specs.Prelude.{◌≡◌, [], ◌∷◌, Some, IfOk, codes};
+ghost use Rattle.json_tree.specs.View.{view, members_view};
+ghost use Rattle.local_rules.specs.Members.{value_at};
+ghost use Rattle.model_read.specs.Declarations.{AreEntries, IsLocalizedBy, HasLocalized};
+
+use crate::end::Unread;
+use crate::texts::text_of;
+use dt_base::{List, Text};
+use dtdl_terms::{Entry, Localized};
+use json_tree::{Member, Tree};
+use local_rules::value_at;
+use std::alloc::Global;
+
+/// The text of one language.
+fn entry_of(alloc: Global, member: &Member) -> Result<Entry, Unread>
+    ensures { IfOk result (λ e. AreEntries (members_view (member.now ∷ [])) (e ∷ [])) }
+{
+    let language = member.key.copy(alloc)?;
+    let text = text_of(alloc, &member.value)?;
+    Ok(Entry { language, text })
+}
+
+/// The texts of the languages that the members name.
+fn entries_of(alloc: Global, members: &[Member]) -> Result<List<Entry>, Unread>
+    ensures { IfOk result (λ es. AreEntries (members_view members.now) es) }
+{
+    let mut entries = Vec::with_capacity(alloc, members.len())?;
+    for member in members {
+        entries.push(entry_of(alloc, member)?)?;
+    }
+    Ok(List::from_vec(entries))
+}
+
+/// The language of a text that stands without one (DTDL v2, "Internationalization").
+fn english(alloc: Global, text: &Text) -> Result<List<Entry>, Unread>
+    ensures { IfOk result (λ es. es ≡ record { language = codes "en"; text = text.now } ∷ []) }
+{
+    let mut entries = List::new(alloc);
+    entries.push(Entry {
+        language: Text::from_str(alloc, "en")?,
+        text: text.copy(alloc)?,
+    })?;
+    Ok(entries)
+}
+
+/// The localized text that a value is.
+#[tactic(auto, using(local_rules::proofs::Views::views))]
+fn localized_of(alloc: Global, tree: &Tree) -> Result<List<Entry>, Unread>
+    ensures { IfOk result (λ es. IsLocalizedBy (view tree.now) es) }
+{
+    match tree {
+        Tree::Text(text) => english(alloc, text),
+        Tree::Members(members) => entries_of(alloc, members.as_slice()),
+        _ => Err(Unread::Unexpected),
+    }
+}
+
+/// The localized text under a key; without entries where there is none.
+pub fn localized_at(alloc: Global, members: &[Member], key: &str) -> Result<Localized, Unread>
+    ensures { IfOk result (λ l. HasLocalized key.now (members_view members.now) l.entries) }
+{
+    match value_at(members, key) {
+        Some(value) => Ok(Localized {
+            entries: localized_of(alloc, value)?,
+        }),
+        None => Ok(Localized {
+            entries: List::new(alloc),
+        }),
+    }
+}

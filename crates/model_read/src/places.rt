@@ -1,0 +1,54 @@
+//! Where the members of an interface stand.
+
+ghost use Rattle.std.specs.Prelude.{◌≡◌, ◌↔◌, ℕ, List, Some, IsTrue, IfOk, codes};
+ghost use Rattle.json_tree.specs.Values.{text};
+ghost use Rattle.json_tree.specs.View.{view, members_view};
+ghost use Rattle.local_rules.specs.Members.{value_at};
+ghost use Rattle.model_read.specs.Uploads.{HasOrdinal};
+
+use crate::end::Unread;
+use json_tree::{Member, Tree};
+use local_rules::value_at;
+
+/// The ordinal of the member with this key, where there is one.
+pub fn ordinal_at(members: &[Member], key: &str) -> Option<u64>
+    ensures { HasOrdinal key.now (members_view members.now) result }
+{
+    for (at, member) in members.iter().enumerate() {
+        if member.key.as_str() == key {
+            return Some(at as u64);
+        }
+    }
+    None
+}
+
+/// The ordinal of a member that each such object has.
+pub fn wanted_ordinal(members: &[Member], key: &str) -> Result<u64, Unread>
+    ensures { IfOk result (λ at. HasOrdinal key.now (members_view members.now) (Some at)) }
+{
+    match ordinal_at(members, key) {
+        Some(at) => Ok(at),
+        None => Err(Unread::Unexpected),
+    }
+}
+
+/// Whether a value is a text.
+#[tactic(auto, using(local_rules::proofs::Views::views))]
+fn is_text(tree: &Tree) -> bool
+    ensures { IsTrue result ↔ ((bytes : List ℕ) × (view tree.now ≡ text bytes)) }
+{
+    match tree {
+        Tree::Text(_) => true,
+        Tree::Null | Tree::Bool(_) | Tree::Number(_) | Tree::List(_) | Tree::Members(_) => false,
+    }
+}
+
+/// Whether the value under a key is a text.
+pub fn has_text(members: &[Member], key: &str) -> bool
+    ensures { IsTrue result ↔ ((bytes : List ℕ) × (value_at key.now (members_view members.now) ≡ Some (text bytes))) }
+{
+    match value_at(members, key) {
+        Some(value) => is_text(value),
+        None => false,
+    }
+}

@@ -1,0 +1,139 @@
+//! Reading a document.
+
+ghost use Rattle.std.specs.Prelude.{◌≡◌, ◌∷◌, [], IfOk};
+ghost use Rattle.json_tree.specs.Values.{Json, array, object};
+ghost use Rattle.json_tree.specs.View.{view, members_view, elements_view};
+ghost use Rattle.json_tree.specs.Faults.{StandsAt};
+ghost use Rattle.model_read.specs.Ends.{IsRightEnd};
+ghost use Rattle.model_read.specs.Uploads.{AreUploaded, AreUploadedFrom, IsUploaded};
+
+use crate::end::{LocalEnd, Unread};
+use crate::interfaces::interface_in;
+use crate::parts::members_of;
+use crate::places::{has_text, ordinal_at, wanted_ordinal};
+use dt_base::List;
+use dtdl_terms::Uploaded;
+use json_tree::{Member, Place, Tree, pointer_of};
+use local_faults::{Breach, first_breach};
+use std::alloc::Global;
+
+/// The interface that members declare, with where it stands in the document.
+fn uploaded_in(
+    alloc: Global,
+    whole: &Tree,
+    place: &Place,
+    index: u64,
+    document: u32,
+    members: &[Member],
+) -> Result<Uploaded, Unread>
+    requires { (part : Json) × StandsAt (view whole.now) place.now.steps part }
+    ensures { IfOk result (λ u. IsUploaded (view whole.now) place.now.steps index document (object (members_view members.now)) u) }
+{
+    let interface = interface_in(alloc, members)?;
+    let base = pointer_of(alloc, whole, place)?;
+    let id_at = wanted_ordinal(members, "@id")?;
+    Ok(Uploaded {
+        interface,
+        document,
+        base: base.text,
+        index,
+        id_at,
+        parents_at: ordinal_at(members, "extends"),
+        parents_as_text: has_text(members, "extends"),
+        contents_at: ordinal_at(members, "contents"),
+    })
+}
+
+/// The interface that a document is.
+fn one_upload(
+    alloc: Global,
+    tree: &Tree,
+    document: u32,
+    members: &[Member],
+) -> Result<List<Uploaded>, Unread>
+    requires { view tree.now ≡ object (members_view members.now) }
+    ensures { IfOk result (λ us. AreUploaded (view tree.now) document us) }
+{
+    let place = Place {
+        steps: List::new(alloc),
+    };
+    let mut uploads = List::new(alloc);
+    uploads.push(uploaded_in(alloc, tree, &place, 0, document, members)?)?;
+    Ok(uploads)
+}
+
+/// The place of an entry of a document that is a list.
+fn place_of(alloc: Global, at: u64) -> Result<Place, Unread>
+    ensures { IfOk result (λ p. p.steps ≡ at ∷ []) }
+{
+    let mut steps = List::new(alloc);
+    steps.push(at)?;
+    Ok(Place { steps })
+}
+
+/// The interface that an entry of a document declares.
+fn uploaded_at(
+    alloc: Global,
+    whole: &Tree,
+    at: u64,
+    document: u32,
+    entry: &Tree,
+) -> Result<Uploaded, Unread>
+    requires { StandsAt (view whole.now) (at ∷ []) (view entry.now) }
+    ensures { IfOk result (λ u. IsUploaded (view whole.now) (at ∷ []) at document (view entry.now) u) }
+{
+    let members = members_of(entry)?;
+    let place = place_of(alloc, at)?;
+    uploaded_in(alloc, whole, &place, at, document, members)
+}
+
+/// The interfaces that the entries of a document declare.
+fn uploads_of(
+    alloc: Global,
+    whole: &Tree,
+    document: u32,
+    entries: &[Tree],
+) -> Result<List<Uploaded>, Unread>
+    requires { view whole.now ≡ array (elements_view entries.now) }
+    ensures { IfOk result (λ us. AreUploadedFrom (view whole.now) 0 document (elements_view entries.now) us) }
+{
+    let mut uploads = Vec::with_capacity(alloc, entries.len())?;
+    for (at, entry) in entries.iter().enumerate() {
+        uploads.push(uploaded_at(alloc, whole, at as u64, document, entry)?)?;
+    }
+    Ok(List::from_vec(uploads))
+}
+
+/// The interfaces of a document.
+#[tactic(auto, using(local_rules::proofs::Views::views))]
+fn uploads_in(alloc: Global, tree: &Tree, document: u32) -> Result<List<Uploaded>, Unread>
+    ensures { IfOk result (λ us. AreUploaded (view tree.now) document us) }
+{
+    match tree {
+        Tree::Members(members) => one_upload(alloc, tree, document, members.as_slice()),
+        Tree::List(entries) => uploads_of(alloc, tree, document, entries.as_slice()),
+        _ => Err(Unread::Unexpected),
+    }
+}
+
+/// The interfaces that a document declares, with where each stands in it; the document is an interface or a list of
+/// interfaces (DTDL v2, "Interface"; the list is this project's own). `document` is written into each of them.
+///
+/// `Fault` comes with the first breach of the local rules, and exactly where there is one and enough memory.
+/// `OutOfMemory` says nothing of the document. It would also stand for a value of an unexpected shape, which no
+/// document has that breaks no local rule: tests show this, and no contract does yet.
+pub fn read_interfaces(
+    alloc: Global,
+    tree: &Tree,
+    document: u32,
+) -> Result<List<Uploaded>, LocalEnd>
+    ensures fault { IsRightEnd (view tree.now) result }
+    ensures declares { IfOk result (λ ups. AreUploaded (view tree.now) document ups) }
+{
+    if let Some(breach) = first_breach(alloc, tree)? {
+        let Breach { place, rule } = breach;
+        return Err(LocalEnd::Fault { place, rule });
+    }
+    // Behind this no value has an unexpected shape, so that `Unexpected` cannot come.
+    Ok(uploads_in(alloc, tree, document)?)
+}

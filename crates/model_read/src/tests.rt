@@ -1,0 +1,89 @@
+//! Documents that break no local rule are read: every kind of element, and every shape that a member may have.
+
+use super::*;
+use dt_base::List;
+use dtdl_terms::Uploaded;
+use std::test::Fail;
+
+/// A document, and of its last interface: how many contents, schemas and parents it has, and its pointer.
+const DOCUMENTS: [(&str, usize, usize, usize, &str); 7] = [
+    (
+        r#"{"@context":"dtmi:dtdl:context;2","@id":"dtmi:a;1","@type":"Interface"}"#,
+        0,
+        0,
+        0,
+        "",
+    ),
+    (
+        r#"[{"@context":["dtmi:dtdl:context;2"],"@id":"dtmi:a;1","@type":["Interface"],"contents":[],"schemas":[],"extends":[]},{"extends":["dtmi:b;1","dtmi:c;1"],"@type":"Interface","@id":"dtmi:a;2","@context":"dtmi:dtdl:context;2"}]"#,
+        0,
+        0,
+        2,
+        "/1",
+    ),
+    (
+        r#"{"@context":"dtmi:dtdl:context;2","@id":"dtmi:a;1","@type":"Interface","extends":"dtmi:b;1","comment":"","displayName":"x","description":{"en":"x","de-CH":"y"},"contents":[{"@type":["Telemetry","Temperature"],"name":"t","schema":"double","unit":"degreeCelsius"},{"@type":["Property"],"name":"p","schema":"dtmi:s;1","writable":true,"comment":"c"},{"@type":"Component","name":"c","schema":"dtmi:d;1"}],"schemas":[{"@id":"dtmi:s;1","@type":"Enum","valueSchema":"integer","enumValues":[{"name":"a","enumValue":-1},{"name":"b","@type":"x","enumValue":1e3}]}]}"#,
+        3,
+        1,
+        1,
+        "",
+    ),
+    (
+        r#"{"@context":"dtmi:dtdl:context;2","@id":"dtmi:a;1","@type":"Interface","contents":[{"@type":"Command","name":"c","commandType":"synchronous","request":{"name":"r","schema":"duration"},"response":{"name":"s","schema":{"@type":"Object","fields":[{"name":"f","schema":"boolean"},{"name":"g","@type":"Y","schema":{"@type":"Array","elementSchema":"long"}}]}}},{"@type":"Command","name":"d"}]}"#,
+        2,
+        0,
+        0,
+        "",
+    ),
+    (
+        r#"{"@context":"dtmi:dtdl:context;2","@id":"dtmi:a;1","@type":"Interface","contents":[{"@type":"Relationship","name":"r"},{"@type":"Relationship","name":"s","minMultiplicity":0,"maxMultiplicity":2147483647,"target":"dtmi:b;1","writable":false,"properties":[{"@type":["Property","Telemetry"],"name":"p","schema":"date"}]}]}"#,
+        2,
+        0,
+        0,
+        "",
+    ),
+    (
+        r#"{"@context":"dtmi:dtdl:context;2","@id":"dtmi:a;1","@type":"Interface","schemas":[{"@id":"dtmi:s;1","@type":"Map","mapKey":{"name":"k","schema":"string"},"mapValue":{"name":"v","displayName":"v","schema":"dtmi:s;2"}},{"@id":"dtmi:s;2","@type":["Enum"],"valueSchema":"string","enumValues":[{"name":"a","enumValue":"a"}]},{"@id":"dtmi:s;3","@type":"Object","fields":[]}]}"#,
+        0,
+        3,
+        0,
+        "",
+    ),
+    (
+        r#"[{"@context":"dtmi:dtdl:context;2","@id":"dtmi:a;1","@type":"Interface","contents":[{"@type":["Property","Array"],"name":"p","schema":{"@type":"Object","@id":"dtmi:o;1","comment":"c","fields":[{"name":"f","schema":{"@type":"Map","mapKey":{"name":"k","schema":"string"},"mapValue":{"name":"v","schema":"time"}}}]}}]}]"#,
+        1,
+        0,
+        0,
+        "/0",
+    ),
+];
+
+#[test]
+fn reads_every_kind_of_element(rt: HostRuntime) -> Result<(), Fail> {
+    for (text, contents, schemas, parents, base) in DOCUMENTS {
+        let tree = json_tree::read(rt.alloc(), text.as_bytes())?;
+        let uploads = read_interfaces(rt.alloc(), &tree, 1)?;
+        let last = uploads.as_slice().last();
+        assert_eq!(rt;
+            last.map(|u| u.interface.contents.len()),
+            Some(contents),
+            "{text}"
+        );
+        assert_eq!(rt; last.map(|u| u.interface.schemas.len()), Some(schemas));
+        assert_eq!(rt; last.map(|u| u.interface.parents.len()), Some(parents));
+        assert_eq!(rt; last.map(|u| u.base.as_str()), Some(base));
+    }
+    Ok(())
+}
+
+fn is_fault(end: &Result<List<Uploaded>, LocalEnd>) -> bool {
+    matches!(end, Err(LocalEnd::Fault { .. }))
+}
+
+#[test]
+fn names_the_first_breach(rt: HostRuntime) -> Result<(), Fail> {
+    let tree = json_tree::read(rt.alloc(), r#"[{"@id":"dtmi:a;1"}]"#.as_bytes())?;
+    let end = read_interfaces(rt.alloc(), &tree, 1);
+    assert!(rt; is_fault(&end), "it has no context");
+    Ok(())
+}
