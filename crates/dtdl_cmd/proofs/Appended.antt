@@ -3,9 +3,10 @@ use Rattle.std.proofs.Common.{◌≡◌, ℕ, ◌+◌, ◌<◌, suc, List, [], �
 use Rattle.std.specs.Prelude.{codes}
 use Rattle.dtmi_name.specs.Grammar.{dtmi_text}
 use Rattle.json_tree.specs.Values.{elements_of}
-use Rattle.dtdl_cmd.specs.Interfaces.{dtdl_context, primitive_name}
-use Rattle.dtdl_cmd.specs.declared.declaration.Primitive.{Primitive}
-use Rattle.dtdl_cmd.specs.declared.declaration.Primitive.TheVariants as primitives
+use Rattle.local_rules.specs.Types.{dtdl_context}
+use Rattle.dtdl_terms.specs.Primitives.{primitive_name}
+use Rattle.dtdl_terms.specs.declared.primitive.Primitive.{Primitive}
+use Rattle.dtdl_terms.specs.declared.primitive.Primitive.TheVariants as primitives
 use Rattle.json_tree.specs.Printing.{escaped, printed, printed_more_elements, printed_more_members, quoted}
 use Rattle.dtdl_cmd.specs.Canonical.{canonical_text, contents_member, property_value, writable_member}
 use Rattle.dtdl_cmd.specs.declared.declaration.Interface.{Interface}

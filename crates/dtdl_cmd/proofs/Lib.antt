@@ -1,5 +1,4 @@
 pub mod Names
-pub mod Views
 pub mod Order
 pub mod Entries
 pub mod Unique
@@ -7,3 +6,4 @@ pub mod Refused
 pub mod Appended
 pub mod Given
 pub mod Words
+pub mod Breached

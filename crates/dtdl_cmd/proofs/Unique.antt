@@ -2,9 +2,10 @@
 use Rattle.std.proofs.Common.{◌≡◌, ℕ, List, [], ◌∷◌, Bool, Option, Some, None, if◌then◌else◌, refl, sym, ap, ◌∙◌}
 use Rattle.std.specs.Prelude.{bytes_eq, codes}
 use Rattle.json_tree.specs.Values.{Json, null, truth, number, text, array, object}
-use Rattle.dtdl_cmd.specs.Interfaces.{primitive_name, IsProperty, AreProperties, IsWritable}
-use Rattle.dtdl_cmd.specs.declared.declaration.Primitive.{Primitive}
-use Rattle.dtdl_cmd.specs.declared.declaration.Primitive.TheVariants as primitives
+use Rattle.dtdl_cmd.specs.Interfaces.{IsProperty, AreProperties, IsWritable}
+use Rattle.dtdl_terms.specs.Primitives.{primitive_name}
+use Rattle.dtdl_terms.specs.declared.primitive.Primitive.{Primitive}
+use Rattle.dtdl_terms.specs.declared.primitive.Primitive.TheVariants as primitives
 use Rattle.dtdl_cmd.specs.declared.declaration.Property.{Property}
 
 -- the schema of a name

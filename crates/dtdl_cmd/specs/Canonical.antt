@@ -3,7 +3,8 @@ use Rattle.std.specs.Prelude.{ℕ, List, [], ◌∷◌, ◌++◌, map, Bool, tru
 use Rattle.dtmi_name.specs.Grammar.{dtmi_text}
 use Rattle.json_decimal.specs.Number.{Number}
 use Rattle.json_tree.specs.Values.{Json, truth, text, array, object, no_elements, element, elements_of, Members, no_members, member}
-use Rattle.dtdl_cmd.specs.Interfaces.{primitive_name, dtdl_context}
+use Rattle.dtdl_terms.specs.Primitives.{primitive_name}
+use Rattle.local_rules.specs.Types.{dtdl_context}
 use Rattle.json_tree.specs.Printing.{printed}
 use Rattle.dtdl_cmd.specs.declared.declaration.Property.{Property}
 use Rattle.dtdl_cmd.specs.declared.declaration.Interface.{Interface}

@@ -7,37 +7,11 @@ use Rattle.std.specs.Cmp.Lexicographic.{slice_cmp}
 use Rattle.dtmi_name.specs.Grammar.{NameText, Identifier, OwnDtmiText}
 use Rattle.json_decimal.specs.Number.{Number}
 use Rattle.json_tree.specs.Values.{Value, Json, null, truth, number, text, array, object, Elements, no_elements, element, Members, no_members, member}
-use Rattle.dtdl_cmd.specs.declared.declaration.Primitive.{Primitive}
-use Rattle.dtdl_cmd.specs.declared.declaration.Primitive.TheVariants as primitives
+use Rattle.dtdl_terms.specs.Primitives.{primitive_name}
+use Rattle.local_rules.specs.Members.{list_of, pairs_of, value_at}
+use Rattle.local_rules.specs.Types.{dtdl_context}
 use Rattle.dtdl_cmd.specs.declared.declaration.Property.{Property}
 use Rattle.dtdl_cmd.specs.declared.declaration.Interface.{Interface}
-
--- The names of the primitive schemas (DTDL v2, "Primitive schemas").
-abbrev pub primitive_name : Primitive → List ℕ
-primitive_name primitives.Boolean = codes "boolean"
-primitive_name primitives.Date = codes "date"
-primitive_name primitives.DateTime = codes "dateTime"
-primitive_name primitives.Double = codes "double"
-primitive_name primitives.Duration = codes "duration"
-primitive_name primitives.Float = codes "float"
-primitive_name primitives.Integer = codes "integer"
-primitive_name primitives.Long = codes "long"
-primitive_name primitives.Str = codes "string"
-primitive_name primitives.Time = codes "time"
-
--- The elements of an array, and the members of an object as pairs of a key and a value, as lists.
-abbrev pub list_of : {N : Type 0} → Elements N → List (Value N)
-list_of no_elements = []
-list_of (element v vs) = v ∷ list_of vs
-
-abbrev pub pairs_of : {N : Type 0} → Members N → List (List ℕ × Value N)
-pairs_of no_members = []
-pairs_of (member key v ms) = (key, v) ∷ pairs_of ms
-
--- The value of the member with this key.
-abbrev pub value_at : List ℕ → Members Number → Option Json
-value_at key no_members = None
-value_at key (member k v ms) = if bytes_eq k key then Some v else value_at key ms
 
 -- Each member has one of these keys.
 abbrev pub HasOnlyKeys : (List ℕ → Type 0) → Members Number → Type 0
@@ -52,15 +26,6 @@ IsPropertyKey key = (key ≡ codes "@type") ⊎ (key ≡ codes "name") ⊎ (key 
 -- A type is named by a text, or by a list of that text alone.
 abbrev pub NamesType : List ℕ → Json → Type 0
 NamesType type v = (v ≡ text type) ⊎ (v ≡ array (element (text type) no_elements))
-
--- The text that a value is.
-abbrev pub text_in : Json → Option (List ℕ)
-text_in null = None
-text_in (truth b) = None
-text_in (number n) = None
-text_in (text bytes) = Some bytes
-text_in (array vs) = None
-text_in (object ms) = None
 
 -- The member with this key is this text.
 abbrev pub HasText : List ℕ → Members Number → List ℕ → Type 0
@@ -132,9 +97,6 @@ pub record IsInterfaceId (bytes : List ℕ) (id : Identifier) : Type 0 where
 -- The member `@id` is the text of this id.
 abbrev pub HasInterfaceId : Members Number → Identifier → Type 0
 HasInterfaceId ms id = (bytes : List ℕ) × HasText (codes "@id") ms bytes × IsInterfaceId bytes id
-
-abbrev pub dtdl_context : List ℕ
-dtdl_context = codes "dtmi:dtdl:context;2"
 
 -- The members of an object declare this interface (DTDL v2, "Interface").
 pub record AreInterface (ms : Members Number) (i : Interface) : Type 0 where

@@ -2,11 +2,10 @@
 
 ghost use Rattle.std.specs.Prelude.{◌≡◌, ◌++◌, ◌∷◌, map, string_bytes, OnOk, IfOk};
 ghost use Rattle.json_tree.specs.Values.{elements_of};
-ghost use Rattle.dtdl_cmd.specs.Interfaces.{primitive_name};
 ghost use Rattle.json_tree.specs.Printing.{printed, printed_more_elements, printed_more_members};
 ghost use Rattle.dtdl_cmd.specs.Canonical.{canonical_text, contents_member, property_value, writable_member};
 
-use crate::declaration::{Interface, Primitive, Property};
+use crate::declaration::{Interface, Property};
 use dt_base::List;
 use json_tree::push_quoted;
 use std::alloc::{AllocError, Global};
@@ -15,24 +14,6 @@ use std::alloc::{AllocError, Global};
 const INTERFACE_ROOM: usize = 256;
 
 const PROPERTY_ROOM: usize = 160;
-
-/// The name of a primitive schema.
-fn primitive_name(schema: Primitive) -> &'static str
-    ensures { result.now ≡ primitive_name schema }
-{
-    match schema {
-        Primitive::Boolean => "boolean",
-        Primitive::Date => "date",
-        Primitive::DateTime => "dateTime",
-        Primitive::Double => "double",
-        Primitive::Duration => "duration",
-        Primitive::Float => "float",
-        Primitive::Integer => "integer",
-        Primitive::Long => "long",
-        Primitive::Str => "string",
-        Primitive::Time => "time",
-    }
-}
 
 /// What ends the object of a property, from the quotation mark behind its schema on.
 fn end_of_property(writable: bool) -> &'static str
@@ -52,7 +33,7 @@ fn print_property(out: &mut String, property: &Property) -> Result<(), AllocErro
     out.push_str("{\"@type\":\"Property\",\"name\":")?;
     push_quoted(out, property.name.as_str())?;
     out.push_str(",\"schema\":\"")?;
-    out.push_str(primitive_name(property.schema))?;
+    out.push_str(property.schema.text())?;
     out.push_str(end_of_property(property.writable))?;
     Ok(())
 }

@@ -1,20 +1,6 @@
 use dt_base::List;
+use dtdl_terms::Primitive;
 use dtmi_name::{Dtmi, Name};
-
-/// A primitive schema (DTDL v2, "Primitive schemas").
-#[derive(Clone, Copy, Debug, PartialEq, Eq)]
-pub enum Primitive {
-    Boolean,
-    Date,
-    DateTime,
-    Double,
-    Duration,
-    Float,
-    Integer,
-    Long,
-    Str,
-    Time,
-}
 
 /// What a property declares (DTDL v2, "Property").
 #[derive(Debug, Drop)]

@@ -4,10 +4,13 @@ ghost use Rattle.std.specs.Prelude.{◌≡◌, IfOk, string_bytes};
 ghost use Rattle.json_tree.specs.Values.{Raw};
 ghost use Rattle.json_tree.specs.Grammar.{IsText};
 ghost use Rattle.json_tree.specs.Faults.{IsFault, StandsAt};
-ghost use Rattle.dtdl_cmd.specs.Runs.{IsFaultLine, IsPlaceLine, pointer_line};
+ghost use Rattle.json_tree.specs.View.{view};
+ghost use Rattle.local_rules.specs.Breaches.{IsFirstBreach};
+ghost use Rattle.dtdl_cmd.specs.Lines.{IsBreachLine, IsFaultLine, IsPlaceLine, pointer_line};
 
 use dt_base::{List, OutOfMemory, Text};
-use json_tree::{JsonFault, Place, Tree, pointer_in, print};
+use json_tree::{JsonFault, Place, Tree, pointer_in, pointer_of, print};
+use local_faults::Breach;
 use std::alloc::Global;
 
 /// The bytes of a line, which is moved.
@@ -47,4 +50,13 @@ pub fn fault_line(alloc: Global, bytes: &[u8], fault: &JsonFault) -> Result<List
         JsonFault::Range { place } => line_at(alloc, bytes, place, "Range"),
         JsonFault::OutOfMemory => Err(OutOfMemory),
     }
+}
+
+/// The line that names the first breach of a document.
+pub fn breach_line(alloc: Global, tree: &Tree, breach: &Breach) -> Result<List<u8>, OutOfMemory>
+    requires { IsFirstBreach (view tree.now) breach.now.place.steps breach.now.rule }
+    ensures { IfOk result (IsBreachLine (view tree.now)) }
+{
+    let pointer = pointer_of(alloc, tree, &breach.place)?;
+    refused_line(alloc, pointer.text, breach.rule.text())
 }

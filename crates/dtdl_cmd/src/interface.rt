@@ -7,16 +7,19 @@ ghost use Rattle.std.specs.Cmp.Lexicographic.{slice_cmp};
 ghost use Rattle.dtdl_cmd.specs.declared.declaration.Property.{Property};
 ghost use Rattle.dtmi_name.specs.Grammar.{Identifier, OwnDtmiText};
 ghost use Rattle.json_tree.specs.View.{view, members_view};
-ghost use Rattle.dtdl_cmd.specs.Interfaces.{AreContents, AreInterface, AreProperties, Declares, HasContents, HasInterfaceId, HasText, IsContents, IsInterfaceId, RiseByName, dtdl_context, value_at};
+ghost use Rattle.dtdl_cmd.specs.Interfaces.{AreContents, AreInterface, AreProperties, Declares, HasContents, HasInterfaceId, HasText, IsContents, IsInterfaceId, RiseByName};
+ghost use Rattle.local_rules.specs.Types.{dtdl_context};
+ghost use Rattle.local_rules.specs.Members.{value_at};
 ghost use Rattle.dtdl_cmd.specs.Reading.{Reads};
 
 use crate::declaration::{Interface, Property};
-use crate::members::{has_only_interface_keys, has_type, text_at, value_at};
+use crate::members::{has_only_interface_keys, has_type, text_at};
 use crate::property::property_of;
 use crate::refusal::{Refusal, refusal_of};
 use dt_base::List;
 use dtmi_name::Dtmi;
 use json_tree::{Member, Tree};
+use local_rules::value_at;
 use std::alloc::Global;
 
 /// How many entries `contents` may have.
@@ -102,7 +105,7 @@ fn has_distinct_names(properties: &[Property]) -> bool
 }
 
 /// The properties that the member `contents` declares, in the order of their names.
-#[tactic(auto, using(crate::proofs::Views::views))]
+#[tactic(auto, using(local_rules::proofs::Views::views))]
 fn contents_of(alloc: Global, tree: &Tree) -> Result<List<Property>, Refusal>
     ensures { Reads (IsContents (view tree.now)) result }
 {
@@ -154,7 +157,7 @@ fn properties_at(alloc: Global, members: &[Member]) -> Result<List<Property>, Re
 }
 
 /// The interface that a JSON value declares.
-#[tactic(auto, using(crate::proofs::Views::views))]
+#[tactic(auto, using(local_rules::proofs::Views::views))]
 pub fn interface_of(alloc: Global, tree: &Tree) -> Result<Interface, Refusal>
     ensures { Reads (Declares (view tree.now)) result }
 {

@@ -1,7 +1,9 @@
 //! The commands of `dtdl`, over the traits of the outside.
 #![tactic(auto)]
 
+mod alone;
 mod canonical;
+mod command;
 mod declaration;
 mod faults;
 mod interface;

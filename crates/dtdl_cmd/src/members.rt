@@ -4,31 +4,11 @@ ghost use Rattle.std.specs.Prelude.{◌≡◌, ◌≢◌, ◌↔◌, ℕ, List, 
 ghost use Rattle.std.specs.Option.{option_map};
 ghost use Rattle.json_tree.specs.Values.{text};
 ghost use Rattle.json_tree.specs.View.{view, members_view};
-ghost use Rattle.dtdl_cmd.specs.Interfaces.{HasOnlyKeys, HasText, HasType, IsInterfaceKey, IsPropertyKey, NamesType, text_in, value_at};
+ghost use Rattle.dtdl_cmd.specs.Interfaces.{HasOnlyKeys, HasText, HasType, IsInterfaceKey, IsPropertyKey, NamesType};
+ghost use Rattle.local_rules.specs.Members.{text_in, value_at};
 
 use json_tree::{Member, Tree};
-
-/// The text that a value is.
-pub fn text_in(tree: &Tree) -> Option<&str>
-    ensures { option_map (λ t. t.now) result ≡ text_in (view tree.now) }
-{
-    match tree {
-        Tree::Text(text) => Some(text.as_str()),
-        Tree::Null | Tree::Bool(_) | Tree::Number(_) | Tree::List(_) | Tree::Members(_) => None,
-    }
-}
-
-/// The value of the member with this key.
-pub fn value_at<'a>(members: &'a [Member], key: &str) -> Option<&'a Tree>
-    ensures { option_map (λ t. view t.now) result ≡ value_at key.now (members_view members.now) }
-{
-    for member in members {
-        if member.key.as_str() == key {
-            return Some(&member.value);
-        }
-    }
-    None
-}
+use local_rules::{text_in, value_at};
 
 fn is_interface_key(key: &str) -> bool
     ensures { IsTrue result ↔ IsInterfaceKey key.now }

@@ -1,37 +1,22 @@
 //! Reading a property out of an entry of `contents`.
 
 ghost use Rattle.std.specs.Prelude.{◌≡◌, ℕ, List, Bool, Some, None, MatchOption, codes};
-ghost use Rattle.dtdl_cmd.specs.declared.declaration.Primitive.{Primitive};
+ghost use Rattle.dtdl_terms.specs.declared.primitive.Primitive.{Primitive};
 ghost use Rattle.dtmi_name.specs.Grammar.{NameText};
 ghost use Rattle.json_tree.specs.View.{view, members_view};
-ghost use Rattle.dtdl_cmd.specs.Interfaces.{AreProperty, HasText, IsProperty, IsWritable, primitive_name, value_at};
+ghost use Rattle.dtdl_cmd.specs.Interfaces.{AreProperty, HasText, IsProperty, IsWritable};
+ghost use Rattle.dtdl_terms.specs.Primitives.{primitive_name};
+ghost use Rattle.local_rules.specs.Members.{value_at};
 ghost use Rattle.dtdl_cmd.specs.Reading.{Reads};
 
-use crate::declaration::{Primitive, Property};
-use crate::members::{has_only_property_keys, has_type, text_at, value_at};
+use crate::declaration::Property;
+use crate::members::{has_only_property_keys, has_type, text_at};
 use crate::refusal::{Refusal, refusal_of};
+use dtdl_terms::{Primitive, primitive_named};
 use dtmi_name::Name;
 use json_tree::{Member, Tree};
+use local_rules::value_at;
 use std::alloc::Global;
-
-/// The primitive schema of this name.
-fn primitive_of(name: &str) -> Option<Primitive>
-    ensures { MatchOption result ((p : Primitive) → primitive_name p ≡ name.now → ⊥) (λ p. primitive_name p ≡ name.now) }
-{
-    match name {
-        "boolean" => Some(Primitive::Boolean),
-        "date" => Some(Primitive::Date),
-        "dateTime" => Some(Primitive::DateTime),
-        "double" => Some(Primitive::Double),
-        "duration" => Some(Primitive::Duration),
-        "float" => Some(Primitive::Float),
-        "integer" => Some(Primitive::Integer),
-        "long" => Some(Primitive::Long),
-        "string" => Some(Primitive::Str),
-        "time" => Some(Primitive::Time),
-        _ => None,
-    }
-}
 
 /// The name that a text is.
 #[tactic(auto, using(crate::proofs::Names::names))]
@@ -60,7 +45,7 @@ fn schema_at(members: &[Member]) -> Option<Primitive>
         (λ p. HasText (codes "schema") (members_view members.now) (primitive_name p)) }
 {
     match text_at(members, "schema") {
-        Some(text) => primitive_of(text),
+        Some(text) => primitive_named(text),
         None => None,
     }
 }
@@ -78,7 +63,7 @@ fn writable_at(members: &[Member]) -> Option<bool>
 }
 
 /// The property that an entry of `contents` declares.
-#[tactic(auto, using(crate::proofs::Views::views))]
+#[tactic(auto, using(local_rules::proofs::Views::views))]
 pub fn property_of(alloc: Global, tree: &Tree) -> Result<Property, Refusal>
     ensures { Reads (IsProperty (view tree.now)) result }
 {

@@ -1,4 +1,4 @@
-//! Worked rows of `canon`, over sources and sinks in memory.
+//! Worked rows of the commands, over sources and sinks in memory.
 
 use super::*;
 use dt_base::{List, MemSink, MemSource, QuietShelf};
@@ -10,6 +10,9 @@ const TWO_PROPERTIES: &str =
 
 const TWO_PROPERTIES_CANONICAL: &str =
     r#"[{"@context":"dtmi:dtdl:context;2","@id":"dtmi:x:A;1","@type":"Interface","contents":[{"@type":"Property","name":"a","schema":"integer"},{"@type":"Property","name":"b","schema":"double"}]}]"#;
+
+const AIR: &str =
+    r#"{"@context":"dtmi:dtdl:context;2","@id":"dtmi:x:Air;1","@type":"Interface","contents":[{"@type":["Telemetry","Temperature"],"name":"t","schema":"dtmi:x:s;1"}],"schemas":[{"@id":"dtmi:x:s;1","@type":"Array","elementSchema":"double"}]}"#;
 
 const USAGE_LINE: &str =
     "usage: dtdl check [NAME..] | canon [NAME..] | replay | make N | serve PORT WORKERS EACH | ask HOST PORT METHOD PATH";
@@ -71,16 +74,24 @@ fn prints_one_line_whatever_the_pieces(rt: HostRuntime) -> Result<(), Fail> {
 #[test]
 fn says_why_there_is_no_line(rt: HostRuntime) -> Result<(), Fail> {
     for (words, text, failing, status, line) in [
-        (["canon"].as_slice(), "{}", 0, 20, Some("not built")),
+        (["check"].as_slice(), AIR, 0, 0, Some("accepted 1")),
+        (["canon"].as_slice(), "[]", 0, 20, Some("not built")),
         (
             ["canon"].as_slice(),
             "[null,-1.5e3]",
             0,
-            20,
-            Some("not built"),
+            1,
+            Some("refused 1 \"/0\" WrongKind"),
         ),
         (["canon", "x"].as_slice(), "{}", 0, 2, Some(USAGE_LINE)),
-        (["check"].as_slice(), "{}", 0, 2, Some(USAGE_LINE)),
+        (["check", "x"].as_slice(), "{}", 0, 2, Some(USAGE_LINE)),
+        (
+            ["check"].as_slice(),
+            "{}",
+            0,
+            1,
+            Some("refused 1 \"\" MissingKey"),
+        ),
         ([].as_slice(), "{}", 0, 2, Some(USAGE_LINE)),
         (["canon"].as_slice(), "{}", 1, 3, None),
         (["canon"].as_slice(), "{}", 2, 3, None),

@@ -1,10 +1,10 @@
 use Rattle.std.proofs.Common.{◌≡◌, List, map, ap, ◌∙◌, sym, subst}
 use Rattle.json_tree.specs.Values.{Json, array}
 use Rattle.json_tree.specs.View.{view, elements_view}
-use Rattle.dtdl_cmd.proofs.Views.{view-List}
+use Rattle.local_rules.proofs.Views.{view-List}
 use Rattle.dtdl_cmd.specs.Interfaces.{IsContents, AreContents}
 use Rattle.dtdl_cmd.specs.Reading.{Reads}
-use Rattle.dtdl_cmd.proofs.Views.{list_of-elements_of}
+use Rattle.local_rules.proofs.Views.{list_of-elements_of}
 use Rattle.dtdl_cmd.proofs.interface.contents_of.Goals as goal
 
 pub returns : goal.returns

@@ -2,7 +2,7 @@ use Rattle.std.proofs.Common.{◌≡◌, ℕ, List, [], ◌∷◌, length, refl,
 use Rattle.json_tree.specs.Values.{Json, text, array, element, no_elements}
 use Rattle.json_tree.specs.View.{view, elements_view}
 use Rattle.json_tree.specs.declared.tree.Tree.{Tree}
-use Rattle.dtdl_cmd.proofs.Views.{view-List}
+use Rattle.local_rules.proofs.Views.{view-List}
 use Rattle.dtdl_cmd.specs.Interfaces.{NamesType}
 use Rattle.dtdl_cmd.proofs.members.names_type.Goals as goal
 
