@@ -43,7 +43,7 @@ escaped-primitive_name primitives.Str = refl
 escaped-primitive_name primitives.Time = refl
 
 -- the parts of the text of a property round its name and its schema
-abbrev before_name : List ℕ
+abbrev pub before_name : List ℕ
 before_name = 123 ∷ (quoted (codes "@type") ++ 58 ∷ (quoted (codes "Property") ++ 44 ∷ (quoted (codes "name") ++ 58 ∷ [])))
 
 abbrev before_schema : List ℕ
@@ -63,10 +63,10 @@ property_appended o p =
     ∙ ap (λ (t : List ℕ). o ++ (before_name ++ (quoted p.name ++ (before_schema ++ t)))) (schema_end p.schema (printed_more_members (writable_member p.writable)))
 
 -- the parts of the text of an interface round its id
-abbrev before_id : List ℕ
+abbrev pub before_id : List ℕ
 before_id = 91 ∷ 123 ∷ (quoted (codes "@context") ++ 58 ∷ (quoted dtdl_context ++ 44 ∷ (quoted (codes "@id") ++ 58 ∷ [])))
 
-abbrev type_member : List ℕ
+abbrev pub type_member : List ℕ
 type_member = 44 ∷ (quoted (codes "@type") ++ 58 ∷ quoted (codes "Interface"))
 
 regrouped : (id more : List ℕ) → ((id ++ type_member) ++ more) ++ 93 ∷ 10 ∷ [] ≡ ((id ++ (type_member ++ more)) ++ 93 ∷ []) ++ 10 ∷ []

@@ -1,5 +1,5 @@
 -- From what was read to what a command makes of it.
-use Rattle.std.proofs.Common.{ℕ, ◌≤◌, List, length, Option, String, Result, Ok, Err, refl, sym, subst, inl, inr}
+use Rattle.std.proofs.Common.{ℕ, List, Option, String, Result, Ok, Err, refl, sym, subst, inl, inr}
 use Rattle.json_tree.specs.Values.{Json}
 use Rattle.json_tree.specs.Grammar.{Spells}
 use Rattle.dtdl_cmd.specs.declared.command.Command.{Command}

@@ -7,3 +7,10 @@ pub mod Appended
 pub mod Given
 pub mod Words
 pub mod Breached
+pub mod Rising
+pub mod OneInterface
+pub mod BareTexts
+pub mod Cut
+pub mod Spelled
+pub mod PropertyTexts
+pub mod OneText

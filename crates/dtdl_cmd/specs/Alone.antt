@@ -1,7 +1,6 @@
 -- Documents that are judged whole without other interfaces: one interface that extends none and has no component.
-use Rattle.std.specs.Prelude.{ℕ, List, [], ◌∷◌, length, Bool, true, false, not, nat_lt, ◌||◌, Option, Some, None, codes}
+use Rattle.std.specs.Prelude.{List, [], ◌∷◌, length, Bool, true, false, not, nat_lt, ◌||◌, Option, Some, None, codes}
 use Rattle.std.specs.List.{list_any}
-use Rattle.json_decimal.specs.Number.{Number}
 use Rattle.json_tree.specs.Values.{Json, null, truth, number, text, array, object}
 use Rattle.local_rules.specs.Members.{list_of, value_in, members_in}
 use Rattle.local_rules.specs.Levels.{elements_at}

@@ -1,12 +1,12 @@
 -- What a JSON value declares, where it is one DTDL v2 interface of properties with primitive schemas.
-use Rattle.std.specs.Prelude.{◌≡◌, ℕ, ◌≤◌, ◌⊎◌, List, [], ◌∷◌, length, map, Bool, false, Option, Some, None, MatchOption, IsSomeAnd, if◌then◌else◌, bytes_eq, codes}
+use Rattle.std.specs.Prelude.{◌≡◌, ℕ, ◌≤◌, ◌⊎◌, List, [], ◌∷◌, length, map, Bool, false, Option, Some, None, MatchOption, IsSomeAnd, codes}
 use Rattle.std.specs.List.{AllByRecursion}
 use Rattle.std.specs.List.Sorted.{IsPermutation, IsStrictlySortedBy}
 use Rattle.std.specs.Ordering.{nat_cmp}
 use Rattle.std.specs.Cmp.Lexicographic.{slice_cmp}
 use Rattle.dtmi_name.specs.Grammar.{NameText, Identifier, OwnDtmiText}
 use Rattle.json_decimal.specs.Number.{Number}
-use Rattle.json_tree.specs.Values.{Value, Json, null, truth, number, text, array, object, Elements, no_elements, element, Members, no_members, member}
+use Rattle.json_tree.specs.Values.{Json, null, truth, number, text, array, object, no_elements, element, Members}
 use Rattle.dtdl_terms.specs.Primitives.{primitive_name}
 use Rattle.local_rules.specs.Members.{list_of, pairs_of, value_at}
 use Rattle.local_rules.specs.Types.{dtdl_context}

@@ -7,12 +7,14 @@ mod command;
 mod declaration;
 mod faults;
 mod interface;
+mod laws;
 mod members;
 mod property;
 mod refusal;
 mod run;
 mod status;
 
+pub use laws::{equal_texts, one_interface};
 pub use run::run_plain;
 pub use status::Status;
 

@@ -1,5 +1,7 @@
 //! Worked rows of the commands, over sources and sinks in memory.
 
+mod rows;
+
 use super::*;
 use dt_base::{List, MemSink, MemSource, QuietShelf};
 use std::alloc::{AllocError, Global};
@@ -43,7 +45,7 @@ fn words_of(alloc: Global, words: &[&str]) -> Result<Vec<String>, AllocError> {
 }
 
 /// What a run with ample memory answers, and what its sink of this room has taken then.
-fn run(
+fn answer_of(
     alloc: Global,
     words: &[&str],
     source: &mut MemSource,
@@ -63,7 +65,7 @@ fn run(
 fn prints_one_line_whatever_the_pieces(rt: HostRuntime) -> Result<(), Fail> {
     for piece in [1, 2, 3, 7, 1000] {
         let mut source = source_of(rt.alloc(), TWO_PROPERTIES, &[], piece)?;
-        let (status, text) = run(rt.alloc(), &["canon"], &mut source, 1000)?;
+        let (status, text) = answer_of(rt.alloc(), &["canon"], &mut source, 1000)?;
         assert_eq!(rt; status.number(), 0, "in pieces of {piece}");
         assert_eq!(rt; text.lines().next(), Some(TWO_PROPERTIES_CANONICAL));
         assert_eq!(rt; text.len(), TWO_PROPERTIES_CANONICAL.len() + 1);
@@ -97,7 +99,7 @@ fn says_why_there_is_no_line(rt: HostRuntime) -> Result<(), Fail> {
         (["canon"].as_slice(), "{}", 2, 3, None),
     ] {
         let mut source = source_of(rt.alloc(), text, &[failing], 1)?;
-        let (answer, printed) = run(rt.alloc(), words, &mut source, 1000)?;
+        let (answer, printed) = answer_of(rt.alloc(), words, &mut source, 1000)?;
         assert_eq!(rt; answer.number(), status);
         assert_eq!(rt; printed.lines().next(), line);
     }
@@ -109,7 +111,7 @@ fn writes_what_the_sink_has_room_for(rt: HostRuntime) -> Result<(), Fail> {
     let whole = TWO_PROPERTIES_CANONICAL.len() as u64 + 1;
     for room in 0..whole {
         let mut source = source_of(rt.alloc(), TWO_PROPERTIES, &[], 100)?;
-        let (status, text) = run(rt.alloc(), &["canon"], &mut source, room)?;
+        let (status, text) = answer_of(rt.alloc(), &["canon"], &mut source, room)?;
         assert_eq!(rt; status.number(), 4);
         assert_eq!(rt; text.len() as u64, room);
         assert!(rt; TWO_PROPERTIES_CANONICAL.starts_with(text.as_str()));
@@ -125,7 +127,7 @@ fn refuses_a_byte_over_the_limit(rt: HostRuntime) -> Result<(), Fail> {
     ] {
         let spaces = List::from_vec(vec![in rt.alloc(); b' '; bytes]?);
         let mut source = MemSource::new(spaces, List::new(rt.alloc()), List::new(rt.alloc()));
-        let (answer, printed) = run(rt.alloc(), &["canon"], &mut source, 1000)?;
+        let (answer, printed) = answer_of(rt.alloc(), &["canon"], &mut source, 1000)?;
         assert_eq!(rt; answer.number(), status);
         assert_eq!(rt; printed.lines().next(), Some(line));
     }
@@ -171,7 +173,7 @@ fn names_the_fault_of_a_text(rt: HostRuntime) -> Result<(), Fail> {
     for (text, line) in FAULTS {
         for piece in [1, 1000] {
             let mut source = source_of(rt.alloc(), text, &[], piece)?;
-            let (status, printed) = run(rt.alloc(), &["canon"], &mut source, 1000)?;
+            let (status, printed) = answer_of(rt.alloc(), &["canon"], &mut source, 1000)?;
             assert_eq!(rt; status.number(), 1, "{text}");
             assert_eq!(rt; printed.lines().next(), Some(line));
         }
@@ -187,7 +189,7 @@ fn counts_nested_arrays(rt: HostRuntime) -> Result<(), Fail> {
     ] {
         let bytes = List::from_vec(vec![in rt.alloc(); b'['; brackets]?);
         let mut source = MemSource::new(bytes, List::new(rt.alloc()), List::new(rt.alloc()));
-        let (status, printed) = run(rt.alloc(), &["canon"], &mut source, 1000)?;
+        let (status, printed) = answer_of(rt.alloc(), &["canon"], &mut source, 1000)?;
         assert_eq!(rt; status.number(), 1);
         assert_eq!(rt; printed.lines().next(), Some(line));
     }

@@ -1,1 +1,2 @@
 pub mod TermViews
+pub mod OneTerm

@@ -18,11 +18,7 @@ use Rattle.local_rules.specs.declared.role.ValueKind.{ValueKind}
 use Rattle.local_rules.specs.declared.role.SchemaUse.TheVariants as place
 use Rattle.local_rules.specs.declared.role.Role.{Role}
 use Rattle.local_rules.specs.declared.role.Role.TheVariants as role
-
--- a rule is in a list
-abbrev pub Among : LocalRule → List LocalRule → Type 0
-Among one [] = ⊥
-Among one (other ∷ more) = (one ≡ other) ⊎ Among one more
+use Rattle.local_rules.proofs.Among.{Among, among_before}
 
 -- the numbers of the list rise, from above this one
 abbrev rises : ℕ → List LocalRule → Bool
@@ -66,11 +62,6 @@ first_of Broken rules None only h = λ other broken. h other (only other broken)
 first_of Broken rules (Some one) only h = (h.0, λ other less broken. h.1 other (only other broken) less broken)
 
 -- ---- one list behind another
-pub among_before : (one : LocalRule) (rules more : List LocalRule) → Among one rules → Among one (rules ++ more)
-among_before one [] more a = absurd a
-among_before one (other ∷ rules) more (inl same) = inl same
-among_before one (other ∷ rules) more (inr later) = inr (among_before one rules more later)
-
 pub first_before : (Broken : LocalRule → Type 0) (rules more : List LocalRule) (found : Option LocalRule) (one : LocalRule) → IsFirstAmong Broken rules found → found ≡ Some one
     → IsFirstAmong Broken (rules ++ more) found
 first_before Broken [] more found one none is = cc

@@ -6,3 +6,7 @@ pub mod Wanted
 pub mod Beside
 pub mod Compared
 pub mod Sameness
+pub mod Among
+pub mod Keyed
+pub mod Named
+pub mod Typed

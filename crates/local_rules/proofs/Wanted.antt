@@ -6,6 +6,7 @@ use Rattle.local_rules.specs.Members.{value_at}
 use Rattle.local_rules.specs.Tables.{key_text, required}
 use Rattle.local_rules.specs.Kinds.{LacksKeyOf, needed_keys}
 use Rattle.local_rules.specs.declared.key.Key.{Key}
+use Rattle.local_rules.specs.declared.key.Key.TheVariants as key
 use Rattle.local_rules.specs.declared.role.Element.{Element}
 use Rattle.local_rules.specs.declared.role.Role.{Role}
 use Rattle.local_rules.specs.declared.role.Role.TheVariants as role
@@ -20,6 +21,11 @@ lacks_first k ks ms none = (k, (0, omega arith, refl), none)
 
 pub lacks_later : (k : Key) (ks : List Key) (ms : Members Number) → LacksKeyOf ks ms → LacksKeyOf (k ∷ ks) ms
 lacks_later k ks ms (x, (i, within, is), none) = (x, (suc i, omega arith, is), none)
+
+-- what its kind of object requires, an object needs in each role
+pub lacks_needed : (r : Role) (e : Element) (ms : Members Number) → LacksKeyOf (required e) ms → LacksKeyOf (needed_keys r (Some e)) ms
+lacks_needed role.NamedSchema e ms lacks = lacks_later key.Id (required e) ms lacks
+lacks_needed other e ms lacks = lacks
 
 lacks_rest_at : (k x : Key) (ks : List Key) (ms : Members Number) (i : ℕ) → (value_at (key_text k) ms ≡ None → ⊥) → i < length (k ∷ ks) → slice_index_or (k ∷ ks) i x ≡ x
     → value_at (key_text x) ms ≡ None → LacksKeyOf ks ms

@@ -10,7 +10,6 @@ use Rattle.local_rules.specs.Members.{text_in, value_in}
 use Rattle.local_rules.specs.Roles.{name_in, repeats, same_value}
 use Rattle.local_rules.specs.declared.role.Role.{Role}
 use Rattle.local_rules.specs.declared.role.Role.TheVariants as role
-use Rattle.local_rules.specs.declared.role.ValueKind.{ValueKind}
 use Rattle.local_rules.specs.declared.repeated.Digits.{Digits}
 use Rattle.local_rules.specs.declared.repeated.Mark.{Mark}
 use Rattle.local_rules.specs.declared.repeated.Mark.TheVariants as mark
@@ -56,14 +55,20 @@ HasSeen old new b None = (b ≡ false) × ((q : Mark) → is_seen new (value_by 
 HasSeen old new b (Some m) = (b ≡ is_seen old (value_by m))
     × ((q : Mark) → is_seen new (value_by q) ≡ (is_seen old (value_by q) || same_value (value_by m) (value_by q)))
 
--- By what the entries of a list in this role are compared.
-abbrev pub sort_of : Role → Sort
-sort_of role.Extends = sort.Whole
-sort_of other = sort.Name
+-- By what the entries of a list in this role are compared; None where they are not.
+abbrev pub sort_of : Role → Option Sort
+sort_of role.Contents = Some sort.Name
+sort_of role.Properties = Some sort.Name
+sort_of role.Fields = Some sort.Name
+sort_of (role.EnumValues k) = Some sort.Name
+sort_of role.Extends = Some sort.Whole
+sort_of other = None
 
--- Where the values are more than 8, these tell of each whether it repeats an earlier one.
-abbrev pub AreMarks : Sort → List Json → List Bool → Type 0
-AreMarks s vs marks = 8 < length vs → AreRepeats s vs marks
+-- By what they are compared besides.
+abbrev pub value_sort_of : Role → Option Sort
+value_sort_of (role.EnumValues k) = Some sort.Value
+value_sort_of other = None
 
-abbrev pub AreValueMarks : Role → List Json → List Bool → Type 0
-AreValueMarks r vs marks = (k : ValueKind) → r ≡ role.EnumValues k → AreMarks sort.Value vs marks
+-- Where values are compared and more than 8, these tell of each whether it repeats an earlier one.
+abbrev pub AreMarks : Option Sort → List Json → List Bool → Type 0
+AreMarks o vs marks = (s : Sort) → o ≡ Some s → 8 < length vs → AreRepeats s vs marks

@@ -1,13 +1,13 @@
 //! The roles of the entries of lists.
 
-ghost use Rattle.std.specs.Prelude.{◌≡◌, ◌<◌, map, length, IfOk};
+ghost use Rattle.std.specs.Prelude.{◌≡◌, ◌<◌, map, length, IfOk, Some};
 ghost use Rattle.json_tree.specs.View.{view};
-ghost use Rattle.local_rules.specs.Repeated.{AreMarks, AreValueMarks, repeats_by, sort_of};
-ghost use Rattle.local_rules.specs.Roles.{entry_role, repeats_value};
+ghost use Rattle.local_rules.specs.Repeated.{AreMarks, AreRepeats, repeats_by, sort_of, value_sort_of};
+ghost use Rattle.local_rules.specs.Roles.{entry_role};
 ghost use Rattle.local_rules.specs.declared.repeated.Sort.TheVariants as sort;
 
 use crate::repeated::{Sort, repeats_of_many, repeats_one};
-use crate::role::{Role, ValueKind};
+use crate::role::Role;
 use dt_base::OutOfMemory;
 use json_tree::Tree;
 use std::alloc::Global;
@@ -25,43 +25,45 @@ pub struct EntryRoles<'a> {
     names: Vec<bool>,
     values: Vec<bool>,
     ghost named: { AreMarks (sort_of role) (map view entries.now) names.items },
-    ghost valued: { AreValueMarks role (map view entries.now) values.items },
+    ghost valued: { AreMarks (value_sort_of role) (map view entries.now) values.items },
 }
 
-/// Which of many entries repeat an earlier one; of few nothing is found out yet.
-fn marks_of(alloc: Global, sort: Sort, entries: &[Tree]) -> Result<Vec<bool>, OutOfMemory>
-    ensures { IfOk result (λ marks. AreMarks sort (map view entries.now) marks.items) }
-{
-    if entries.len() <= FEW_ENTRIES {
-        Ok(Vec::new(alloc))
-    } else {
-        repeats_of_many(alloc, sort, entries)
-    }
-}
-
-/// Which of many enum entries have a value that an earlier one has.
-fn value_marks_of(alloc: Global, role: Role, entries: &[Tree]) -> Result<Vec<bool>, OutOfMemory>
-    ensures { IfOk result (λ marks. AreValueMarks role (map view entries.now) marks.items) }
-{
-    match role {
-        Role::EnumValues { .. } => marks_of(alloc, Sort::Value, entries),
-        _ => Ok(Vec::new(alloc)),
-    }
-}
-
-/// By what the entries of a list in this role are compared.
-fn sort_of(role: Role) -> Sort
+/// By what the entries of a list in this role are compared, where they are.
+fn sort_of(role: Role) -> Option<Sort>
     ensures { result ≡ sort_of role }
 {
     match role {
-        Role::Extends => Sort::Whole,
-        _ => Sort::Name,
+        Role::Contents | Role::Properties | Role::Fields | Role::EnumValues { .. } => {
+            Some(Sort::Name)
+        }
+        Role::Extends => Some(Sort::Whole),
+        _ => None,
+    }
+}
+
+/// By what they are compared besides.
+fn value_sort_of(role: Role) -> Option<Sort>
+    ensures { result ≡ value_sort_of role }
+{
+    match role {
+        Role::EnumValues { .. } => Some(Sort::Value),
+        _ => None,
+    }
+}
+
+/// Which of many entries repeat an earlier one, where they are compared; of few nothing is found out yet.
+fn marks_of(alloc: Global, sort: Option<Sort>, entries: &[Tree]) -> Result<Vec<bool>, OutOfMemory>
+    ensures { IfOk result (λ marks. AreMarks sort (map view entries.now) marks.items) }
+{
+    match sort {
+        Some(sort) if entries.len() > FEW_ENTRIES => repeats_of_many(alloc, sort, entries),
+        _ => Ok(Vec::new(alloc)),
     }
 }
 
 /// Whether the entry at a position repeats an earlier one.
 fn repeats(marks: &[bool], sort: Sort, entries: &[Tree], at: usize) -> bool
-    requires marked { AreMarks sort (map view entries.now) marks.now }
+    requires marked { 8 < length entries.now → AreRepeats sort (map view entries.now) marks.now }
     requires within { at < length entries.now }
     ensures { result ≡ repeats_by sort (map view entries.now) at }
 {
@@ -79,7 +81,7 @@ impl<'a> EntryRoles<'a> {
         ensures entries { IfOk result (λ roles. roles.entries.now ≡ entries.now) }
     {
         let names = marks_of(alloc, sort_of(role), entries)?;
-        let values = value_marks_of(alloc, role, entries)?;
+        let values = marks_of(alloc, value_sort_of(role), entries)?;
         Ok(EntryRoles {
             role,
             entries,
@@ -88,15 +90,16 @@ impl<'a> EntryRoles<'a> {
         })
     }
 
-    fn repeats(&self, at: usize) -> bool
-        requires { at < length self.now.entries.now }
-        ensures { result ≡ repeats_by (sort_of self.now.role) (map view self.now.entries.now) at }
+    fn repeats(&self, sort: Sort, at: usize) -> bool
+        requires sort { sort_of self.now.role ≡ Some sort }
+        requires within { at < length self.now.entries.now }
+        ensures { result ≡ repeats_by sort (map view self.now.entries.now) at }
     {
-        repeats(&self.names, sort_of(self.role), self.entries, at)
+        repeats(&self.names, sort, self.entries, at)
     }
 
-    fn has_same_value(&self, kind: ValueKind, at: usize) -> bool
-        requires values { self.now.role ≡ Role.EnumValues kind }
+    fn repeats_value(&self, at: usize) -> bool
+        requires values { value_sort_of self.now.role ≡ Some sort.Value }
         requires within { at < length self.now.entries.now }
         ensures { result ≡ repeats_by sort.Value (map view self.now.entries.now) at }
     {
@@ -111,23 +114,23 @@ impl<'a> EntryRoles<'a> {
     {
         match self.role {
             Role::Contents => Some(Role::Content {
-                repeats: self.repeats(at),
+                repeats: self.repeats(Sort::Name, at),
             }),
             Role::Schemas => Some(Role::NamedSchema),
             Role::Properties => Some(Role::RelationshipProperty {
-                repeats: self.repeats(at),
+                repeats: self.repeats(Sort::Name, at),
             }),
             Role::Fields => Some(Role::Field {
-                repeats: self.repeats(at),
+                repeats: self.repeats(Sort::Name, at),
             }),
             Role::EnumValues { kind } => Some(Role::EnumEntry {
                 kind,
-                repeats: self.repeats(at),
-                same_value: self.has_same_value(kind, at),
+                repeats: self.repeats(Sort::Name, at),
+                same_value: self.repeats_value(at),
             }),
             Role::Context | Role::Type { .. } => Some(Role::Entry),
             Role::Extends => Some(Role::Parent {
-                repeats: self.repeats(at),
+                repeats: self.repeats(Sort::Whole, at),
             }),
             _ => None,
         }

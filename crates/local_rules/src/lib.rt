@@ -30,3 +30,4 @@ pub use role::{
 pub use roles::{element_of, key_role, member_role, position_of, type_in, type_named, type_of};
 pub use rule::LocalRule;
 pub use tables::{element_named, key_of, optional, required};
+pub use types::{Further, first_further};

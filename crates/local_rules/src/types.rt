@@ -56,13 +56,15 @@ fn is_bad_type(position: Position, tree: &Tree) -> bool
 
 /// An entry of `@type` and those behind it.
 #[derive(Clone, Copy)]
-struct Further<'a> {
-    entry: &'a Tree,
-    rest: &'a [Tree],
+pub struct Further<'a> {
+    /// The entry.
+    pub entry: &'a Tree,
+    /// Those behind it.
+    pub rest: &'a [Tree],
 }
 
 /// The first entry that names no type of the position.
-fn first_further(position: Position, entries: &[Tree]) -> Option<Further<'_>>
+pub fn first_further(position: Position, entries: &[Tree]) -> Option<Further<'_>>
     ensures { MatchOption result (further position (map view entries.now) ≡ []) (λ found. further position (map view entries.now) ≡ view found.entry.now ∷ further position (map view found.rest.now)) }
 {
     for (at, entry) in entries.iter().enumerate() {

@@ -1,9 +1,8 @@
 -- What holds of the items so far and of one more holds of both.
-use Rattle.std.proofs.Common.{◌≡◌, ℕ, ◌+◌, ◌<◌, List, [], ◌∷◌, ◌++◌, length, map, take, get_or, sym, ap, ap₂, ◌∙◌}
-use Rattle.std.proofs.lemmas.List.{take_more, map-append}
-use Rattle.dtmi_name.specs.Grammar.{Identifier, dtmi_text}
-use Rattle.json_tree.specs.Values.{Json, text}
-use Rattle.json_tree.specs.View.{view, members_view, elements_view}
+use Rattle.std.proofs.Common.{◌≡◌, ℕ, ◌+◌, ◌<◌, List, [], ◌∷◌, ◌++◌, length, map, take, get_or, sym, ap, ◌∙◌}
+use Rattle.std.proofs.lemmas.List.{take_more}
+use Rattle.dtmi_name.specs.Grammar.{Identifier}
+use Rattle.json_tree.specs.View.{members_view, elements_view}
 use Rattle.json_tree.specs.declared.tree.Tree.{Tree}
 use Rattle.json_tree.specs.declared.tree.Member.{Member}
 use Rattle.dtdl_terms.specs.TermViews.{schema_term, payloads_term, contents_term}
@@ -12,7 +11,7 @@ use Rattle.dtdl_terms.specs.declared.enumeration.EnumEntry.{EnumEntry}
 use Rattle.dtdl_terms.specs.declared.schema.Payload.{Payload}
 use Rattle.dtdl_terms.specs.declared.schema.Schema.{Schema}
 use Rattle.dtdl_terms.specs.declared.content.Content.{Content}
-use Rattle.model_read.specs.Declarations.{AreEntries, AreEnumEntries, ArePayloads, AreContents, AreProperties, AreSchemas}
+use Rattle.model_read.specs.Declarations.{AreEntries, AreEnumEntries, ArePayloads, AreContents, AreProperties, AreSchemas, AreIdentifiers}
 
 -- a relation that grows at the end keeps pace with a loop
 pub step : {A X : Type 0} (P : List A → List X → Type 0)
@@ -65,9 +64,9 @@ schemas_more [] (x ∷ ss) t s all one = absurd all
 schemas_more (u ∷ ts) [] t s all one = absurd all
 schemas_more (u ∷ ts) (x ∷ ss) t s all one = (all.0, schemas_more ts ss t s all.1 one)
 
-pub ids_more : (ts : List Tree) (ids : List Identifier) (t : Tree) (id : Identifier) → map view ts ≡ map (λ i. text (dtmi_text i)) ids
-    → map view (t ∷ []) ≡ map (λ i. text (dtmi_text i)) (id ∷ []) → map view (ts ++ t ∷ []) ≡ map (λ i. text (dtmi_text i)) (ids ++ id ∷ [])
-ids_more ts ids t id all one =
-    let left = map-append view ts (t ∷ []) in
-    let right = map-append (λ (i : Identifier). text (dtmi_text i)) ids (id ∷ []) in
-    left ∙ (ap₂ (λ (vs ws : List Json). vs ++ ws) all one ∙ sym right)
+pub ids_more : (ts : List Tree) (ids : List Identifier) (t : Tree) (id : Identifier) → AreIdentifiers (elements_view ts) ids
+    → AreIdentifiers (elements_view (t ∷ [])) (id ∷ []) → AreIdentifiers (elements_view (ts ++ t ∷ [])) (ids ++ id ∷ [])
+ids_more [] [] t id all one = one
+ids_more [] (x ∷ ids) t id all one = absurd all
+ids_more (u ∷ ts) [] t id all one = absurd all
+ids_more (u ∷ ts) (x ∷ ids) t id all one = (all.0, ids_more ts ids t id all.1 one)

@@ -1,4 +1,10 @@
 pub mod Grown
 pub mod Placed
 pub mod Seen
-pub mod Sizes
+pub mod Sound
+pub mod Leaves
+pub mod Shaped
+pub mod Whole
+pub mod Readings
+pub mod Once
+pub mod OnceUploads

@@ -2,7 +2,7 @@
 -- lists of a term stand in the order of the text. The relation speaks of documents that break no local rule, so it
 -- says nothing of limits.
 use Rattle.std.specs.Prelude.{◌≡◌, ℕ, ◌⊎◌, List, [], ◌∷◌, map, Bool, true, false, Option, Some, None, codes, pos}
-use Rattle.dtmi_name.specs.Grammar.{Identifier, dtmi_text}
+use Rattle.dtmi_name.specs.Grammar.{Identifier, OwnDtmiText, dtmi_text}
 use Rattle.json_decimal.specs.Number.{Number}
 use Rattle.json_decimal.specs.Comparing.{IsWhole}
 use Rattle.json_tree.specs.Values.{Json, null, truth, number, text, array, object, Elements, no_elements, element, Members, no_members, member}
@@ -32,8 +32,12 @@ abbrev pub HasOptionalText : List ℕ → Members Number → Option (List ℕ) �
 HasOptionalText key ms None = value_at key ms ≡ None
 HasOptionalText key ms (Some bytes) = HasText key ms bytes
 
+-- A text that is this identifier of an element of one's own.
+abbrev pub IsIdentifier : Json → Identifier → Type 0
+IsIdentifier v id = (v ≡ text (dtmi_text id)) × OwnDtmiText (dtmi_text id) id
+
 abbrev pub HasId : List ℕ → Members Number → Identifier → Type 0
-HasId key ms id = HasText key ms (dtmi_text id)
+HasId key ms id = (v : Json) × (value_at key ms ≡ Some v) × IsIdentifier v id
 
 abbrev pub HasOptionalId : List ℕ → Members Number → Option Identifier → Type 0
 HasOptionalId key ms None = value_at key ms ≡ None
@@ -105,7 +109,7 @@ abbrev mutual
   -- A schema (DTDL v2, "Schemas"): a primitive's name, the identifier of a named schema, or an object.
   pub IsSchema : SchemaTerm → Json → Type 0
   IsSchema (primitive p) v = v ≡ text (primitive_name p)
-  IsSchema (named id) v = v ≡ text (dtmi_text id)
+  IsSchema (named id) v = IsIdentifier v id
   IsSchema (array_of c s) v = (ms : Members Number) × (part : Json) × IsSchemaObject element_kind.Array v ms × HasCommon ms c
       × (value_at (codes "elementSchema") ms ≡ Some part) × IsSchema s part
   IsSchema (enumeration c of_text es) v = (ms : Members Number) × (vs : Elements Number) × IsSchemaObject element_kind.Enumeration v ms × HasCommon ms c
@@ -217,11 +221,17 @@ AreSchemas (element v vs) (s ∷ ss) = IsSchema s v × AreSchemas vs ss
 abbrev pub HasSchemas : Option Json → List SchemaTerm → Type 0
 HasSchemas list ss = (vs : Elements Number) × AreEntriesOf list vs × AreSchemas vs ss
 
+abbrev pub AreIdentifiers : Elements Number → List Identifier → Type 0
+AreIdentifiers no_elements [] = Unit {0}
+AreIdentifiers no_elements (id ∷ ids) = ⊥
+AreIdentifiers (element v vs) [] = ⊥
+AreIdentifiers (element v vs) (id ∷ ids) = IsIdentifier v id × AreIdentifiers vs ids
+
 -- The parents of an interface: one as a text, or those of a list.
 abbrev pub HasParents : Option Json → List Identifier → Type 0
 HasParents None ids = ids ≡ []
-HasParents (Some v) ids = ((id : Identifier) × (ids ≡ id ∷ []) × (v ≡ text (dtmi_text id)))
-    ⊎ ((vs : Elements Number) × (v ≡ array vs) × (list_of vs ≡ map (λ id. text (dtmi_text id)) ids))
+HasParents (Some v) ids = ((id : Identifier) × (ids ≡ id ∷ []) × IsIdentifier v id)
+    ⊎ ((vs : Elements Number) × (v ≡ array vs) × AreIdentifiers vs ids)
 
 -- The members of an object declare this interface (DTDL v2, "Interface").
 pub record AreInterface (ms : Members Number) (i : Interface) : Type 0 where

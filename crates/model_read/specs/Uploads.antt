@@ -1,5 +1,5 @@
 -- The interfaces of a document with where each stands in it.
-use Rattle.std.specs.Prelude.{◌≡◌, ℕ, suc, ◌↔◌, List, [], ◌∷◌, Option, Some, None, IsTrue, codes}
+use Rattle.std.specs.Prelude.{◌≡◌, ℕ, suc, ◌<◌, ◌↔◌, List, [], ◌∷◌, Option, Some, None, IsTrue, codes}
 use Rattle.json_decimal.specs.Number.{Number}
 use Rattle.json_tree.specs.Values.{Json, null, truth, number, text, array, object, Elements, no_elements, element, Members}
 use Rattle.json_tree.specs.Faults.{member_at}
@@ -8,10 +8,14 @@ use Rattle.dtdl_terms.specs.declared.uploaded.Uploaded.{Uploaded}
 use Rattle.local_rules.specs.Members.{value_at}
 use Rattle.model_read.specs.Declarations.{AreInterface}
 
--- The ordinal of the member with this key; None where there is none.
+-- No member before this position has the key.
+abbrev pub IsNew : List ℕ → Members Number → ℕ → Type 0
+IsNew key ms at = (j : ℕ) (w : Json) → j < at → member_at ms j ≡ Some (key, w) → ⊥
+
+-- The ordinal of the first member with this key; None where there is none.
 abbrev pub HasOrdinal : List ℕ → Members Number → Option ℕ → Type 0
 HasOrdinal key ms None = value_at key ms ≡ None
-HasOrdinal key ms (Some at) = (v : Json) × (member_at ms at ≡ Some (key, v)) × (value_at key ms ≡ Some v)
+HasOrdinal key ms (Some at) = (v : Json) × (member_at ms at ≡ Some (key, v)) × (value_at key ms ≡ Some v) × IsNew key ms at
 
 -- The value, at this position of the nth document, declares this interface with its place in the document.
 pub record IsUploaded (whole : Json) (place : List ℕ) (at nth : ℕ) (v : Json) (u : Uploaded) : Type 0 where

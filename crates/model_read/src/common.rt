@@ -3,16 +3,18 @@
 ghost use Rattle.std.specs.Prelude.{◌≡◌, IfOk};
 ghost use Rattle.json_tree.specs.View.{members_view};
 ghost use Rattle.model_read.specs.Declarations.{HasCommon};
+ghost use Rattle.model_read.specs.Shapes.{CommonShape};
 
-use crate::end::Unread;
 use crate::localized::localized_at;
 use crate::texts::{optional_id, optional_text};
+use dt_base::OutOfMemory;
 use dtdl_terms::Common;
 use json_tree::Member;
 use std::alloc::Global;
 
 /// What an element has of what every element may have.
-pub fn common_of(alloc: Global, members: &[Member]) -> Result<Common, Unread>
+pub fn common_of(alloc: Global, members: &[Member]) -> Result<Common, OutOfMemory>
+    requires { CommonShape (members_view members.now) }
     ensures { IfOk result (λ c. HasCommon (members_view members.now) c) }
 {
     let id = optional_id(alloc, members, "@id")?;

@@ -8,24 +8,25 @@ ghost use Rattle.local_rules.specs.Roles.{type_of};
 ghost use Rattle.local_rules.specs.declared.role.Element.TheVariants as element;
 ghost use Rattle.local_rules.specs.declared.role.Position.TheVariants as position;
 ghost use Rattle.dtdl_terms.specs.TermViews.{kind_term, content_term, contents_term};
-ghost use Rattle.model_read.specs.Declarations.{AreKind, AreContents, AreProperties, HasContents, HasKindOf, IsContent, IsPropertyTerm, type_of_kind};
+ghost use Rattle.model_read.specs.Declarations.{AreKind, AreContents, AreProperties, HasContents, type_of_kind};
+ghost use Rattle.model_read.specs.Shapes.{EachIs, IsListOf, IsSoundContent, IsSoundProperty, KindShape, MayHave, RelationshipShape};
 
 use crate::common::common_of;
-use crate::end::Unread;
 use crate::kinds::{command_in, component_in, is_writable, max_at, property_in, telemetry_in};
 use crate::parts::{entries_at, members_of};
 use crate::texts::{name_at, optional_id};
-use dt_base::List;
+use dt_base::{List, OutOfMemory};
 use dtdl_terms::{Content, ContentKind};
 use json_tree::{Member, Tree};
 use local_rules::{Element, Position, type_of};
 use std::alloc::Global;
 
 /// The property of a relationship that a value declares.
-fn property_of(alloc: Global, tree: &Tree) -> Result<Content, Unread>
+fn property_of(alloc: Global, tree: &Tree) -> Result<Content, OutOfMemory>
+    requires { IsSoundProperty (view tree.now) }
     ensures { IfOk result (λ c. AreProperties (contents_term (c ∷ [])) (elements_view (tree.now ∷ []))) }
 {
-    let members = members_of(tree)?;
+    let members = members_of(tree);
     let name = name_at(alloc, members, "name")?;
     let common = common_of(alloc, members)?;
     let kind = property_in(alloc, Position::Property, members)?;
@@ -33,7 +34,8 @@ fn property_of(alloc: Global, tree: &Tree) -> Result<Content, Unread>
 }
 
 /// The properties of a relationship.
-fn properties_of(alloc: Global, trees: &[Tree]) -> Result<List<Content>, Unread>
+fn properties_of(alloc: Global, trees: &[Tree]) -> Result<List<Content>, OutOfMemory>
+    requires { EachIs IsSoundProperty (elements_view trees.now) }
     ensures { IfOk result (λ cs. AreProperties (contents_term cs) (elements_view trees.now)) }
 {
     let mut properties = Vec::with_capacity(alloc, trees.len())?;
@@ -44,15 +46,16 @@ fn properties_of(alloc: Global, trees: &[Tree]) -> Result<List<Content>, Unread>
 }
 
 /// The relationship that members declare.
-fn relationship_in(alloc: Global, members: &[Member]) -> Result<ContentKind, Unread>
+fn relationship_in(alloc: Global, members: &[Member]) -> Result<ContentKind, OutOfMemory>
+    requires { RelationshipShape (members_view members.now) }
     ensures kind { IfOk result (λ k. AreKind position.Content (kind_term k) (members_view members.now)) }
     ensures named { IfOk result (λ k. type_of_kind (kind_term k) ≡ element.Relationship) }
 {
     let target = optional_id(alloc, members, "target")?;
-    let entries = entries_at(members, "properties")?;
+    let entries = entries_at(members, "properties");
     let properties = properties_of(alloc, entries)?;
-    let max = max_at(members)?;
-    let writable = is_writable(members)?;
+    let max = max_at(members);
+    let writable = is_writable(members);
     Ok(ContentKind::Relationship {
         target,
         properties,
@@ -62,7 +65,8 @@ fn relationship_in(alloc: Global, members: &[Member]) -> Result<ContentKind, Unr
 }
 
 /// What a content with these members is.
-fn kind_in(alloc: Global, members: &[Member]) -> Result<ContentKind, Unread>
+fn kind_in(alloc: Global, members: &[Member]) -> Result<ContentKind, OutOfMemory>
+    requires { KindShape (type_of position.Content (members_view members.now)) (members_view members.now) }
     ensures kind { IfOk result (λ k. AreKind position.Content (kind_term k) (members_view members.now)) }
     ensures named { IfOk result (λ k. type_of position.Content (members_view members.now) ≡ Some (type_of_kind (kind_term k))) }
 {
@@ -72,15 +76,16 @@ fn kind_in(alloc: Global, members: &[Member]) -> Result<ContentKind, Unread>
         Some(Element::Command) => command_in(alloc, members),
         Some(Element::Relationship) => relationship_in(alloc, members),
         Some(Element::Component) => component_in(alloc, members),
-        _ => Err(Unread::Unexpected),
+        _ => unreachable!(),
     }
 }
 
 /// The content that a value declares.
-fn content_of(alloc: Global, tree: &Tree) -> Result<Content, Unread>
+fn content_of(alloc: Global, tree: &Tree) -> Result<Content, OutOfMemory>
+    requires { IsSoundContent (view tree.now) }
     ensures { IfOk result (λ c. AreContents (contents_term (c ∷ [])) (elements_view (tree.now ∷ []))) }
 {
-    let members = members_of(tree)?;
+    let members = members_of(tree);
     let name = name_at(alloc, members, "name")?;
     let common = common_of(alloc, members)?;
     let kind = kind_in(alloc, members)?;
@@ -88,7 +93,8 @@ fn content_of(alloc: Global, tree: &Tree) -> Result<Content, Unread>
 }
 
 /// The contents that the entries of a list declare.
-fn contents_of(alloc: Global, trees: &[Tree]) -> Result<List<Content>, Unread>
+fn contents_of(alloc: Global, trees: &[Tree]) -> Result<List<Content>, OutOfMemory>
+    requires { EachIs IsSoundContent (elements_view trees.now) }
     ensures { IfOk result (λ cs. AreContents (contents_term cs) (elements_view trees.now)) }
 {
     let mut contents = Vec::with_capacity(alloc, trees.len())?;
@@ -99,9 +105,10 @@ fn contents_of(alloc: Global, trees: &[Tree]) -> Result<List<Content>, Unread>
 }
 
 /// The contents of an interface.
-pub fn contents_at(alloc: Global, members: &[Member]) -> Result<List<Content>, Unread>
+pub fn contents_at(alloc: Global, members: &[Member]) -> Result<List<Content>, OutOfMemory>
+    requires { MayHave (IsListOf IsSoundContent) (codes "contents") (members_view members.now) }
     ensures { IfOk result (λ cs. HasContents (value_at (codes "contents") (members_view members.now)) (contents_term cs)) }
 {
-    let entries = entries_at(members, "contents")?;
+    let entries = entries_at(members, "contents");
     contents_of(alloc, entries)
 }

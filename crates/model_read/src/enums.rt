@@ -2,48 +2,52 @@
 
 ghost use Rattle.std.specs.Prelude.{◌≡◌, ◌∷◌, [], IfOk, codes};
 ghost use Rattle.json_decimal.specs.Decimals.{number_of};
-ghost use Rattle.json_tree.specs.Values.{number};
+ghost use Rattle.json_tree.specs.Values.{number, text};
 ghost use Rattle.json_tree.specs.View.{view, members_view, elements_view};
 ghost use Rattle.model_read.specs.Declarations.{IsEnumValue, AreEnumEntry, AreEnumEntries, HasText, value_schema};
+ghost use Rattle.model_read.specs.Shapes.{CanBeEnumValue, CanBeValueSchema, EachIs, EnumEntryShape, Has, IsSoundEnumEntry};
 
 use crate::common::common_of;
-use crate::end::Unread;
 use crate::parts::{members_of, wanted};
-use crate::texts::{bytes_of, name_at, text_of};
-use dt_base::List;
+use crate::texts::{bytes_of, name_at};
+use dt_base::{List, OutOfMemory};
 use dtdl_terms::{EnumEntry, EnumValue};
 use json_decimal::Decimal;
 use json_tree::{Member, Tree};
 use std::alloc::Global;
 
 /// The enum value that a number is.
-fn number_value(decimal: &Decimal) -> Result<EnumValue, Unread>
-    ensures { IfOk result (λ v. IsEnumValue (number (number_of decimal.now)) v) }
+fn number_value(decimal: &Decimal) -> EnumValue
+    requires { CanBeEnumValue (number (number_of decimal.now)) }
+    ensures { IsEnumValue (number (number_of decimal.now)) result }
 {
     match decimal.as_i32() {
-        Some(whole) => Ok(EnumValue::Number(whole)),
-        None => Err(Unread::Unexpected),
+        Some(whole) => EnumValue::Number(whole),
+        None => unreachable!(),
     }
 }
 
 /// The enum value that a value is.
 #[tactic(auto, using(local_rules::proofs::Views::views))]
-fn enum_value_of(alloc: Global, tree: &Tree) -> Result<EnumValue, Unread>
+fn enum_value_of(alloc: Global, tree: &Tree) -> Result<EnumValue, OutOfMemory>
+    requires { CanBeEnumValue (view tree.now) }
     ensures { IfOk result (λ v. IsEnumValue (view tree.now) v) }
 {
     match tree {
-        Tree::Number(number) => number_value(number),
-        _ => Ok(EnumValue::Word(text_of(alloc, tree)?)),
+        Tree::Number(number) => Ok(number_value(number)),
+        Tree::Text(text) => Ok(EnumValue::Word(text.copy(alloc)?)),
+        Tree::Null | Tree::Bool(_) | Tree::List(_) | Tree::Members(_) => unreachable!(),
     }
 }
 
 /// The entry of an enumeration that members declare.
-fn enum_entry_in(alloc: Global, members: &[Member]) -> Result<EnumEntry, Unread>
+fn enum_entry_in(alloc: Global, members: &[Member]) -> Result<EnumEntry, OutOfMemory>
+    requires { EnumEntryShape (members_view members.now) }
     ensures { IfOk result (λ e. AreEnumEntry (members_view members.now) e) }
 {
     let name = name_at(alloc, members, "name")?;
     let common = common_of(alloc, members)?;
-    let value = enum_value_of(alloc, wanted(members, "enumValue")?)?;
+    let value = enum_value_of(alloc, wanted(members, "enumValue"))?;
     Ok(EnumEntry {
         name,
         common,
@@ -52,14 +56,16 @@ fn enum_entry_in(alloc: Global, members: &[Member]) -> Result<EnumEntry, Unread>
 }
 
 /// The entry of an enumeration that a value declares.
-fn enum_entry_of(alloc: Global, tree: &Tree) -> Result<EnumEntry, Unread>
+fn enum_entry_of(alloc: Global, tree: &Tree) -> Result<EnumEntry, OutOfMemory>
+    requires { IsSoundEnumEntry (view tree.now) }
     ensures { IfOk result (λ e. AreEnumEntries (elements_view (tree.now ∷ [])) (e ∷ [])) }
 {
-    enum_entry_in(alloc, members_of(tree)?)
+    enum_entry_in(alloc, members_of(tree))
 }
 
 /// The entries of an enumeration.
-pub fn enum_entries_of(alloc: Global, trees: &[Tree]) -> Result<List<EnumEntry>, Unread>
+pub fn enum_entries_of(alloc: Global, trees: &[Tree]) -> Result<List<EnumEntry>, OutOfMemory>
+    requires { EachIs IsSoundEnumEntry (elements_view trees.now) }
     ensures { IfOk result (λ es. AreEnumEntries (elements_view trees.now) es) }
 {
     let mut entries = Vec::with_capacity(alloc, trees.len())?;
@@ -70,21 +76,23 @@ pub fn enum_entries_of(alloc: Global, trees: &[Tree]) -> Result<List<EnumEntry>,
 }
 
 /// Whether a name of `valueSchema` asks for texts.
-fn asks_for_text(name: &str) -> Result<bool, Unread>
-    ensures { IfOk result (λ of_text. name.now ≡ value_schema of_text) }
+fn asks_for_text(name: &str) -> bool
+    requires { CanBeValueSchema (text name.now) }
+    ensures { name.now ≡ value_schema result }
 {
     match name {
-        "string" => Ok(true),
-        "integer" => Ok(false),
-        _ => Err(Unread::Unexpected),
+        "string" => true,
+        "integer" => false,
+        _ => unreachable!(),
     }
 }
 
 /// Whether the values of an enumeration are texts.
-pub fn is_of_text(members: &[Member]) -> Result<bool, Unread>
-    ensures { IfOk result (λ of_text. HasText (codes "valueSchema") (members_view members.now) (value_schema of_text)) }
+pub fn is_of_text(members: &[Member]) -> bool
+    requires { Has CanBeValueSchema (codes "valueSchema") (members_view members.now) }
+    ensures { HasText (codes "valueSchema") (members_view members.now) (value_schema result) }
 {
-    let value = wanted(members, "valueSchema")?;
-    let name = bytes_of(value)?;
+    let value = wanted(members, "valueSchema");
+    let name = bytes_of(value);
     asks_for_text(name)
 }

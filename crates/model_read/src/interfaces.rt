@@ -1,20 +1,18 @@
 //! Interfaces.
 
-ghost use Rattle.std.specs.Prelude.{◌≡◌, map, Some, IfOk, codes};
-ghost use Rattle.dtmi_name.specs.Grammar.{dtmi_text};
-ghost use Rattle.json_tree.specs.Values.{text};
+ghost use Rattle.std.specs.Prelude.{map, Some, IfOk, codes};
 ghost use Rattle.json_tree.specs.View.{view, members_view, elements_view};
 ghost use Rattle.local_rules.specs.Members.{value_at};
 ghost use Rattle.dtdl_terms.specs.TermViews.{schema_term};
-ghost use Rattle.model_read.specs.Declarations.{AreInterface, AreSchemas, HasParents, HasSchemas};
+ghost use Rattle.model_read.specs.Declarations.{AreIdentifiers, AreInterface, AreSchemas, HasParents, HasSchemas};
+ghost use Rattle.model_read.specs.Shapes.{CanBeId, EachIs, InterfaceShape, IsListOf, IsParents, IsSoundSchema, MayHave};
 
 use crate::contents::contents_at;
-use crate::end::Unread;
 use crate::localized::localized_at;
 use crate::parts::{entries_at, entries_of};
 use crate::schemas::schema_of;
 use crate::texts::{id_at, id_of, optional_text};
-use dt_base::List;
+use dt_base::{List, OutOfMemory};
 use dtdl_terms::{Interface, Schema};
 use dtmi_name::Dtmi;
 use json_tree::{Member, Tree};
@@ -22,8 +20,9 @@ use local_rules::value_at;
 use std::alloc::Global;
 
 /// The identifiers that the entries of a list are.
-fn ids_of(alloc: Global, trees: &[Tree]) -> Result<List<Dtmi>, Unread>
-    ensures { IfOk result (λ ids. map view trees.now ≡ map (λ id. text (dtmi_text id)) ids) }
+fn ids_of(alloc: Global, trees: &[Tree]) -> Result<List<Dtmi>, OutOfMemory>
+    requires { EachIs CanBeId (elements_view trees.now) }
+    ensures { IfOk result (λ ids. AreIdentifiers (elements_view trees.now) ids) }
 {
     let mut ids = Vec::with_capacity(alloc, trees.len())?;
     for tree in trees {
@@ -33,15 +32,17 @@ fn ids_of(alloc: Global, trees: &[Tree]) -> Result<List<Dtmi>, Unread>
 }
 
 /// The parents that a list names.
-fn listed_parents(alloc: Global, tree: &Tree) -> Result<List<Dtmi>, Unread>
+fn listed_parents(alloc: Global, tree: &Tree) -> Result<List<Dtmi>, OutOfMemory>
+    requires { IsListOf CanBeId (view tree.now) }
     ensures { IfOk result (λ ids. HasParents (Some (view tree.now)) ids) }
 {
-    let entries = entries_of(tree)?;
+    let entries = entries_of(tree);
     ids_of(alloc, entries)
 }
 
 /// The one parent that a text names.
-fn one_parent(alloc: Global, tree: &Tree) -> Result<List<Dtmi>, Unread>
+fn one_parent(alloc: Global, tree: &Tree) -> Result<List<Dtmi>, OutOfMemory>
+    requires { CanBeId (view tree.now) }
     ensures { IfOk result (λ ids. HasParents (Some (view tree.now)) ids) }
 {
     let id = id_of(alloc, tree)?;
@@ -51,7 +52,8 @@ fn one_parent(alloc: Global, tree: &Tree) -> Result<List<Dtmi>, Unread>
 }
 
 /// The parents that a value of `extends` names.
-fn parents_of(alloc: Global, tree: &Tree) -> Result<List<Dtmi>, Unread>
+fn parents_of(alloc: Global, tree: &Tree) -> Result<List<Dtmi>, OutOfMemory>
+    requires { IsParents (view tree.now) }
     ensures { IfOk result (λ ids. HasParents (Some (view tree.now)) ids) }
 {
     match tree {
@@ -61,7 +63,8 @@ fn parents_of(alloc: Global, tree: &Tree) -> Result<List<Dtmi>, Unread>
 }
 
 /// The parents of an interface.
-fn parents_at(alloc: Global, members: &[Member]) -> Result<List<Dtmi>, Unread>
+fn parents_at(alloc: Global, members: &[Member]) -> Result<List<Dtmi>, OutOfMemory>
+    requires { MayHave IsParents (codes "extends") (members_view members.now) }
     ensures { IfOk result (λ ids. HasParents (value_at (codes "extends") (members_view members.now)) ids) }
 {
     match value_at(members, "extends") {
@@ -71,7 +74,8 @@ fn parents_at(alloc: Global, members: &[Member]) -> Result<List<Dtmi>, Unread>
 }
 
 /// The schemas that the entries of a list are.
-fn schemas_of(alloc: Global, trees: &[Tree]) -> Result<List<Schema>, Unread>
+fn schemas_of(alloc: Global, trees: &[Tree]) -> Result<List<Schema>, OutOfMemory>
+    requires { EachIs IsSoundSchema (elements_view trees.now) }
     ensures { IfOk result (λ ss. AreSchemas (elements_view trees.now) (map schema_term ss)) }
 {
     let mut schemas = Vec::with_capacity(alloc, trees.len())?;
@@ -82,15 +86,17 @@ fn schemas_of(alloc: Global, trees: &[Tree]) -> Result<List<Schema>, Unread>
 }
 
 /// The schemas that an interface declares for use by their identifiers.
-fn schemas_at(alloc: Global, members: &[Member]) -> Result<List<Schema>, Unread>
+fn schemas_at(alloc: Global, members: &[Member]) -> Result<List<Schema>, OutOfMemory>
+    requires { MayHave (IsListOf IsSoundSchema) (codes "schemas") (members_view members.now) }
     ensures { IfOk result (λ ss. HasSchemas (value_at (codes "schemas") (members_view members.now)) (map schema_term ss)) }
 {
-    let entries = entries_at(members, "schemas")?;
+    let entries = entries_at(members, "schemas");
     schemas_of(alloc, entries)
 }
 
 /// The interface that members declare.
-pub fn interface_in(alloc: Global, members: &[Member]) -> Result<Interface, Unread>
+pub fn interface_in(alloc: Global, members: &[Member]) -> Result<Interface, OutOfMemory>
+    requires { InterfaceShape (members_view members.now) }
     ensures { IfOk result (λ i. AreInterface (members_view members.now) i) }
 {
     let id = id_at(alloc, members, "@id")?;

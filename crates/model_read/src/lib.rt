@@ -7,6 +7,7 @@ mod end;
 mod enums;
 mod interfaces;
 mod kinds;
+mod laws;
 mod localized;
 mod parts;
 mod places;
@@ -16,6 +17,7 @@ mod semantics;
 mod texts;
 
 pub use end::LocalEnd;
+pub use laws::one_declaration;
 pub use read::read_interfaces;
 
 #[cfg(test)]

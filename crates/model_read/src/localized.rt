@@ -3,18 +3,20 @@
 ghost use Rattle.std.specs.Prelude.{◌≡◌, [], ◌∷◌, Some, IfOk, codes};
 ghost use Rattle.json_tree.specs.View.{view, members_view};
 ghost use Rattle.local_rules.specs.Members.{value_at};
+ghost use Rattle.local_rules.specs.Quantities.{IsWord};
 ghost use Rattle.model_read.specs.Declarations.{AreEntries, IsLocalizedBy, HasLocalized};
+ghost use Rattle.model_read.specs.Shapes.{AreWords, IsWords, MayHave};
 
-use crate::end::Unread;
 use crate::texts::text_of;
-use dt_base::{List, Text};
+use dt_base::{List, OutOfMemory, Text};
 use dtdl_terms::{Entry, Localized};
 use json_tree::{Member, Tree};
 use local_rules::value_at;
 use std::alloc::Global;
 
 /// The text of one language.
-fn entry_of(alloc: Global, member: &Member) -> Result<Entry, Unread>
+fn entry_of(alloc: Global, member: &Member) -> Result<Entry, OutOfMemory>
+    requires { IsWord (view member.now.value) }
     ensures { IfOk result (λ e. AreEntries (members_view (member.now ∷ [])) (e ∷ [])) }
 {
     let language = member.key.copy(alloc)?;
@@ -23,7 +25,8 @@ fn entry_of(alloc: Global, member: &Member) -> Result<Entry, Unread>
 }
 
 /// The texts of the languages that the members name.
-fn entries_of(alloc: Global, members: &[Member]) -> Result<List<Entry>, Unread>
+fn entries_of(alloc: Global, members: &[Member]) -> Result<List<Entry>, OutOfMemory>
+    requires { AreWords (members_view members.now) }
     ensures { IfOk result (λ es. AreEntries (members_view members.now) es) }
 {
     let mut entries = Vec::with_capacity(alloc, members.len())?;
@@ -34,7 +37,7 @@ fn entries_of(alloc: Global, members: &[Member]) -> Result<List<Entry>, Unread>
 }
 
 /// The language of a text that stands without one (DTDL v2, "Internationalization").
-fn english(alloc: Global, text: &Text) -> Result<List<Entry>, Unread>
+fn english(alloc: Global, text: &Text) -> Result<List<Entry>, OutOfMemory>
     ensures { IfOk result (λ es. es ≡ record { language = codes "en"; text = text.now } ∷ []) }
 {
     let mut entries = List::new(alloc);
@@ -47,18 +50,20 @@ fn english(alloc: Global, text: &Text) -> Result<List<Entry>, Unread>
 
 /// The localized text that a value is.
 #[tactic(auto, using(local_rules::proofs::Views::views))]
-fn localized_of(alloc: Global, tree: &Tree) -> Result<List<Entry>, Unread>
+fn localized_of(alloc: Global, tree: &Tree) -> Result<List<Entry>, OutOfMemory>
+    requires { IsWords (view tree.now) }
     ensures { IfOk result (λ es. IsLocalizedBy (view tree.now) es) }
 {
     match tree {
         Tree::Text(text) => english(alloc, text),
         Tree::Members(members) => entries_of(alloc, members.as_slice()),
-        _ => Err(Unread::Unexpected),
+        Tree::Null | Tree::Bool(_) | Tree::Number(_) | Tree::List(_) => unreachable!(),
     }
 }
 
 /// The localized text under a key; without entries where there is none.
-pub fn localized_at(alloc: Global, members: &[Member], key: &str) -> Result<Localized, Unread>
+pub fn localized_at(alloc: Global, members: &[Member], key: &str) -> Result<Localized, OutOfMemory>
+    requires { MayHave IsWords key.now (members_view members.now) }
     ensures { IfOk result (λ l. HasLocalized key.now (members_view members.now) l.entries) }
 {
     match value_at(members, key) {

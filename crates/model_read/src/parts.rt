@@ -1,53 +1,61 @@
 //! The parts of values.
 
-ghost use Rattle.std.specs.Prelude.{◌≡◌, Some, IfOk};
+ghost use Rattle.std.specs.Prelude.{◌≡◌, ◌≢◌, Some, None};
 ghost use Rattle.json_tree.specs.Values.{array, object};
 ghost use Rattle.json_tree.specs.View.{view, members_view, elements_view};
 ghost use Rattle.local_rules.specs.Members.{value_at};
 ghost use Rattle.model_read.specs.Declarations.{AreEntriesOf};
+ghost use Rattle.model_read.specs.Shapes.{IsArray, IsObject, MayHave};
 
-use crate::end::Unread;
 use json_tree::{Member, Tree};
 use local_rules::value_at;
 
 /// The members of an object.
 #[tactic(auto, using(local_rules::proofs::Views::views))]
-pub fn members_of(tree: &Tree) -> Result<&[Member], Unread>
-    ensures { IfOk result (λ ms. view tree.now ≡ object (members_view ms.now)) }
+pub fn members_of(tree: &Tree) -> &[Member]
+    requires { IsObject (view tree.now) }
+    ensures { view tree.now ≡ object (members_view result.now) }
 {
     match tree {
-        Tree::Members(members) => Ok(members.as_slice()),
-        _ => Err(Unread::Unexpected),
+        Tree::Members(members) => members.as_slice(),
+        Tree::Null | Tree::Bool(_) | Tree::Number(_) | Tree::Text(_) | Tree::List(_) => {
+            unreachable!()
+        }
     }
 }
 
 /// The entries of a list.
 #[tactic(auto, using(local_rules::proofs::Views::views))]
-pub fn entries_of(tree: &Tree) -> Result<&[Tree], Unread>
-    ensures { IfOk result (λ vs. view tree.now ≡ array (elements_view vs.now)) }
+pub fn entries_of(tree: &Tree) -> &[Tree]
+    requires { IsArray (view tree.now) }
+    ensures { view tree.now ≡ array (elements_view result.now) }
 {
     match tree {
-        Tree::List(entries) => Ok(entries.as_slice()),
-        _ => Err(Unread::Unexpected),
+        Tree::List(entries) => entries.as_slice(),
+        Tree::Null | Tree::Bool(_) | Tree::Number(_) | Tree::Text(_) | Tree::Members(_) => {
+            unreachable!()
+        }
     }
 }
 
 /// The value under a key that each such object has.
-pub fn wanted<'a>(members: &'a [Member], key: &str) -> Result<&'a Tree, Unread>
-    ensures { IfOk result (λ t. value_at key.now (members_view members.now) ≡ Some (view t.now)) }
+pub fn wanted<'a>(members: &'a [Member], key: &str) -> &'a Tree
+    requires { value_at key.now (members_view members.now) ≢ None }
+    ensures { value_at key.now (members_view members.now) ≡ Some (view result.now) }
 {
     match value_at(members, key) {
-        Some(value) => Ok(value),
-        None => Err(Unread::Unexpected),
+        Some(value) => value,
+        None => unreachable!(),
     }
 }
 
 /// The entries of the list under a key; none where there is no such member.
-pub fn entries_at<'a>(members: &'a [Member], key: &str) -> Result<&'a [Tree], Unread>
-    ensures { IfOk result (λ vs. AreEntriesOf (value_at key.now (members_view members.now)) (elements_view vs.now)) }
+pub fn entries_at<'a>(members: &'a [Member], key: &str) -> &'a [Tree]
+    requires { MayHave IsArray key.now (members_view members.now) }
+    ensures { AreEntriesOf (value_at key.now (members_view members.now)) (elements_view result.now) }
 {
     match value_at(members, key) {
         Some(value) => entries_of(value),
-        None => Ok(&[]),
+        None => &[],
     }
 }

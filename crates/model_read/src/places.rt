@@ -1,12 +1,11 @@
 //! Where the members of an interface stand.
 
-ghost use Rattle.std.specs.Prelude.{◌≡◌, ◌↔◌, ℕ, List, Some, IsTrue, IfOk, codes};
+ghost use Rattle.std.specs.Prelude.{◌≡◌, ◌≢◌, ◌↔◌, ℕ, List, Some, None, IsTrue, codes};
 ghost use Rattle.json_tree.specs.Values.{text};
 ghost use Rattle.json_tree.specs.View.{view, members_view};
 ghost use Rattle.local_rules.specs.Members.{value_at};
 ghost use Rattle.model_read.specs.Uploads.{HasOrdinal};
 
-use crate::end::Unread;
 use json_tree::{Member, Tree};
 use local_rules::value_at;
 
@@ -23,12 +22,13 @@ pub fn ordinal_at(members: &[Member], key: &str) -> Option<u64>
 }
 
 /// The ordinal of a member that each such object has.
-pub fn wanted_ordinal(members: &[Member], key: &str) -> Result<u64, Unread>
-    ensures { IfOk result (λ at. HasOrdinal key.now (members_view members.now) (Some at)) }
+pub fn wanted_ordinal(members: &[Member], key: &str) -> u64
+    requires { value_at key.now (members_view members.now) ≢ None }
+    ensures { HasOrdinal key.now (members_view members.now) (Some result) }
 {
     match ordinal_at(members, key) {
-        Some(at) => Ok(at),
-        None => Err(Unread::Unexpected),
+        Some(at) => at,
+        None => unreachable!(),
     }
 }
 

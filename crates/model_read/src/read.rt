@@ -1,17 +1,20 @@
 //! Reading a document.
 
-ghost use Rattle.std.specs.Prelude.{◌≡◌, ◌∷◌, [], IfOk};
+ghost use Rattle.std.specs.Prelude.{◌≡◌, ◌∷◌, [], ℕ, List, IfOk};
 ghost use Rattle.json_tree.specs.Values.{Json, array, object};
 ghost use Rattle.json_tree.specs.View.{view, members_view, elements_view};
 ghost use Rattle.json_tree.specs.Faults.{StandsAt};
+ghost use Rattle.local_rules.specs.Breaches.{IsBreach};
+ghost use Rattle.local_rules.specs.declared.rule.LocalRule.{LocalRule};
 ghost use Rattle.model_read.specs.Ends.{IsRightEnd};
 ghost use Rattle.model_read.specs.Uploads.{AreUploaded, AreUploadedFrom, IsUploaded};
+ghost use Rattle.model_read.specs.Shapes.{EachIs, InterfaceShape, IsSoundInterface};
 
-use crate::end::{LocalEnd, Unread};
+use crate::end::LocalEnd;
 use crate::interfaces::interface_in;
 use crate::parts::members_of;
 use crate::places::{has_text, ordinal_at, wanted_ordinal};
-use dt_base::List;
+use dt_base::{List, OutOfMemory};
 use dtdl_terms::Uploaded;
 use json_tree::{Member, Place, Tree, pointer_of};
 use local_faults::{Breach, first_breach};
@@ -25,13 +28,14 @@ fn uploaded_in(
     index: u64,
     document: u32,
     members: &[Member],
-) -> Result<Uploaded, Unread>
-    requires { (part : Json) × StandsAt (view whole.now) place.now.steps part }
+) -> Result<Uploaded, OutOfMemory>
+    requires shaped { InterfaceShape (members_view members.now) }
+    requires placed { (part : Json) × StandsAt (view whole.now) place.now.steps part }
     ensures { IfOk result (λ u. IsUploaded (view whole.now) place.now.steps index document (object (members_view members.now)) u) }
 {
     let interface = interface_in(alloc, members)?;
     let base = pointer_of(alloc, whole, place)?;
-    let id_at = wanted_ordinal(members, "@id")?;
+    let id_at = wanted_ordinal(members, "@id");
     Ok(Uploaded {
         interface,
         document,
@@ -50,8 +54,9 @@ fn one_upload(
     tree: &Tree,
     document: u32,
     members: &[Member],
-) -> Result<List<Uploaded>, Unread>
-    requires { view tree.now ≡ object (members_view members.now) }
+) -> Result<List<Uploaded>, OutOfMemory>
+    requires shaped { InterfaceShape (members_view members.now) }
+    requires whole { view tree.now ≡ object (members_view members.now) }
     ensures { IfOk result (λ us. AreUploaded (view tree.now) document us) }
 {
     let place = Place {
@@ -63,7 +68,7 @@ fn one_upload(
 }
 
 /// The place of an entry of a document that is a list.
-fn place_of(alloc: Global, at: u64) -> Result<Place, Unread>
+fn place_of(alloc: Global, at: u64) -> Result<Place, OutOfMemory>
     ensures { IfOk result (λ p. p.steps ≡ at ∷ []) }
 {
     let mut steps = List::new(alloc);
@@ -78,11 +83,12 @@ fn uploaded_at(
     at: u64,
     document: u32,
     entry: &Tree,
-) -> Result<Uploaded, Unread>
-    requires { StandsAt (view whole.now) (at ∷ []) (view entry.now) }
+) -> Result<Uploaded, OutOfMemory>
+    requires sound { IsSoundInterface (view entry.now) }
+    requires placed { StandsAt (view whole.now) (at ∷ []) (view entry.now) }
     ensures { IfOk result (λ u. IsUploaded (view whole.now) (at ∷ []) at document (view entry.now) u) }
 {
-    let members = members_of(entry)?;
+    let members = members_of(entry);
     let place = place_of(alloc, at)?;
     uploaded_in(alloc, whole, &place, at, document, members)
 }
@@ -93,8 +99,9 @@ fn uploads_of(
     whole: &Tree,
     document: u32,
     entries: &[Tree],
-) -> Result<List<Uploaded>, Unread>
-    requires { view whole.now ≡ array (elements_view entries.now) }
+) -> Result<List<Uploaded>, OutOfMemory>
+    requires sound { EachIs IsSoundInterface (elements_view entries.now) }
+    requires whole { view whole.now ≡ array (elements_view entries.now) }
     ensures { IfOk result (λ us. AreUploadedFrom (view whole.now) 0 document (elements_view entries.now) us) }
 {
     let mut uploads = Vec::with_capacity(alloc, entries.len())?;
@@ -106,13 +113,14 @@ fn uploads_of(
 
 /// The interfaces of a document.
 #[tactic(auto, using(local_rules::proofs::Views::views))]
-fn uploads_in(alloc: Global, tree: &Tree, document: u32) -> Result<List<Uploaded>, Unread>
+fn uploads_in(alloc: Global, tree: &Tree, document: u32) -> Result<List<Uploaded>, OutOfMemory>
+    requires { (place : List ℕ) (broken : LocalRule) → IsBreach (view tree.now) place broken → ⊥ }
     ensures { IfOk result (λ us. AreUploaded (view tree.now) document us) }
 {
     match tree {
         Tree::Members(members) => one_upload(alloc, tree, document, members.as_slice()),
         Tree::List(entries) => uploads_of(alloc, tree, document, entries.as_slice()),
-        _ => Err(Unread::Unexpected),
+        Tree::Null | Tree::Bool(_) | Tree::Number(_) | Tree::Text(_) => unreachable!(),
     }
 }
 
@@ -120,8 +128,7 @@ fn uploads_in(alloc: Global, tree: &Tree, document: u32) -> Result<List<Uploaded
 /// interfaces (DTDL v2, "Interface"; the list is this project's own). `document` is written into each of them.
 ///
 /// `Fault` comes with the first breach of the local rules, and exactly where there is one and enough memory.
-/// `OutOfMemory` says nothing of the document. It would also stand for a value of an unexpected shape, which no
-/// document has that breaks no local rule: tests show this, and no contract does yet.
+/// `OutOfMemory` says nothing of the document.
 pub fn read_interfaces(
     alloc: Global,
     tree: &Tree,
@@ -134,6 +141,5 @@ pub fn read_interfaces(
         let Breach { place, rule } = breach;
         return Err(LocalEnd::Fault { place, rule });
     }
-    // Behind this no value has an unexpected shape, so that `Unexpected` cannot come.
     Ok(uploads_in(alloc, tree, document)?)
 }

@@ -1,45 +1,47 @@
 //! Schemas, and payloads, which have schemas.
 
-ghost use Rattle.std.specs.Prelude.{◌≡◌, ◌∷◌, [], Some, IfOk};
+ghost use Rattle.std.specs.Prelude.{◌≡◌, Some, IfOk};
 ghost use Rattle.json_tree.specs.Values.{text, object};
 ghost use Rattle.json_tree.specs.View.{view, members_view, elements_view};
 ghost use Rattle.dtdl_terms.specs.TermViews.{schema_term, payload_term, payloads_term};
+ghost use Rattle.local_rules.specs.Levels.{IsPrimitive};
 ghost use Rattle.local_rules.specs.Roles.{type_of};
 ghost use Rattle.local_rules.specs.declared.role.Element.TheVariants as element;
 ghost use Rattle.local_rules.specs.declared.role.Position.TheVariants as position;
 ghost use Rattle.model_read.specs.Declarations.{IsSchema, IsPayload, ArePayloads, HasSchema, HasPayload};
+ghost use Rattle.model_read.specs.Shapes.{ArrayShape, CanBeId, EachIs, EnumerationShape, Has, IsSoundPayload, IsSoundSchema, MapShape, ObjectShape, SchemaShape};
 
 use crate::common::common_of;
-use crate::end::Unread;
 use crate::enums::{enum_entries_of, is_of_text};
 use crate::parts::{entries_of, members_of, wanted};
-use crate::texts::name_at;
-use dt_base::List;
+use crate::texts::{id_in, name_at};
+use dt_base::{List, OutOfMemory};
 use dtdl_terms::{Boxed, Payload, Schema, primitive_named};
-use dtmi_name::Dtmi;
 use json_tree::{Member, Tree};
 use local_rules::{Element, Position, type_of};
 use std::alloc::Global;
 
 /// The schema of this name: a primitive, or one that is declared elsewhere.
 #[tactic(auto, using(dtdl_terms::proofs::TermViews::terms))]
-fn schema_named(alloc: Global, name: &str) -> Result<Schema, Unread>
+fn schema_named(alloc: Global, name: &str) -> Result<Schema, OutOfMemory>
+    requires { (IsPrimitive name.now → ⊥) → CanBeId (text name.now) }
     ensures { IfOk result (λ s. IsSchema (schema_term s) (text name.now)) }
 {
     match primitive_named(name) {
         Some(primitive) => Ok(Schema::Primitive(primitive)),
-        None => Ok(Schema::Named(Dtmi::read(alloc, name)?)),
+        None => Ok(Schema::Named(id_in(alloc, name)?)),
     }
 }
 
 /// The enumeration that members declare.
-fn enumeration_in(alloc: Global, members: &[Member]) -> Result<Schema, Unread>
-    requires { type_of position.Schema (members_view members.now) ≡ Some element.Enumeration }
+fn enumeration_in(alloc: Global, members: &[Member]) -> Result<Schema, OutOfMemory>
+    requires typed { type_of position.Schema (members_view members.now) ≡ Some element.Enumeration }
+    requires shaped { EnumerationShape (members_view members.now) }
     ensures { IfOk result (λ s. IsSchema (schema_term s) (object (members_view members.now))) }
 {
     let common = common_of(alloc, members)?;
-    let of_text = is_of_text(members)?;
-    let values = enum_entries_of(alloc, entries_of(wanted(members, "enumValues")?)?)?;
+    let of_text = is_of_text(members);
+    let values = enum_entries_of(alloc, entries_of(wanted(members, "enumValues")))?;
     Ok(Schema::Enumeration {
         common,
         of_text,
@@ -49,19 +51,21 @@ fn enumeration_in(alloc: Global, members: &[Member]) -> Result<Schema, Unread>
 
 /// The schema that a value is.
 #[cycle(schemas)]
-pub fn schema_of(alloc: Global, tree: &Tree) -> Result<Schema, Unread>
+pub fn schema_of(alloc: Global, tree: &Tree) -> Result<Schema, OutOfMemory>
+    requires { IsSoundSchema (view tree.now) }
     ensures { IfOk result (λ s. IsSchema (schema_term s) (view tree.now)) }
 {
     match tree {
         Tree::Text(name) => schema_named(alloc, name.as_str()),
         Tree::Members(members) => schema_in(alloc, members.as_slice()),
-        _ => Err(Unread::Unexpected),
+        Tree::Null | Tree::Bool(_) | Tree::Number(_) | Tree::List(_) => unreachable!(),
     }
 }
 
 /// The schema that members declare.
 #[cycle(schemas)]
-fn schema_in(alloc: Global, members: &[Member]) -> Result<Schema, Unread>
+fn schema_in(alloc: Global, members: &[Member]) -> Result<Schema, OutOfMemory>
+    requires { SchemaShape (type_of position.Schema (members_view members.now)) (members_view members.now) }
     ensures { IfOk result (λ s. IsSchema (schema_term s) (object (members_view members.now))) }
 {
     match type_of(Position::Schema, members) {
@@ -69,13 +73,14 @@ fn schema_in(alloc: Global, members: &[Member]) -> Result<Schema, Unread>
         Some(Element::Enumeration) => enumeration_in(alloc, members),
         Some(Element::Map) => map_in(alloc, members),
         Some(Element::Object) => object_in(alloc, members),
-        _ => Err(Unread::Unexpected),
+        _ => unreachable!(),
     }
 }
 
 #[cycle(schemas)]
-fn array_in(alloc: Global, members: &[Member]) -> Result<Schema, Unread>
-    requires { type_of position.Schema (members_view members.now) ≡ Some element.Array }
+fn array_in(alloc: Global, members: &[Member]) -> Result<Schema, OutOfMemory>
+    requires typed { type_of position.Schema (members_view members.now) ≡ Some element.Array }
+    requires shaped { ArrayShape (members_view members.now) }
     ensures { IfOk result (λ s. IsSchema (schema_term s) (object (members_view members.now))) }
 {
     let common = common_of(alloc, members)?;
@@ -85,8 +90,9 @@ fn array_in(alloc: Global, members: &[Member]) -> Result<Schema, Unread>
 }
 
 #[cycle(schemas)]
-fn map_in(alloc: Global, members: &[Member]) -> Result<Schema, Unread>
-    requires { type_of position.Schema (members_view members.now) ≡ Some element.Map }
+fn map_in(alloc: Global, members: &[Member]) -> Result<Schema, OutOfMemory>
+    requires typed { type_of position.Schema (members_view members.now) ≡ Some element.Map }
+    requires shaped { MapShape (members_view members.now) }
     ensures { IfOk result (λ s. IsSchema (schema_term s) (object (members_view members.now))) }
 {
     let common = common_of(alloc, members)?;
@@ -96,41 +102,49 @@ fn map_in(alloc: Global, members: &[Member]) -> Result<Schema, Unread>
 }
 
 #[cycle(schemas)]
-fn object_in(alloc: Global, members: &[Member]) -> Result<Schema, Unread>
-    requires { type_of position.Schema (members_view members.now) ≡ Some element.Object }
+fn object_in(alloc: Global, members: &[Member]) -> Result<Schema, OutOfMemory>
+    requires typed { type_of position.Schema (members_view members.now) ≡ Some element.Object }
+    requires shaped { ObjectShape (members_view members.now) }
     ensures { IfOk result (λ s. IsSchema (schema_term s) (object (members_view members.now))) }
 {
     let common = common_of(alloc, members)?;
-    let fields = wanted(members, "fields")?;
-    let fields = payloads_of(alloc, entries_of(fields)?)?;
+    let fields = wanted(members, "fields");
+    let fields = payloads_of(alloc, entries_of(fields))?;
     Ok(Schema::Object { common, fields })
 }
 
 /// The schema under a key.
 #[cycle(schemas)]
-pub fn schema_at(alloc: Global, members: &[Member], key: &str) -> Result<Schema, Unread>
+pub fn schema_at(alloc: Global, members: &[Member], key: &str) -> Result<Schema, OutOfMemory>
+    requires { Has IsSoundSchema key.now (members_view members.now) }
     ensures { IfOk result (λ s. HasSchema key.now (members_view members.now) (schema_term s)) }
 {
-    let value = wanted(members, key)?;
+    let value = wanted(members, key);
     schema_of(alloc, value)
 }
 
 /// The payload under a key.
 #[cycle(schemas)]
-pub fn payload_at(alloc: Global, members: &[Member], key: &str) -> Result<Boxed<Payload>, Unread>
+pub fn payload_at(
+    alloc: Global,
+    members: &[Member],
+    key: &str,
+) -> Result<Boxed<Payload>, OutOfMemory>
+    requires { Has IsSoundPayload key.now (members_view members.now) }
     ensures { IfOk result (λ p. HasPayload key.now (members_view members.now) (payload_term p)) }
 {
-    let value = wanted(members, key)?;
+    let value = wanted(members, key);
     let payload = payload_of(alloc, value)?;
     Ok(Boxed::new(alloc, payload)?)
 }
 
 /// The payload that a value is.
 #[cycle(schemas)]
-fn payload_of(alloc: Global, tree: &Tree) -> Result<Payload, Unread>
+fn payload_of(alloc: Global, tree: &Tree) -> Result<Payload, OutOfMemory>
+    requires { IsSoundPayload (view tree.now) }
     ensures { IfOk result (λ p. IsPayload (payload_term p) (view tree.now)) }
 {
-    let members = members_of(tree)?;
+    let members = members_of(tree);
     let name = name_at(alloc, members, "name")?;
     let common = common_of(alloc, members)?;
     let schema = schema_at(alloc, members, "schema")?;
@@ -143,7 +157,8 @@ fn payload_of(alloc: Global, tree: &Tree) -> Result<Payload, Unread>
 
 /// The fields that the entries of a list are.
 #[cycle(schemas)]
-fn payloads_of(alloc: Global, trees: &[Tree]) -> Result<List<Payload>, Unread>
+fn payloads_of(alloc: Global, trees: &[Tree]) -> Result<List<Payload>, OutOfMemory>
+    requires { EachIs IsSoundPayload (elements_view trees.now) }
     ensures { IfOk result (λ ps. ArePayloads (payloads_term ps) (elements_view trees.now)) }
 {
     let mut payloads = Vec::with_capacity(alloc, trees.len())?;

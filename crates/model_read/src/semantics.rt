@@ -1,46 +1,29 @@
 //! Semantic types (DTDL v2, "Semantic types").
 
-ghost use Rattle.std.specs.Prelude.{◌≡◌, ◌∷◌, [], map, Some, IfOk, MatchOption};
+ghost use Rattle.std.specs.Prelude.{◌≡◌, ◌∷◌, [], map, Some, IfOk, codes};
 ghost use Rattle.json_tree.specs.Values.{array, text};
 ghost use Rattle.json_tree.specs.View.{view, members_view, elements_view};
-ghost use Rattle.local_rules.specs.Types.{further};
+ghost use Rattle.local_rules.specs.Types.{MayHaveBeside, further};
+ghost use Rattle.local_rules.specs.declared.role.Element.TheVariants as element;
 ghost use Rattle.model_read.specs.Declarations.{IsSemantic, HasSemantic};
+ghost use Rattle.model_read.specs.Shapes.{CanBe, CanBeTypes, MayHave};
 
-use crate::end::Unread;
 use crate::texts::name_of;
+use dt_base::OutOfMemory;
 use dtmi_name::Name;
 use json_tree::{Member, Tree};
-use local_rules::{Position, type_named, value_at};
+use local_rules::{Further, Position, first_further, value_at};
 use std::alloc::Global;
 
-/// An entry of `@type` and those behind it.
-#[derive(Clone, Copy)]
-struct Further<'a> {
-    entry: &'a Tree,
-    rest: &'a [Tree],
-}
-
-/// The first entry that names no type of the position.
-fn first_further(position: Position, entries: &[Tree]) -> Option<Further<'_>>
-    ensures { MatchOption result (further position (map view entries.now) ≡ []) (λ found. further position (map view entries.now) ≡ view found.entry.now ∷ further position (map view found.rest.now)) }
-{
-    for (at, entry) in entries.iter().enumerate() {
-        if type_named(position, entry).is_none() {
-            let rest = &entries[at + 1..];
-            return Some(Further { entry, rest });
-        }
-    }
-    None
-}
-
 /// The name that a further entry is, with none behind it.
-fn only_name(alloc: Global, position: Position, found: &Further) -> Result<Name, Unread>
+fn only_name(alloc: Global, position: Position, found: &Further) -> Result<Name, OutOfMemory>
+    requires { CanBe (MayHaveBeside element.Property (view found.now.entry.now ∷ further position (map view found.now.rest.now))) }
     ensures name { IfOk result (λ name. view found.now.entry.now ≡ text name) }
     ensures last { IfOk result (λ name. further position (map view found.now.rest.now) ≡ []) }
 {
     match first_further(position, found.rest) {
         None => name_of(alloc, found.entry),
-        Some(_) => Err(Unread::Unexpected),
+        Some(_) => unreachable!(),
     }
 }
 
@@ -50,7 +33,8 @@ fn semantic_among(
     alloc: Global,
     position: Position,
     entries: &[Tree],
-) -> Result<Option<Name>, Unread>
+) -> Result<Option<Name>, OutOfMemory>
+    requires { CanBe (MayHaveBeside element.Property (further position (map view entries.now))) }
     ensures { IfOk result (λ s. IsSemantic position (Some (array (elements_view entries.now))) s) }
 {
     match first_further(position, entries) {
@@ -61,7 +45,8 @@ fn semantic_among(
 
 /// The semantic type that a value of `@type` names.
 #[tactic(auto, using(local_rules::proofs::Views::views))]
-fn semantic_of(alloc: Global, position: Position, tree: &Tree) -> Result<Option<Name>, Unread>
+fn semantic_of(alloc: Global, position: Position, tree: &Tree) -> Result<Option<Name>, OutOfMemory>
+    requires { CanBeTypes position (view tree.now) }
     ensures { IfOk result (λ s. IsSemantic position (Some (view tree.now)) s) }
 {
     match tree {
@@ -79,7 +64,8 @@ pub fn semantic_at(
     alloc: Global,
     position: Position,
     members: &[Member],
-) -> Result<Option<Name>, Unread>
+) -> Result<Option<Name>, OutOfMemory>
+    requires { MayHave (CanBeTypes position) (codes "@type") (members_view members.now) }
     ensures { IfOk result (λ s. HasSemantic position (members_view members.now) s) }
 {
     match value_at(members, "@type") {

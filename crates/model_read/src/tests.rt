@@ -76,6 +76,49 @@ fn reads_every_kind_of_element(rt: HostRuntime) -> Result<(), Fail> {
     Ok(())
 }
 
+#[test]
+fn copies_every_kind_of_element(rt: HostRuntime) -> Result<(), Fail> {
+    let alloc = rt.alloc();
+    for (text, ..) in DOCUMENTS {
+        let tree = json_tree::read(alloc, text.as_bytes())?;
+        for uploaded in read_interfaces(alloc, &tree, 1)?.as_slice() {
+            let copy = uploaded.copy(alloc)?;
+            let got = format!(in alloc; "{copy:?}")?;
+            let want = format!(in alloc; "{uploaded:?}")?;
+            assert_eq!(rt; got.as_str(), want.as_str());
+        }
+    }
+    Ok(())
+}
+
+/// Documents, and of each the place and the code of its first breach.
+const BREACHES: [(&str, &[u64], &str); 3] = [
+    (r#"[{"@id":"dtmi:a;1"}]"#, &[0], "MissingKey"),
+    (
+        r#"{"@context":"dtmi:dtdl:context;2","@id":"dtmi:a;1","@type":"Interface","extends":["x",5]}"#,
+        &[3, 0],
+        "BadId",
+    ),
+    (
+        r#"{"@context":"dtmi:dtdl:context;2","@id":"dtmi:a;1","@type":"Interface","schemas":[{"@id":"dtmi:s;1","@type":"Array","elementSchema":"dtmi:s;1"}]}"#,
+        &[3, 0],
+        "TooDeep",
+    ),
+];
+
+#[test]
+fn finds_the_first_breach(rt: HostRuntime) -> Result<(), Fail> {
+    for (text, place, code) in BREACHES {
+        let tree = json_tree::read(rt.alloc(), text.as_bytes())?;
+        let Some(breach) = local_faults::first_breach(rt.alloc(), &tree)? else {
+            panic!(rt; "no breach in {text}")
+        };
+        assert_eq!(rt; breach.place.steps.as_slice(), place);
+        assert_eq!(rt; breach.rule.text(), code);
+    }
+    Ok(())
+}
+
 fn is_fault(end: &Result<List<Uploaded>, LocalEnd>) -> bool {
     matches!(end, Err(LocalEnd::Fault { .. }))
 }

@@ -1,77 +1,116 @@
 //! Texts, names and identifiers, as values and under keys.
 
 ghost use Rattle.std.specs.Prelude.{◌≡◌, IfOk};
-ghost use Rattle.dtmi_name.specs.Grammar.{dtmi_text};
+ghost use Rattle.dtmi_name.specs.declared.fault.NameFault.TheVariants as faults;
 ghost use Rattle.json_tree.specs.Values.{text};
 ghost use Rattle.json_tree.specs.View.{view, members_view};
-ghost use Rattle.model_read.specs.Declarations.{HasText, HasOptionalText, HasId, HasOptionalId};
+ghost use Rattle.local_rules.specs.Quantities.{IsWord};
+ghost use Rattle.model_read.specs.Declarations.{IsIdentifier, HasText, HasOptionalText, HasId, HasOptionalId};
+ghost use Rattle.model_read.specs.Shapes.{CanBeId, CanBeName, Has, MayHave};
 
-use crate::end::Unread;
 use crate::parts::wanted;
-use dt_base::Text;
-use dtmi_name::{Dtmi, Name};
+use dt_base::{OutOfMemory, Text};
+use dtmi_name::{Dtmi, Name, NameFault};
 use json_tree::{Member, Tree};
 use local_rules::value_at;
 use std::alloc::Global;
 
 /// The text that a value is.
 #[tactic(auto, using(local_rules::proofs::Views::views))]
-pub fn bytes_of(tree: &Tree) -> Result<&str, Unread>
-    ensures { IfOk result (λ t. view tree.now ≡ text t.now) }
+pub fn bytes_of(tree: &Tree) -> &str
+    requires { IsWord (view tree.now) }
+    ensures { view tree.now ≡ text result.now }
 {
     match tree {
-        Tree::Text(text) => Ok(text.as_str()),
-        _ => Err(Unread::Unexpected),
+        Tree::Text(text) => text.as_str(),
+        Tree::Null | Tree::Bool(_) | Tree::Number(_) | Tree::List(_) | Tree::Members(_) => {
+            unreachable!()
+        }
     }
 }
 
 /// The text that a value is, in memory of its own.
-pub fn text_of(alloc: Global, tree: &Tree) -> Result<Text, Unread>
+pub fn text_of(alloc: Global, tree: &Tree) -> Result<Text, OutOfMemory>
+    requires { IsWord (view tree.now) }
     ensures { IfOk result (λ t. view tree.now ≡ text t) }
 {
-    let bytes = bytes_of(tree)?;
-    Ok(Text::from_str(alloc, bytes)?)
+    let bytes = bytes_of(tree);
+    Text::from_str(alloc, bytes)
+}
+
+/// Why a text of the grammar was not read: for want of memory alone.
+fn no_memory(fault: NameFault) -> OutOfMemory
+    requires { fault ≡ faults.OutOfMemory }
+{
+    match fault {
+        NameFault::OutOfMemory => OutOfMemory,
+        _ => unreachable!(),
+    }
+}
+
+/// The name that a text is.
+fn name_in(alloc: Global, bytes: &str) -> Result<Name, OutOfMemory>
+    requires { CanBeName (text bytes.now) }
+    ensures { IfOk result (λ name. name ≡ bytes.now) }
+{
+    match Name::read(alloc, bytes) {
+        Ok(name) => Ok(name),
+        Err(fault) => Err(no_memory(fault)),
+    }
 }
 
 /// The name that a value is.
-pub fn name_of(alloc: Global, tree: &Tree) -> Result<Name, Unread>
+pub fn name_of(alloc: Global, tree: &Tree) -> Result<Name, OutOfMemory>
+    requires { CanBeName (view tree.now) }
     ensures { IfOk result (λ name. view tree.now ≡ text name) }
 {
-    let bytes = bytes_of(tree)?;
-    Ok(Name::read(alloc, bytes)?)
+    let bytes = bytes_of(tree);
+    name_in(alloc, bytes)
+}
+
+/// The identifier that a text is.
+pub fn id_in(alloc: Global, bytes: &str) -> Result<Dtmi, OutOfMemory>
+    requires { CanBeId (text bytes.now) }
+    ensures { IfOk result (λ id. IsIdentifier (text bytes.now) id) }
+{
+    match Dtmi::read(alloc, bytes) {
+        Ok(id) => Ok(id),
+        Err(fault) => Err(no_memory(fault)),
+    }
 }
 
 /// The identifier that a value is.
-pub fn id_of(alloc: Global, tree: &Tree) -> Result<Dtmi, Unread>
-    ensures { IfOk result (λ id. view tree.now ≡ text (dtmi_text id)) }
+pub fn id_of(alloc: Global, tree: &Tree) -> Result<Dtmi, OutOfMemory>
+    requires { CanBeId (view tree.now) }
+    ensures { IfOk result (λ id. IsIdentifier (view tree.now) id) }
 {
-    let bytes = bytes_of(tree)?;
-    Ok(Dtmi::read(alloc, bytes)?)
-}
-
-/// The text under a key.
-pub fn text_at(alloc: Global, members: &[Member], key: &str) -> Result<Text, Unread>
-    ensures { IfOk result (λ t. HasText key.now (members_view members.now) t) }
-{
-    text_of(alloc, wanted(members, key)?)
+    let bytes = bytes_of(tree);
+    id_in(alloc, bytes)
 }
 
 /// The name under a key.
-pub fn name_at(alloc: Global, members: &[Member], key: &str) -> Result<Name, Unread>
+pub fn name_at(alloc: Global, members: &[Member], key: &str) -> Result<Name, OutOfMemory>
+    requires { Has CanBeName key.now (members_view members.now) }
     ensures { IfOk result (λ name. HasText key.now (members_view members.now) name) }
 {
-    name_of(alloc, wanted(members, key)?)
+    name_of(alloc, wanted(members, key))
 }
 
 /// The identifier under a key.
-pub fn id_at(alloc: Global, members: &[Member], key: &str) -> Result<Dtmi, Unread>
+pub fn id_at(alloc: Global, members: &[Member], key: &str) -> Result<Dtmi, OutOfMemory>
+    requires { Has CanBeId key.now (members_view members.now) }
     ensures { IfOk result (λ id. HasId key.now (members_view members.now) id) }
 {
-    id_of(alloc, wanted(members, key)?)
+    id_of(alloc, wanted(members, key))
 }
 
 /// The text under a key, where there is one.
-pub fn optional_text(alloc: Global, members: &[Member], key: &str) -> Result<Option<Text>, Unread>
+pub fn optional_text(
+    alloc: Global,
+    members: &[Member],
+    key: &str,
+) -> Result<Option<Text>, OutOfMemory>
+    requires { MayHave IsWord key.now (members_view members.now) }
     ensures { IfOk result (λ t. HasOptionalText key.now (members_view members.now) t) }
 {
     match value_at(members, key) {
@@ -81,7 +120,12 @@ pub fn optional_text(alloc: Global, members: &[Member], key: &str) -> Result<Opt
 }
 
 /// The name under a key, where there is one.
-pub fn optional_name(alloc: Global, members: &[Member], key: &str) -> Result<Option<Name>, Unread>
+pub fn optional_name(
+    alloc: Global,
+    members: &[Member],
+    key: &str,
+) -> Result<Option<Name>, OutOfMemory>
+    requires { MayHave CanBeName key.now (members_view members.now) }
     ensures { IfOk result (λ name. HasOptionalText key.now (members_view members.now) name) }
 {
     match value_at(members, key) {
@@ -91,7 +135,12 @@ pub fn optional_name(alloc: Global, members: &[Member], key: &str) -> Result<Opt
 }
 
 /// The identifier under a key, where there is one.
-pub fn optional_id(alloc: Global, members: &[Member], key: &str) -> Result<Option<Dtmi>, Unread>
+pub fn optional_id(
+    alloc: Global,
+    members: &[Member],
+    key: &str,
+) -> Result<Option<Dtmi>, OutOfMemory>
+    requires { MayHave CanBeId key.now (members_view members.now) }
     ensures { IfOk result (λ id. HasOptionalId key.now (members_view members.now) id) }
 {
     match value_at(members, key) {

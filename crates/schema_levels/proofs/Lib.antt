@@ -1,5 +1,5 @@
 mod Indexed
-mod Sizes
+pub mod Sizes
 mod Climbs
 mod Steps
 mod Tabled

@@ -1,7 +1,7 @@
-use Rattle.std.proofs.Common.{◌≡◌, ℕ, Bool, Some, length, map, nat_lt, sym, ap, ◌∙◌}
+use Rattle.std.proofs.Common.{◌≡◌, Some, length, map, nat_lt, ap, ◌∙◌}
 use Rattle.std.proofs.lemmas.List.{length-map}
 use Rattle.json_tree.specs.View.{view, elements_view}
-use Rattle.json_tree.specs.Values.{Json, array}
+use Rattle.json_tree.specs.Values.{array}
 use Rattle.local_rules.proofs.Views.{view-List, list_of-elements_of}
 use Rattle.dtdl_cmd.specs.Alone.{names_parent}
 use Rattle.dtdl_cmd.proofs.alone.names_parent.Goals as goal

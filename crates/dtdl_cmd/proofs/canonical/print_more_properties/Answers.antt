@@ -1,4 +1,3 @@
-use Rattle.std.proofs.Common.{◌≡◌, ℕ, List, ◌++◌}
 use Rattle.dtdl_cmd.proofs.Appended.{property_printed, drop_at_item}
 use Rattle.dtdl_cmd.proofs.canonical.print_more_properties.Goals as goal
 

@@ -1,4 +1,3 @@
-use Rattle.std.proofs.Common.{◌≡◌}
 use Rattle.std.specs.String.{string_bytes}
 use Rattle.dtdl_cmd.proofs.Appended.{property_appended}
 use Rattle.dtdl_cmd.proofs.canonical.print_property.Goals as goal

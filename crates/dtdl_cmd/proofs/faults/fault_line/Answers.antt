@@ -1,4 +1,4 @@
-use Rattle.std.proofs.Common.{◌≡◌, refl, sym, subst}
+use Rattle.std.proofs.Common.{subst}
 use Rattle.json_tree.specs.Faults.{IsFault}
 use Rattle.json_tree.specs.Values.{number}
 use Rattle.json_tree.proofs.Pointed.{duplicate_stands}

@@ -9,9 +9,9 @@ use Rattle.model_read.proofs.contents.relationship_in.Goals as goal
 pub returns-clause-kind : goal.returns-clause-kind
 returns-clause-kind c =
     subst (λ (k : KindTerm). AreKind position.Content k (members_view c.args.members.now))
-    (sym (term-Relationship c.in_ok-target.target c.in_ok-properties.properties c.in_ok-max.max c.in_ok-writable.writable)) (
+    (sym (term-Relationship c.in_ok-target.target c.in_ok-properties.properties c.max_at-max.result c.is_writable-writable.result)) (
       c.in_ok-target.ensures,
-      (elements_view c.in_ok-entries.entries.now, c.in_ok-entries.ensures, c.in_ok-properties.ensures),
-      c.in_ok-max.ensures,
-      c.in_ok-writable.ensures,
+      (elements_view c.entries_at-entries.result.now, c.entries_at-entries.ensures, c.in_ok-properties.ensures),
+      c.max_at-max.ensures,
+      c.is_writable-writable.ensures,
     )

@@ -2,13 +2,20 @@ use Rattle.std.proofs.Common.{refl, sym, subst}
 use Rattle.json_tree.specs.Values.{Json}
 use Rattle.json_tree.specs.View.{view}
 use Rattle.json_tree.specs.Faults.{IsPart}
-use Rattle.model_read.proofs.Placed.{item_part, uploads_step}
+use Rattle.model_read.specs.Shapes.{IsSoundInterface}
+use Rattle.local_faults.proofs.Parts.{item_part}
+use Rattle.model_read.proofs.Placed.{uploads_step}
+use Rattle.model_read.proofs.Readings.{each}
 use Rattle.model_read.proofs.read.uploads_of.Goals as goal
 
-pub uploaded_at-requires : goal.uploaded_at-requires
-uploaded_at-requires c =
+pub uploaded_at-requires-clause-sound : goal.uploaded_at-requires-clause-sound
+uploaded_at-requires-clause-sound c =
+    each IsSoundInterface c.args.entries.now c.loop-at.at c.index-entries-at.result c.requires.sound c.loop-at-test.true c.index-entries-at.is
+
+pub uploaded_at-requires-clause-placed : goal.uploaded_at-requires-clause-placed
+uploaded_at-requires-clause-placed c =
     let part = item_part c.args.entries.now c.loop-at.at c.index-entries-at.result c.loop-at-test.true c.index-entries-at.is in
-    (view c.index-entries-at.result, subst (λ (v : Json). IsPart v c.loop-at.at (view c.index-entries-at.result)) (sym c.requires) part, refl)
+    (view c.index-entries-at.result, subst (λ (v : Json). IsPart v c.loop-at.at (view c.index-entries-at.result)) (sym c.requires.whole) part, refl)
 
 pub loop-at-preserved : goal.loop-at-preserved
 loop-at-preserved c = rw c.in_ok-push.ensures.items

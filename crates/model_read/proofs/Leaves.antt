@@ -1,0 +1,151 @@
+-- What a value without parts is, by its role in a value in which no rule is broken.
+use Rattle.std.proofs.Common.{◌≡◌, ◌≢◌, ℕ, ◌<◌, ◌≤◌, inl, inr, List, [], ◌∷◌, length, Bool, true, IsTrue, Option, Some, None, refl, sym, subst, arith}
+use Rattle.std.proofs.lemmas.Bool.{false≢true, false_from_ne_true}
+use Rattle.dtmi_name.specs.Grammar.{is_reserved}
+use Rattle.json_decimal.specs.Number.{Number}
+use Rattle.json_tree.specs.Values.{Json, truth, text, array, object, Elements}
+use Rattle.local_rules.specs.Members.{list_of}
+use Rattle.local_rules.specs.Identifiers.{HasForm, IdUse, IsBadId, IsReservedId, of_interface, of_element, no_id, id_use}
+use Rattle.local_rules.specs.Kinds.{kind_of, is_of_kind}
+use Rattle.local_rules.specs.Quantities.{IsWord}
+use Rattle.local_rules.specs.Roles.{is_language, type_in}
+use Rattle.local_rules.specs.Types.{MayHaveBeside, NamesNothing, further}
+use Rattle.local_rules.specs.declared.role.Element.{Element}
+use Rattle.local_rules.specs.declared.role.Element.TheVariants as element_kind
+use Rattle.local_rules.specs.declared.role.Kind.{Kind}
+use Rattle.local_rules.specs.declared.role.Kind.TheVariants as kind
+use Rattle.local_rules.specs.declared.role.Localized.{Localized}
+use Rattle.local_rules.specs.declared.role.Naming.{Naming}
+use Rattle.local_rules.specs.declared.role.Position.{Position}
+use Rattle.local_rules.specs.declared.role.Position.TheVariants as position
+use Rattle.local_rules.specs.declared.role.Role.{Role}
+use Rattle.local_rules.specs.declared.role.Role.TheVariants as role
+use Rattle.local_rules.specs.declared.role.ValueKind.{ValueKind}
+use Rattle.local_rules.specs.declared.role.ValueKind.TheVariants as value_kind
+use Rattle.local_rules.specs.declared.rule.LocalRule.TheVariants as rule
+use Rattle.model_read.specs.Shapes.{CanBe, CanBeId, CanBeName, CanBeMultiplicity, CanBeEnumValue, CanBeValueSchema, CanBeTypes, IsParents, IsTruth, IsWords, IsSound}
+use Rattle.model_read.proofs.Sound.{here, of_kind, placed_sound, entry_sound}
+
+-- ---- kinds
+-- a value of the kind of texts is a text
+pub word : (v : Json) → is_of_kind kind.Text v ≡ true → IsWord v
+word (text bytes) is = (bytes, refl)
+word other is = absurd (false≢true is)
+
+-- ---- identifiers
+-- a text that cannot be none of the grammar and is neither reserved nor too long can be an identifier of one's own
+can_be_own : (bytes : List ℕ) (most : ℕ) → CanBe (HasForm bytes) → (HasForm bytes × IsTrue (is_reserved bytes) → ⊥) → most ≤ 2048
+    → (most < length bytes → ⊥) → CanBeId (text bytes)
+can_be_own bytes most good free low long = λ none. good (λ form. none (
+  bytes,
+  refl,
+  (form.0, record { form = form.1; short = omega (arith, low, long) }),
+  false_from_ne_true (is_reserved bytes) (λ yes. free (form, yes)),
+))
+
+-- by the rules on identifiers, of which none is broken
+free_id : (u : IdUse) (bytes : List ℕ) → (IsBadId u bytes → ⊥) → (IsReservedId u bytes → ⊥) → ((u ≡ of_interface) × (128 < length bytes) → ⊥)
+    → ((u ≡ of_element) × (2048 < length bytes) → ⊥) → u ≢ no_id → CanBeId (text bytes)
+free_id of_interface bytes good free short small used = can_be_own bytes 128 good free (omega arith) (λ more. short (refl, more))
+free_id of_element bytes good free short small used = can_be_own bytes 2048 good free (omega arith) (λ more. small (refl, more))
+free_id no_id bytes good free short small used = absurd (used refl)
+
+-- a text that is used as an identifier can be one
+pub used_id : (r : Role) (bytes : List ℕ) → id_use r bytes ≢ no_id → IsSound r (text bytes) → CanBeId (text bytes)
+used_id r bytes used sound = free_id
+    (id_use r bytes)
+    bytes
+    (here r (text bytes) rule.BadId sound)
+    (here r (text bytes) rule.ReservedId sound)
+    (here r (text bytes) rule.LongInterfaceId sound)
+    (here r (text bytes) rule.LongElementId sound)
+    used
+
+-- and so can a value of the kind of texts
+word_id : (r : Role) (v : Json) → kind_of r ≡ kind.Text → ((bytes : List ℕ) → id_use r bytes ≢ no_id) → IsSound r v → CanBeId v
+word_id r v is_text used sound =
+    let is = word v (subst (λ (k : Kind). is_of_kind k v ≡ true) is_text (of_kind r v sound)) in
+    subst (λ (w : Json). CanBeId w) (sym is.1) (used_id r is.0 (used is.0) (subst (λ (w : Json). IsSound r w) is.1 sound))
+
+-- an identifier, of an interface or of another element
+pub interface_id : (v : Json) → IsSound role.InterfaceId v → CanBeId v
+interface_id v sound = word_id role.InterfaceId v refl (λ bytes e. cc) sound
+
+pub element_id : (v : Json) → IsSound role.ElementId v → CanBeId v
+element_id v sound = word_id role.ElementId v refl (λ bytes e. cc) sound
+
+pub interface_reference : (v : Json) → IsSound role.InterfaceReference v → CanBeId v
+interface_reference v sound = word_id role.InterfaceReference v refl (λ bytes e. cc) sound
+
+pub parents : (v : Json) → IsSound role.Extends v → IsParents v
+parents (text bytes) sound = used_id role.Extends bytes (λ e. cc) sound
+parents (array vs) sound = λ i v at. word_id _ v refl (λ bytes e. cc) (entry_sound role.Extends vs i _ v refl at sound)
+parents other sound = absurd (false≢true (of_kind role.Extends other sound))
+
+-- ---- texts
+pub name : (naming : Naming) (repeats : Bool) (v : Json) → IsSound (role.Name naming repeats) v → CanBeName v
+name naming repeats (text bytes) sound = λ none.
+    here (role.Name naming repeats) (text bytes) rule.BadName sound (naming, repeats, refl, λ good. none (bytes, refl, good))
+name naming repeats other sound = absurd (false≢true (of_kind (role.Name naming repeats) other sound))
+
+pub unit : (v : Json) → IsSound role.Unit v → CanBeName v
+unit v sound = λ none. here role.Unit v rule.BadUnit sound (refl, none)
+
+pub comment : (v : Json) → IsSound role.Comment v → IsWord v
+comment v sound = word v (of_kind role.Comment v sound)
+
+pub localized : (which : Localized) (v : Json) → IsSound (role.Localized which) v → IsWords v
+localized which (text bytes) sound = inl (bytes, refl)
+localized which (object ms) sound = inr (
+  ms,
+  refl,
+  λ i key v at.
+      let tagged : Role = role.LocalizedText which (is_language key) in
+      word v (of_kind tagged v (placed_sound (role.Localized which) ms i tagged key v at refl sound)),
+)
+localized which other sound = absurd (false≢true (of_kind (role.Localized which) other sound))
+
+-- ---- truths and quantities
+pub writable : (v : Json) → IsSound role.Writable v → IsTruth v
+writable (truth b) sound = (b, refl)
+writable other sound = absurd (false≢true (of_kind role.Writable other sound))
+
+pub multiplicity : (v : Json) → IsSound role.MaxMultiplicity v → CanBeMultiplicity v
+multiplicity v sound = λ none. here role.MaxMultiplicity v rule.BadMultiplicity sound (inr (refl, none))
+
+pub enum_value : (k : ValueKind) (same_value : Bool) (v : Json) → k ≢ value_kind.Neither → IsSound (role.EnumValue k same_value) v → CanBeEnumValue v
+enum_value value_kind.Integer same_value v is sound = λ none.
+    here (role.EnumValue value_kind.Integer same_value) v rule.BadEnumValue sound (value_kind.Integer, same_value, refl, λ good. none (inl good))
+enum_value value_kind.Word same_value v is sound = λ none.
+    here (role.EnumValue value_kind.Word same_value) v rule.BadEnumValue sound (value_kind.Word, same_value, refl, λ good. none (inr good))
+enum_value value_kind.Neither same_value v is sound = absurd (is refl)
+
+pub value_schema : (v : Json) → IsSound role.ValueSchema v → CanBeValueSchema v
+value_schema v sound = λ none. here role.ValueSchema v rule.BadValueSchema sound (refl, λ integer. none (inr integer), λ string. none (inl string))
+
+-- ---- types
+-- what may stand beside some type may stand beside a property's
+beside_property : (e : Element) (vs : List Json) → MayHaveBeside e vs → MayHaveBeside element_kind.Property vs
+beside_property e [] may = tt
+beside_property element_kind.Telemetry (v ∷ []) may = may
+beside_property element_kind.Property (v ∷ []) may = may
+beside_property other (v ∷ vs) may = absurd may
+
+-- a list that names a type has beside it what may stand there
+beside_type : (p : Position) (vs : Elements Number) (typed : Option Element) → type_in p (array vs) ≡ typed
+    → (type_in p (array vs) ≡ None → NamesNothing p (array vs)) → IsSound (role.Type p) (array vs)
+    → CanBe (MayHaveBeside element_kind.Property (further p (list_of vs)))
+beside_type p vs None is nothing sound = λ none. here (role.Type p) (array vs) rule.BadType sound (p, refl, nothing is)
+beside_type p vs (Some e) is nothing sound = λ none.
+    here (role.Type p) (array vs) rule.BadSemanticType sound (p, e, refl, is, λ may. none (beside_property e (further p (list_of vs)) may))
+
+can_be_types : (p : Position) (v : Json) → ((vs : Elements Number) → type_in p (array vs) ≡ None → NamesNothing p (array vs)) → IsSound (role.Type p) v
+    → CanBeTypes p v
+can_be_types p v nothing sound = λ vs is.
+    beside_type p vs (type_in p (array vs)) refl (nothing vs) (subst (λ (w : Json). IsSound (role.Type p) w) is sound)
+
+pub content_types : (v : Json) → IsSound (role.Type position.Content) v → CanBeTypes position.Content v
+content_types v sound = can_be_types position.Content v (λ vs none. none) sound
+
+pub property_types : (v : Json) → IsSound (role.Type position.Property) v → CanBeTypes position.Property v
+property_types v sound = can_be_types position.Property v (λ vs none. none) sound
