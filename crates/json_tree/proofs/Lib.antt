@@ -14,7 +14,7 @@ mod Slices
 mod NumberSpans
 mod OneValue
 mod Views
-mod Parts
+pub mod Parts
 mod Duplicates
 mod Repeats
 mod Held
@@ -37,3 +37,4 @@ mod SortedParts
 mod Indices
 mod Evaluated
 mod Stepped
+mod Spelled

@@ -5,6 +5,7 @@ mod copies;
 mod evaluation;
 mod fault;
 mod keys;
+mod laws;
 mod places;
 mod pointers;
 mod printing;
@@ -16,6 +17,7 @@ mod tree;
 
 pub use evaluation::at;
 pub use fault::{JsonFault, Place};
+pub use laws::{one_printed, one_value};
 pub use pointers::{Pointer, pointer_of};
 pub use printing::{print, push_quoted};
 pub use reading::{pointer_in, read};

@@ -10,6 +10,7 @@ ghost use Rattle.json_tree.specs.Pointers.{IsPointerOf};
 ghost use Rattle.json_tree.specs.Automaton.{Pairs, Frame, in_array, in_object, value, first_element, first_key, next_key, after, start, gives, reading};
 ghost use Rattle.json_tree.specs.Leads.{Leads, IsHeldAs, IsRead};
 ghost use Rattle.json_tree.specs.Ways.{IsFirstRange, first_way};
+ghost use Rattle.json_tree.specs.declared.fault.JsonFault.TheVariants as faults;
 
 use crate::fault::{JsonFault, Place};
 use crate::keys::first_duplicate;
@@ -302,6 +303,16 @@ pub fn read(alloc: Global, bytes: &[u8]) -> Result<Tree, JsonFault>
     }
 }
 
+/// Why a text was not read: for want of memory alone.
+fn want_of_memory(fault: &JsonFault) -> OutOfMemory
+    requires { fault.now ≡ faults.OutOfMemory }
+{
+    match fault {
+        JsonFault::OutOfMemory => OutOfMemory,
+        _ => unreachable!(),
+    }
+}
+
 /// The pointer to a place in the value of a JSON text, as to that of a fault. The bytes are read again.
 pub fn pointer_in(alloc: Global, bytes: &[u8], place: &Place) -> Result<Pointer, OutOfMemory>
     requires { (raw : Raw) × IsText bytes.now raw × ((part : Raw) × StandsAt raw place.now.steps part) }
@@ -309,7 +320,6 @@ pub fn pointer_in(alloc: Global, bytes: &[u8], place: &Place) -> Result<Pointer,
 {
     match whole(alloc, bytes) {
         Ok(found) => pointer_of(alloc, &found.tree, place),
-        // The bytes are a text, so that only memory can be lacking.
-        Err(_) => Err(OutOfMemory),
+        Err(fault) => Err(want_of_memory(&fault)),
     }
 }

@@ -1,25 +1,15 @@
 -- Parts of trees, by their positions, and their roles.
-use Rattle.std.proofs.Common.{◌≡◌, ℕ, zero, suc, ◌<◌, List, [], ◌∷◌, length, map, get_or, Option, Some, option_and_then, sym, ap, subst, ◌∙◌, arith}
+use Rattle.std.proofs.Common.{◌≡◌, ℕ, zero, suc, ◌<◌, List, [], ◌∷◌, length, map, Option, Some, option_and_then, sym, ap, subst, ◌∙◌, arith}
 use Rattle.json_decimal.specs.Number.{Number}
 use Rattle.json_tree.specs.Values.{Json, text, array, object, Elements, Members}
-use Rattle.json_tree.specs.Faults.{IsPart, element_at, member_at}
-use Rattle.json_tree.specs.View.{view, member_view, elements_view, members_view}
+use Rattle.json_tree.specs.Faults.{IsPart, member_at}
+use Rattle.json_tree.specs.View.{view, elements_view, members_view}
 use Rattle.json_tree.specs.declared.tree.Tree.{Tree}
 use Rattle.json_tree.specs.declared.tree.Member.{Member}
 use Rattle.local_rules.specs.Roles.{part_role, element_of, element_member, entry_role}
 use Rattle.local_rules.specs.declared.role.Element.{Element}
 use Rattle.local_rules.specs.declared.role.Role.{Role}
 use Rattle.local_rules.proofs.Views.{list_of-elements_of}
-
-pub item_part : (items : List Tree) (i : ℕ) (item : Tree) → i < length items → item ≡ get_or items i item → element_at (elements_view items) i ≡ Some (view item)
-item_part [] i item lt e = absurd (omega (arith, lt))
-item_part (t ∷ items) zero item lt e = ap (λ (x : Tree). Some (view x)) (sym e)
-item_part (t ∷ items) (suc i) item lt e = item_part items i item (omega (arith, lt)) e
-
-pub member_part : (ms : List Member) (i : ℕ) (m : Member) → i < length ms → m ≡ get_or ms i m → member_at (members_view ms) i ≡ Some (member_view m)
-member_part [] i m lt e = absurd (omega (arith, lt))
-member_part (n ∷ ms) zero m lt e = ap (λ (x : Member). Some (member_view x)) (sym e)
-member_part (n ∷ ms) (suc i) m lt e = member_part ms i m (omega (arith, lt)) e
 
 pub item_within : (items : List Tree) (i : ℕ) (part : Json) → IsPart (array (elements_view items)) i part → i < length items
 item_within [] i part e = absurd cc

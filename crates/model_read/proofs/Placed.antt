@@ -9,7 +9,7 @@ use Rattle.json_tree.specs.declared.tree.Tree.{Tree}
 use Rattle.json_tree.specs.declared.tree.Member.{Member}
 use Rattle.dtdl_terms.specs.declared.uploaded.Uploaded.{Uploaded}
 use Rattle.local_rules.specs.Members.{value_at}
-use Rattle.local_faults.proofs.Parts.{member_part}
+use Rattle.json_tree.proofs.Parts.{member_part}
 use Rattle.model_read.specs.Uploads.{IsNew, HasOrdinal, IsUploaded, AreUploadedFrom}
 
 lt-or-eq : (j i : ℕ) → j < i + 1 → (j < i) ⊎ (j ≡ i)

@@ -3,6 +3,8 @@
 use super::*;
 use dt_base::List;
 use dtdl_terms::Uploaded;
+use json_tree::{Member, Tree};
+use local_rules::{LocalRule, Role};
 use std::test::Fail;
 
 /// A document, and of its last interface: how many contents, schemas and parents it has, and its pointer.
@@ -117,6 +119,37 @@ fn finds_the_first_breach(rt: HostRuntime) -> Result<(), Fail> {
         assert_eq!(rt; breach.rule.text(), code);
     }
     Ok(())
+}
+
+/// An interface of nine commands of which the last repeats a name, and a schema that leads back to itself.
+const NINE_COMMANDS: &str =
+    r#"{"contents":[{"name":"a"},{"name":"b"},{"name":"c"},{"name":"d"},{"name":"e"},{"name":"f"},{"name":"g"},{"name":"h"},{"name":"a"}],"schemas":[{"@id":"dtmi:s;1","@type":"Array","elementSchema":"dtmi:s;1"}]}"#;
+
+#[test]
+fn compares_entries_and_measures_schemas(rt: HostRuntime) -> Result<(), Fail> {
+    let tree = json_tree::read(rt.alloc(), NINE_COMMANDS.as_bytes())?;
+    let members = local_rules::members_in(&tree);
+    let schemas = schema_levels::NamedSchemas::of(rt.alloc(), members)?;
+    for entry in entries_under(members, "schemas") {
+        assert_eq!(rt;
+            schemas.rule(Role::NamedSchema, entry),
+            Some(LocalRule::TooDeep)
+        );
+    }
+    let commands = entries_under(members, "contents");
+    let roles = local_rules::EntryRoles::of(rt.alloc(), Role::Contents, commands)?;
+    assert_eq!(rt; roles.entries.len(), 9);
+    assert_eq!(rt; roles.at(7), Some(Role::Content { repeats: false }));
+    assert_eq!(rt; roles.at(8), Some(Role::Content { repeats: true }));
+    Ok(())
+}
+
+/// The entries of the list under a key.
+fn entries_under<'a>(members: &'a [Member], key: &str) -> &'a [Tree] {
+    match local_rules::value_at(members, key) {
+        Some(value) => local_rules::elements_in(value),
+        None => &[],
+    }
 }
 
 fn is_fault(end: &Result<List<Uploaded>, LocalEnd>) -> bool {

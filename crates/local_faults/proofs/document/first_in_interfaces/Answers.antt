@@ -1,6 +1,7 @@
 use Rattle.std.proofs.Common.{arith}
 use Rattle.json_tree.specs.View.{view, elements_view}
-use Rattle.local_faults.proofs.Parts.{item_part, item_within}
+use Rattle.json_tree.proofs.Parts.{item_part}
+use Rattle.local_faults.proofs.Parts.{item_within}
 use Rattle.local_faults.proofs.Documents.{clear_next, found_next, clear_whole}
 use Rattle.local_faults.proofs.document.first_in_interfaces.Goals as goal
 

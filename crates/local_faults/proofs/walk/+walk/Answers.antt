@@ -3,7 +3,8 @@ use Rattle.json_tree.specs.Values.{array, object}
 use Rattle.json_tree.specs.View.{view, elements_view, members_view}
 use Rattle.local_rules.proofs.Views.{view-List, view-Members}
 use Rattle.local_faults.proofs.Walked.{walked_all}
-use Rattle.local_faults.proofs.Parts.{item_part, member_part, item_within, member_within, member_has_role, entry_has_role, no_text_array, no_text_object}
+use Rattle.json_tree.proofs.Parts.{item_part, member_part}
+use Rattle.local_faults.proofs.Parts.{item_within, member_within, member_has_role, entry_has_role, no_text_array, no_text_object}
 use Rattle.local_faults.proofs.Answered.{ended_after, leaf_after, leaf_any, judged_so, found_in_part, none_in_part}
 use Rattle.local_faults.proofs.walk.+walk.Goals as goal
 

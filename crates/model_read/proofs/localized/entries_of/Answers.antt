@@ -4,7 +4,7 @@ use Rattle.json_tree.specs.declared.tree.Member.{Member}
 use Rattle.dtdl_terms.specs.declared.common.Entry.{Entry}
 use Rattle.model_read.specs.Declarations.{AreEntries}
 use Rattle.model_read.proofs.Grown.{step, entries_more}
-use Rattle.local_faults.proofs.Parts.{member_part}
+use Rattle.json_tree.proofs.Parts.{member_part}
 use Rattle.model_read.proofs.localized.entries_of.Goals as goal
 
 pub loop-member-preserved : goal.loop-member-preserved

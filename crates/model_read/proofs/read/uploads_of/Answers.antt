@@ -3,7 +3,7 @@ use Rattle.json_tree.specs.Values.{Json}
 use Rattle.json_tree.specs.View.{view}
 use Rattle.json_tree.specs.Faults.{IsPart}
 use Rattle.model_read.specs.Shapes.{IsSoundInterface}
-use Rattle.local_faults.proofs.Parts.{item_part}
+use Rattle.json_tree.proofs.Parts.{item_part}
 use Rattle.model_read.proofs.Placed.{uploads_step}
 use Rattle.model_read.proofs.Readings.{each}
 use Rattle.model_read.proofs.read.uploads_of.Goals as goal
