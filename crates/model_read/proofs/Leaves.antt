@@ -1,7 +1,7 @@
 -- What a value without parts is, by its role in a value in which no rule is broken.
-use Rattle.std.proofs.Common.{◌≡◌, ◌≢◌, ℕ, ◌<◌, ◌≤◌, inl, inr, List, [], ◌∷◌, length, Bool, true, IsTrue, Option, Some, None, refl, sym, subst, arith}
+use Rattle.std.proofs.Common.{◌≡◌, ◌≢◌, ℕ, ◌<◌, ◌≤◌, inl, inr, List, [], ◌∷◌, length, Bool, true, IsTrue, Option, Some, None, refl, sym, ap, subst, arith}
 use Rattle.std.proofs.lemmas.Bool.{false≢true, false_from_ne_true}
-use Rattle.dtmi_name.specs.Grammar.{is_reserved}
+use Rattle.dtmi_name.specs.Grammar.{OwnDtmiText, is_reserved}
 use Rattle.json_decimal.specs.Number.{Number}
 use Rattle.json_tree.specs.Values.{Json, truth, text, array, object, Elements}
 use Rattle.local_rules.specs.Members.{list_of}
@@ -36,12 +36,13 @@ word other is = absurd (false≢true is)
 -- a text that cannot be none of the grammar and is neither reserved nor too long can be an identifier of one's own
 can_be_own : (bytes : List ℕ) (most : ℕ) → CanBe (HasForm bytes) → (HasForm bytes × IsTrue (is_reserved bytes) → ⊥) → most ≤ 2048
     → (most < length bytes → ⊥) → CanBeId (text bytes)
-can_be_own bytes most good free low long = λ none. good (λ form. none (
-  bytes,
-  refl,
-  (form.0, record { form = form.1; short = omega (arith, low, long) }),
-  false_from_ne_true (is_reserved bytes) (λ yes. free (form, yes)),
-))
+can_be_own bytes most good free low long = λ none. good (λ form.
+    let own : OwnDtmiText bytes form.0 = record {
+      text = record { form = form.1; short = omega (arith, low, long) };
+      free = false_from_ne_true (is_reserved bytes) (λ yes. free (form, yes));
+    } in
+    let spelled = form.1.spelled in
+    none (form.0, (ap text spelled, subst (λ (b : List ℕ). OwnDtmiText b form.0) spelled own)))
 
 -- by the rules on identifiers, of which none is broken
 free_id : (u : IdUse) (bytes : List ℕ) → (IsBadId u bytes → ⊥) → (IsReservedId u bytes → ⊥) → ((u ≡ of_interface) × (128 < length bytes) → ⊥)

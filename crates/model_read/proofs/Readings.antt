@@ -1,9 +1,9 @@
 -- What a value that can be of a grammar is read as.
-use Rattle.std.proofs.Common.{◌≡◌, ℕ, ◌<◌, List, length, map, get_or, false, refl, sym, subst, ◌∙◌, arith}
+use Rattle.std.proofs.Common.{◌≡◌, ℕ, ◌<◌, List, length, map, get_or, refl, sym, subst, ◌∙◌, arith}
 use Rattle.std.specs.Prelude.{ℤ, pos, negsuc, ◌≤ℤ◌}
 use Rattle.std.proofs.lemmas.Int.{ints}
 use Rattle.dtmi_name.specs.Faults.{RefusesName, RefusesDtmi}
-use Rattle.dtmi_name.specs.Grammar.{NameText, IsDtmi, OwnDtmiText, is_reserved}
+use Rattle.dtmi_name.specs.Grammar.{NameText, OwnDtmiText, dtmi_text}
 use Rattle.dtmi_name.proofs.Exact.{name_refused, dtmi_refused}
 use Rattle.dtmi_name.specs.declared.fault.NameFault.{NameFault}
 use Rattle.dtmi_name.specs.declared.fault.NameFault.TheVariants as fault
@@ -33,7 +33,7 @@ word_of P (array vs) can = absurd (can (λ is. let e = is.1 in absurd cc))
 word_of P (object ms) can = absurd (can (λ is. let e = is.1 in absurd cc))
 
 pub id_word : (v : Json) → CanBeId v → IsWord v
-id_word v can = word_of (λ (bytes : List ℕ). IsDtmi bytes × (is_reserved bytes ≡ false)) v (λ none. can (λ is. none (is.0, is.1, (is.2, is.3))))
+id_word v can = word_of (λ bytes. Unit {0}) v (λ none. can (λ is. none (dtmi_text is.0, is.1.0, tt)))
 
 -- a text of the grammar is refused for want of memory alone
 is_memory : (f : NameFault) → CanBe (f ≡ fault.OutOfMemory) → f ≡ fault.OutOfMemory
@@ -52,9 +52,8 @@ name_wants_memory bytes f can refused = is_memory f (λ other. can (λ is.
 
 pub id_wants_memory : (bytes : List ℕ) (f : NameFault) → CanBeId (text bytes) → RefusesDtmi bytes f → f ≡ fault.OutOfMemory
 id_wants_memory bytes f can refused = is_memory f (λ other. can (λ is.
-    let same : bytes ≡ is.0 = (let e = is.1 in cc) in
-    let own : OwnDtmiText is.0 is.2.0 = record { text = is.2.1; free = is.3 } in
-    other (dtmi_refused bytes is.2.0 f (subst (λ (b : List ℕ). OwnDtmiText b is.2.0) (sym same) own) refused)))
+    let same : bytes ≡ dtmi_text is.0 = (let e = is.1.0 in cc) in
+    other (dtmi_refused bytes is.0 f (subst (λ (b : List ℕ). OwnDtmiText b is.0) (sym same) is.1.1) refused)))
 
 -- ---- quantities
 -- a whole number that can be a multiplicity is not negative

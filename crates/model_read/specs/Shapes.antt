@@ -1,11 +1,11 @@
 -- What the readers ask of a value: that it stands in a role of a document that breaks no local rule, and so has the
 -- shape that its record needs. A rule that refuses what is none of a grammar leaves that the value cannot be none of
 -- it, which is written so: `CanBe`.
-use Rattle.std.specs.Prelude.{◌≡◌, ◌≢◌, ℕ, ◌⊎◌, List, Bool, false, Option, Some, None, codes}
+use Rattle.std.specs.Prelude.{◌≡◌, ◌≢◌, ℕ, ◌⊎◌, List, Bool, Option, Some, None, codes}
 use Rattle.json_decimal.specs.Number.{Number}
 use Rattle.json_tree.specs.Values.{Json, truth, text, array, object, Elements, Members}
 use Rattle.json_tree.specs.Faults.{element_at, member_at}
-use Rattle.dtmi_name.specs.Grammar.{IsDtmi, is_reserved}
+use Rattle.dtmi_name.specs.Grammar.{Identifier}
 use Rattle.local_rules.specs.Members.{list_of, value_at}
 use Rattle.local_rules.specs.Roles.{HasRole, type_of}
 use Rattle.local_rules.specs.Types.{IsName, MayHaveBeside, further}
@@ -23,6 +23,7 @@ use Rattle.local_rules.specs.declared.role.Role.TheVariants as role
 use Rattle.local_rules.specs.declared.role.SchemaUse.{SchemaUse}
 use Rattle.local_rules.specs.declared.role.ValueKind.{ValueKind}
 use Rattle.local_rules.specs.declared.role.ValueKind.TheVariants as kind
+use Rattle.model_read.specs.Declarations.{IsIdentifier}
 
 -- It is not so that it is none.
 abbrev pub CanBe : Type 0 → Type 0
@@ -38,12 +39,8 @@ IsArray v = (vs : Elements Number) × (v ≡ array vs)
 abbrev pub IsTruth : Json → Type 0
 IsTruth v = (b : Bool) × (v ≡ truth b)
 
--- A text that is the identifier of an element of one's own.
-abbrev pub IsId : Json → Type 0
-IsId v = (bytes : List ℕ) × (v ≡ text bytes) × IsDtmi bytes × (is_reserved bytes ≡ false)
-
 abbrev pub CanBeId : Json → Type 0
-CanBeId v = CanBe (IsId v)
+CanBeId v = CanBe ((id : Identifier) × IsIdentifier v id)
 
 abbrev pub CanBeName : Json → Type 0
 CanBeName v = CanBe (IsName v)

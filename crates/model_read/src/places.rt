@@ -2,12 +2,12 @@
 
 ghost use Rattle.std.specs.Prelude.{◌≡◌, ◌≢◌, ◌↔◌, ℕ, List, Some, None, IsTrue, codes};
 ghost use Rattle.json_tree.specs.Values.{text};
-ghost use Rattle.json_tree.specs.View.{view, members_view};
+ghost use Rattle.json_tree.specs.View.{members_view};
 ghost use Rattle.local_rules.specs.Members.{value_at};
 ghost use Rattle.model_read.specs.Uploads.{HasOrdinal};
 
-use json_tree::{Member, Tree};
-use local_rules::value_at;
+use json_tree::Member;
+use local_rules::text_at;
 
 /// The ordinal of the member with this key, where there is one.
 pub fn ordinal_at(members: &[Member], key: &str) -> Option<u64>
@@ -32,23 +32,9 @@ pub fn wanted_ordinal(members: &[Member], key: &str) -> u64
     }
 }
 
-/// Whether a value is a text.
-#[tactic(auto, using(local_rules::proofs::Views::views))]
-fn is_text(tree: &Tree) -> bool
-    ensures { IsTrue result ↔ ((bytes : List ℕ) × (view tree.now ≡ text bytes)) }
-{
-    match tree {
-        Tree::Text(_) => true,
-        Tree::Null | Tree::Bool(_) | Tree::Number(_) | Tree::List(_) | Tree::Members(_) => false,
-    }
-}
-
 /// Whether the value under a key is a text.
 pub fn has_text(members: &[Member], key: &str) -> bool
     ensures { IsTrue result ↔ ((bytes : List ℕ) × (value_at key.now (members_view members.now) ≡ Some (text bytes))) }
 {
-    match value_at(members, key) {
-        Some(value) => is_text(value),
-        None => false,
-    }
+    text_at(members, key).is_some()
 }

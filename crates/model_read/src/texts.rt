@@ -39,7 +39,7 @@ pub fn text_of(alloc: Global, tree: &Tree) -> Result<Text, OutOfMemory>
 }
 
 /// Why a text of the grammar was not read: for want of memory alone.
-fn no_memory(fault: NameFault) -> OutOfMemory
+fn want_of_memory(fault: NameFault) -> OutOfMemory
     requires { fault ≡ faults.OutOfMemory }
 {
     match fault {
@@ -55,7 +55,7 @@ fn name_in(alloc: Global, bytes: &str) -> Result<Name, OutOfMemory>
 {
     match Name::read(alloc, bytes) {
         Ok(name) => Ok(name),
-        Err(fault) => Err(no_memory(fault)),
+        Err(fault) => Err(want_of_memory(fault)),
     }
 }
 
@@ -75,7 +75,7 @@ pub fn id_in(alloc: Global, bytes: &str) -> Result<Dtmi, OutOfMemory>
 {
     match Dtmi::read(alloc, bytes) {
         Ok(id) => Ok(id),
-        Err(fault) => Err(no_memory(fault)),
+        Err(fault) => Err(want_of_memory(fault)),
     }
 }
 

@@ -1,5 +1,5 @@
 use Rattle.model_read.proofs.Readings.{id_wants_memory}
 use Rattle.model_read.proofs.texts.id_in.Goals as goal
 
-pub no_memory-requires : goal.no_memory-requires
-no_memory-requires c = id_wants_memory c.args.bytes.now c.in-Err.fault c.requires c.in-Err.ensures
+pub want_of_memory-requires : goal.want_of_memory-requires
+want_of_memory-requires c = id_wants_memory c.args.bytes.now c.in-Err.fault c.requires c.in-Err.ensures
