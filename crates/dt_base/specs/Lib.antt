@@ -2,3 +2,4 @@ pub mod formers
 pub mod Faults
 pub mod Files
 pub mod Pieces
+pub mod Shelves

@@ -3,7 +3,11 @@
 //! is asked one ask at a time.
 #![tactic(auto)]
 
+mod file_shelf;
+mod link;
 mod list;
+mod mem_link;
+mod mem_shelf;
 mod mem_sink;
 mod mem_source;
 mod memory;
@@ -16,7 +20,11 @@ mod std_io;
 mod text;
 mod writes;
 
+pub use file_shelf::FileShelf;
+pub use link::Link;
 pub use list::List;
+pub use mem_link::MemLink;
+pub use mem_shelf::{File, MemShelf};
 pub use mem_sink::MemSink;
 pub use mem_source::MemSource;
 pub use memory::OutOfMemory;

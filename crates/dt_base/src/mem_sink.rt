@@ -1,4 +1,4 @@
-ghost use Rattle.std.specs.Prelude.{◌≡◌, ℕ, ◌+◌, ◌-◌, ◌*◌, ◌^◌, ◌<◌, ◌≤◌, ◌↔◌, List, Option, Some, None, [], length, take, min, IfOk, OnOk, OnErr, IsErr, Contains};
+ghost use Rattle.std.specs.Prelude.{◌≡◌, ℕ, ◌+◌, ◌-◌, ◌*◌, ◌^◌, ◌<◌, ◌≤◌, ◌↔◌, List, Option, Some, None, [], length, take, min, IfOk, OnErr, IsErr, IsTrue, Contains};
 ghost use Rattle.std.specs.Io.KnownBytes.{Appends, Keeps};
 ghost use Rattle.dt_base.specs.Faults.{Rose};
 
@@ -49,6 +49,32 @@ impl MemSink {
         self.faults = self.faults.saturating_add(1);
         Err(Failed)
     }
+
+    /// The next write, which fails where it is to, where no room is left, and where no memory is found.
+    pub(crate) fn turn(&mut self, piece: &[u8], fails: bool) -> Result<usize, Failed>
+        requires { 0 < length piece.now }
+        ensures appended { IfOk result (λ n. Appends (Some self.old.taken) (Some self.new.taken) (take n piece.now)) }
+        ensures failed { OnErr result (Keeps (Some self.old.taken) (Some self.new.taken)) }
+        ensures cause { OnErr result (Rose self.old.faults self.new.faults) }
+        ensures count { self.old.faults ≤ self.new.faults }
+        ensures fails { IsTrue fails → IsErr result }
+        ensures full { self.old.room ≤ length self.old.taken → IsErr result }
+        ensures filled { IfOk result (λ n. n ≡ min (self.old.room - length self.old.taken) (length piece.now)) }
+        ensures writes { self.new.writes ≡ min (self.old.writes + 1) (2 ^ 64 - 1) }
+        ensures lists { (self.new.failing ≡ self.old.failing) × (self.new.room ≡ self.old.room) }
+    {
+        self.writes = self.writes.saturating_add(1);
+        let most = (self.room as usize)
+            .saturating_sub(self.taken.len())
+            .min(piece.len());
+        if most == 0 || fails {
+            return self.fail();
+        }
+        match self.taken.items.extend_from_slice(&piece[..most]) {
+            Ok(()) => Ok(most),
+            Err(_) => self.fail(),
+        }
+    }
 }
 
 impl Sink for MemSink {
@@ -58,7 +84,8 @@ impl Sink for MemSink {
 
     ghost faults = { λ s. s.faults };
 
-    /// Fails at the writes that are listed, where no room is left, and where no memory is found.
+    /// Fails at each write that is listed and at each that finds no room. One that fails otherwise found no
+    /// memory. A write that succeeds takes all that there is room for.
     fn write(&mut self, piece: &[u8]) -> Result<usize, Failed>
         requires { 0 < length piece.now }
         ensures some { IfOk result (λ n. 0 < n) }
@@ -68,21 +95,15 @@ impl Sink for MemSink {
         ensures cause { OnErr result (Rose self.old.faults self.new.faults) }
         ensures count { self.old.faults ≤ self.new.faults }
         ensures listed { Contains self.old.failing self.new.writes → IsErr result }
-        ensures writes { self.new.writes ≡ min (self.old.writes + 1) (2 ^ 64 - 1) }
-        ensures room { OnOk result (length self.new.taken ≤ self.old.room) }
-        ensures lists { (self.new.failing ≡ self.old.failing) × (self.new.room ≡ self.old.room) }
+        ensures full { self.old.room ≤ length self.old.taken → IsErr result }
         ensures filled { IfOk result (λ n. n ≡ min (self.old.room - length self.old.taken) (length piece.now)) }
+        ensures writes { self.new.writes ≡ min (self.old.writes + 1) (2 ^ 64 - 1) }
+        ensures lists { (self.new.failing ≡ self.old.failing) × (self.new.room ≡ self.old.room) }
     {
-        self.writes = self.writes.saturating_add(1);
-        let most = (self.room as usize)
-            .saturating_sub(self.taken.len())
-            .min(piece.len());
-        if most == 0 || self.failing.as_slice().contains(&self.writes) {
-            return self.fail();
-        }
-        match self.taken.items.extend_from_slice(&piece[..most]) {
-            Ok(()) => Ok(most),
-            Err(_) => self.fail(),
-        }
+        let fails = self
+            .failing
+            .as_slice()
+            .contains(&self.writes.saturating_add(1));
+        self.turn(piece, fails)
     }
 }

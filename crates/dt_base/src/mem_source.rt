@@ -1,4 +1,4 @@
-ghost use Rattle.std.specs.Prelude.{◌≡◌, ℕ, ◌+◌, ◌-◌, ◌*◌, ◌^◌, ◌<◌, ◌≤◌, ◌↔◌, List, Option, Some, None, [], length, take, drop, min, IfOk, OnErr, IsErr, Contains};
+ghost use Rattle.std.specs.Prelude.{◌≡◌, ℕ, ◌+◌, ◌-◌, ◌*◌, ◌^◌, ◌<◌, ◌≤◌, ◌↔◌, List, Option, Some, None, [], length, take, drop, min, IfOk, OnErr, IsErr, IsTrue, Contains};
 ghost use Rattle.std.specs.Io.KnownBytes.{Consumes, IsAtEnd, Keeps};
 ghost use Rattle.dt_base.specs.Faults.{Rose};
 ghost use Rattle.dt_base.specs.Pieces.{piece_bound};
@@ -46,6 +46,31 @@ impl MemSource {
         let piece = self.pieces.get(self.reads as usize).copied();
         (piece.unwrap_or(u64::MAX) as usize).max(1)
     }
+
+    /// The next read, which fails exactly where it is to.
+    pub(crate) fn turn(&mut self, into: &mut [u8], fails: bool) -> Result<usize, Failed>
+        ensures moved { IfOk result (λ n. Consumes (Some (drop self.old.taken self.old.bytes)) (Some (drop self.new.taken self.new.bytes)) (take n into.new)) }
+        ensures failed { OnErr result (Keeps (Some (drop self.old.taken self.old.bytes)) (Some (drop self.new.taken self.new.bytes))) }
+        ensures fails { IsErr result ↔ IsTrue fails }
+        ensures cause { OnErr result (Rose self.old.faults self.new.faults) }
+        ensures count { self.old.faults ≤ self.new.faults }
+        ensures reads { self.new.reads ≡ min (self.old.reads + 1) (2 ^ 64 - 1) }
+        ensures amount { IfOk result (λ n. n ≡ min (min (piece_bound self.old.pieces self.old.reads) (length into.old)) (length self.old.bytes - self.old.taken)) }
+        ensures lists { (self.new.failing ≡ self.old.failing) × (self.new.pieces ≡ self.old.pieces) }
+    {
+        let most = self
+            .piece()
+            .min(into.len())
+            .min(self.bytes.len() - self.taken);
+        self.reads = self.reads.saturating_add(1);
+        if fails {
+            self.faults = self.faults.saturating_add(1);
+            return Err(Failed);
+        }
+        into[..most].copy_from_slice(&self.bytes.as_slice()[self.taken..self.taken + most]);
+        self.taken += most;
+        Ok(most)
+    }
 }
 
 impl Source for MemSource {
@@ -69,17 +94,10 @@ impl Source for MemSource {
         ensures amount { IfOk result (λ n. n ≡ min (min (piece_bound self.old.pieces self.old.reads) (length into.old)) (length self.old.bytes - self.old.taken)) }
         ensures lists { (self.new.failing ≡ self.old.failing) × (self.new.pieces ≡ self.old.pieces) }
     {
-        let most = self
-            .piece()
-            .min(into.len())
-            .min(self.bytes.len() - self.taken);
-        self.reads = self.reads.saturating_add(1);
-        if self.failing.as_slice().contains(&self.reads) {
-            self.faults = self.faults.saturating_add(1);
-            return Err(Failed);
-        }
-        into[..most].copy_from_slice(&self.bytes.as_slice()[self.taken..self.taken + most]);
-        self.taken += most;
-        Ok(most)
+        let fails = self
+            .failing
+            .as_slice()
+            .contains(&self.reads.saturating_add(1));
+        self.turn(into, fails)
     }
 }

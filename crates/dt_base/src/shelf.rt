@@ -4,7 +4,7 @@ ghost use Rattle.dt_base.specs.Files.{Fetches};
 ghost use Rattle.dt_base.specs.declared.shelf.ShelfEnd.TheVariants.{Failed};
 
 use crate::List;
-use std::alloc::Global;
+use std::alloc::{AllocError, Global};
 use thiserror::Error;
 
 /// What a shelf has under a name.
@@ -27,6 +27,16 @@ pub enum ShelfEnd {
     /// There was no memory for the bytes.
     #[error("out of memory")]
     OutOfMemory,
+}
+
+impl From<AllocError> for ShelfEnd {
+    ghost use Rattle.dt_base.specs.declared.shelf.ShelfEnd.TheVariants.{OutOfMemory};
+
+    ghost from_gives = { λ _ e. e ≡ OutOfMemory };
+
+    fn from(_error: AllocError) -> ShelfEnd {
+        ShelfEnd::OutOfMemory
+    }
 }
 
 /// A shelf of files, which are found by their names.

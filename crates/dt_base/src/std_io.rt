@@ -14,9 +14,11 @@ pub struct StdSource<R: Read + Drop> {
 }
 
 impl<R: Read + Drop> StdSource<R> {
-    /// A source over the reader, with no fault so far.
+    /// A source over the reader, of which nothing was read, with no fault so far.
     pub fn new(reader: R) -> StdSource<R>
-        ensures { ⟦<StdSource<R> as Source>⟧.faults result ≡ 0 }
+        ensures left { ⟦<StdSource<R> as Source>⟧.left result ≡ R.remaining reader }
+        ensures aside { ⟦<StdSource<R> as Source>⟧.aside result ≡ None }
+        ensures faults { ⟦<StdSource<R> as Source>⟧.faults result ≡ 0 }
     {
         StdSource { reader, faults: 0 }
     }
@@ -49,9 +51,11 @@ pub struct StdSink<W: Write + Drop> {
 }
 
 impl<W: Write + Drop> StdSink<W> {
-    /// A sink over the writer, with no fault so far.
+    /// A sink over the writer, to which nothing was written, with no fault so far.
     pub fn new(writer: W) -> StdSink<W>
-        ensures { ⟦<StdSink<W> as Sink>⟧.faults result ≡ 0 }
+        ensures taken { ⟦<StdSink<W> as Sink>⟧.taken result ≡ W.contents writer }
+        ensures aside { ⟦<StdSink<W> as Sink>⟧.aside result ≡ None }
+        ensures faults { ⟦<StdSink<W> as Sink>⟧.faults result ≡ 0 }
     {
         StdSink { writer, faults: 0 }
     }

@@ -1,6 +1,6 @@
 use Rattle.std.proofs.Common.{◌≡◌, ℕ, ◌+◌, ◌-◌, ◌≤◌, List, length, take, drop, ◌++◌, sym, ◌∙◌, ap, arith}
 use Rattle.std.proofs.lemmas.List.{take_at, take-append-drop, drop-drop, length-take-le, length-drop}
-use Rattle.dt_base.proofs.mem_source.MemSourceSource.read.Goals as goal
+use Rattle.dt_base.proofs.mem_source.MemSource.turn.Goals as goal
 
 -- what was copied is the front of what was left
 copied : (t m : ℕ) (bytes new rest : List ℕ) → m + t ≤ length bytes → new ≡ take (t + m - t) (drop t bytes)
@@ -16,4 +16,4 @@ pub returns-clause-moved : goal.returns-clause-moved
 returns-clause-moved c =
     let room : c.min-most.result + c.args.self.now.taken ≤ length c.args.self.now.bytes = omega (arith, c.args.self.now.within) in
     copied c.args.self.now.taken c.min-most.result c.args.self.now.bytes c.copy_from_slice.new.self (drop c.min-most.result c.args.into.now) room
-    (rw c.as_slice-2.ensures at c.copy_from_slice.ensures.after)
+    (rw c.as_slice.ensures at c.copy_from_slice.ensures.after)
