@@ -1,5 +1,7 @@
 use super::*;
 use std::alloc::Global;
+use std::collections::BTreeMap;
+use std::fs;
 use std::io::Cursor;
 use std::test::Fail;
 
@@ -77,5 +79,101 @@ fn copies_and_quiet_objects(rt: HostRuntime) -> Result<(), Fail> {
     assert_eq!(rt; QuietSource.read(&mut [0; 4]), Ok(0));
     write_all(&mut QuietSink, INPUT.as_bytes())?;
     assert!(rt; matches!(QuietShelf.fetch(rt.alloc(), "a", 10), Ok(Fetched::Missing)));
+    Ok(())
+}
+
+#[test]
+fn texts_key_maps_by_their_bytes(rt: HostRuntime) -> Result<(), Fail> {
+    let mut sizes = BTreeMap::new(rt.alloc());
+    for name in ["b", "", "é", "ab", "a", "B"] {
+        let key = Text::from_str(rt.alloc(), name)?;
+        sizes.insert(key, name.len() as u64)?;
+    }
+    let key = Text::from_str(rt.alloc(), "é")?;
+    assert_eq!(rt; sizes.get(&key), Some(&2));
+    let mut names = String::new(rt.alloc());
+    for name in sizes.keys() {
+        names.push_str(name.as_str())?;
+        names.push(' ')?;
+    }
+    assert_eq!(rt; names.as_str(), " B a ab b é ");
+    Ok(())
+}
+
+#[test]
+fn a_link_counts_its_calls_together(rt: HostRuntime) -> Result<(), Fail> {
+    let bytes = list_of(rt.alloc(), b"request")?;
+    let failing = list_of(rt.alloc(), &[2, 4])?;
+    let pieces = list_of(rt.alloc(), &[3])?;
+    let mut link = MemLink::new(rt.alloc(), bytes, 5, failing, pieces)?;
+    let mut into = [0; 8];
+    assert_eq!(rt; link.read(&mut into), Ok(3));
+    assert_eq!(rt; link.write(b"reply"), Err(Failed));
+    assert_eq!(rt; link.write(b"rep"), Ok(3));
+    assert_eq!(rt; link.read(&mut into), Err(Failed));
+    assert_eq!(rt; link.write(b"ly!"), Ok(2));
+    assert_eq!(rt; link.write(b"!"), Err(Failed));
+    assert_eq!(rt; link.read(&mut into), Ok(4));
+    assert_eq!(rt; into.as_slice(), b"uest\0\0\0\0".as_slice());
+    assert_eq!(rt; link.taken(), b"reply".as_slice());
+    Ok(())
+}
+
+fn file(alloc: Global, name: &str, bytes: &str) -> Result<File, OutOfMemory> {
+    Ok(File {
+        name: Text::from_str(alloc, name)?,
+        bytes: list_of(alloc, bytes.as_bytes())?,
+    })
+}
+
+/// What a fetch answered, as a word or as the bytes.
+fn told(alloc: Global, answer: &Result<Fetched, ShelfEnd>) -> Result<String, OutOfMemory> {
+    let word = match answer {
+        Ok(Fetched::Missing) => "missing",
+        Ok(Fetched::TooLong) => "too long",
+        Ok(Fetched::Bytes(bytes)) => std::str::from_utf8(bytes.as_slice()).unwrap_or("no text"),
+        Err(ShelfEnd::Failed) => "failed",
+        Err(ShelfEnd::OutOfMemory) => "out of memory",
+    };
+    Ok(String::from_str(alloc, word)?)
+}
+
+#[test]
+fn a_shelf_in_memory_gives_its_files(rt: HostRuntime) -> Result<(), Fail> {
+    let mut files = List::new(rt.alloc());
+    for (name, bytes) in [("a", "first"), ("b", ""), ("a", "second")] {
+        files.push(file(rt.alloc(), name, bytes)?)?;
+    }
+    let mut shelf = MemShelf::new(files, list_of(rt.alloc(), &[3])?);
+    for (name, limit, want) in [
+        ("a", 5, "first"),
+        ("a", 4, "too long"),
+        ("a", 5, "failed"),
+        ("b", 0, ""),
+        ("c", 9, "missing"),
+    ] {
+        let answer = shelf.fetch(rt.alloc(), name, limit);
+        assert_eq!(rt; told(rt.alloc(), &answer)?.as_str(), want, "of {name}");
+    }
+    Ok(())
+}
+
+#[test]
+fn a_shelf_of_real_files_gives_them(rt: HostRuntime) -> Result<(), Fail> {
+    fs::write(&rt, "twelve.txt", "twelve bytes")?;
+    let mut shelf = FileShelf::new(&rt);
+    for (name, limit, want) in [
+        ("twelve.txt", 12, "twelve bytes"),
+        ("twelve.txt", 11, "too long"),
+        ("twelve.txt", 0, "too long"),
+        ("thirteen.txt", 12, "missing"),
+        ("none/twelve.txt", 12, "missing"),
+        (".", 12, "failed"),
+        ("twelve.txt/part", 12, "failed"),
+    ] {
+        let answer = shelf.fetch(rt.alloc(), name, limit);
+        assert_eq!(rt; told(rt.alloc(), &answer)?.as_str(), want, "of {name}");
+    }
+    fs::remove_file(&rt, "twelve.txt")?;
     Ok(())
 }
