@@ -11,6 +11,7 @@ use crate::shared::{NewEnd, Pass, Shared};
 use crate::turns::SERVING;
 use crate::waiting::Gate;
 use atomic_table::{Refused, Seat, Table};
+use crossbeam_utils::CachePadded;
 use crossbeam_utils::sync::EventCount;
 use dt_base::{Object, OutOfMemory};
 use std::alloc::{AllocFailed, Global};
@@ -62,8 +63,8 @@ impl<O: Object> Shared<O> {
             Ok((table, seat)) => {
                 let shared = Shared {
                     table,
-                    gate: Gate::new(),
-                    queue: EventCount::new(),
+                    gate: CachePadded::new(Gate::new()),
+                    queue: CachePadded::new(EventCount::new()),
                 };
                 Ok((shared, Pass { seat }))
             }
@@ -87,6 +88,10 @@ impl<O: Object> Shared<O> {
     }
 
     /// Asks the object, once it is the caller's turn.
+    ///
+    /// Callers are served in the order of their tickets. A ticket is drawn where there is room, so a caller
+    /// that comes just then may draw before one that slept and was woken: the order of tickets is not that
+    /// in which callers came.
     ///
     /// After `Ok` the pass has seen what it had seen, then perhaps entries of other passes, and then
     /// this call with its reply. After `OutOfMemory` there is no entry of this call.

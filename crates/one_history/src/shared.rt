@@ -5,6 +5,7 @@ use crate::history::View;
 use crate::rule::Law;
 use crate::waiting::Gate;
 use atomic_table::{Seat, Table};
+use crossbeam_utils::CachePadded;
 use crossbeam_utils::sync::EventCount;
 use dt_base::Object;
 use std::alloc::Global;
@@ -14,9 +15,10 @@ use std::snapshot::Snapshot;
 #[derive(Drop)]
 pub struct Shared<O: Object> {
     pub(crate) table: Table<Option<O>, View<O, O::Ask, O::Reply>, Snapshot<O>, Law<O>, Global>,
-    // Where callers sleep: at the gate before they have a ticket, and then in the queue.
-    pub(crate) gate: Gate,
-    pub(crate) queue: EventCount,
+    // Where callers sleep: at the gate before they have a ticket, and then in the queue. Each stands alone in its
+    // cache lines, since all who call read what stands beside them.
+    pub(crate) gate: CachePadded<Gate>,
+    pub(crate) queue: CachePadded<EventCount>,
     ghost size: { (table.shared.table_id.words ≡ 2) × (table.shared.table_id.slots ≡ 1) },
 }
 

@@ -13,14 +13,18 @@ use std::thread::{Threads, join};
 enum Ask {
     Add(u64),
     Read,
+    // Reads, and takes so long that whoever waits for its turn goes to sleep.
+    Linger,
 }
 
 // The number, and at which asks there is no memory: each one whose count this divides, if it is not 0.
+// `noise` is what lingering has worked out.
 #[derive(Drop)]
 struct Number {
     value: u64,
     asked: u64,
     fails_each: u64,
+    noise: u64,
 }
 
 fn zero(fails_each: u64) -> Number {
@@ -28,12 +32,22 @@ fn zero(fails_each: u64) -> Number {
         value: 0,
         asked: 0,
         fails_each,
+        noise: 1,
     }
+}
+
+// Some tenths of a second of work that no compiler can take out of the loop.
+fn work(seed: u64) -> u64 {
+    let mut noise = seed;
+    for _ in 0..100_000_000u64 {
+        noise = noise.wrapping_mul(noise | 5).wrapping_add(noise >> 7);
+    }
+    noise
 }
 
 impl Object for Number {
     ghost use Rattle.std.specs.Prelude.{◌≡◌, ℕ, ◌+◌, ◌%◌, ◌^◌};
-    ghost use Rattle.one_history.specs.declared.tests.Ask.TheVariants.{Add, Read};
+    ghost use Rattle.one_history.specs.declared.tests.Ask.TheVariants.{Add, Read, Linger};
 
     type Ask = Ask;
 
@@ -45,7 +59,7 @@ impl Object for Number {
 
     ghost sound = { λ ask. Unit {0} };
 
-    ghost allowed = { λ s ask r. elim ask [ Add n ↦ r ≡ (s + n) % 2 ^ 64 | Read ↦ r ≡ s ] };
+    ghost allowed = { λ s ask r. elim ask [ Add n ↦ r ≡ (s + n) % 2 ^ 64 | Read ↦ r ≡ s | Linger ↦ r ≡ s ] };
 
     ghost follows = { λ s ask r. r };
 
@@ -57,6 +71,7 @@ impl Object for Number {
         match ask {
             Ask::Add(n) => self.value = self.value.wrapping_add(*n),
             Ask::Read => {}
+            Ask::Linger => self.noise = work(self.noise),
         }
         Ok(self.value)
     }
@@ -149,6 +164,36 @@ fn add_by_two<R: Threads + Wait + Sync>(
     )
 }
 
+// A call that draws its ticket whether there is room or not, as one that lost the race for the room.
+fn call_at_once<R: Wait>(rt: &R, shared: &Shared<Number>, mut pass: Pass<Number>) -> bool
+    requires { IsPassOf shared.now pass }
+{
+    let ticket = shared.draw(rt, &mut pass.seat);
+    shared.await_turn(rt, &mut pass.seat, ticket);
+    let answer = shared.serve(&mut pass.seat, &Ask::Linger);
+    shared.wake_next();
+    answer.is_ok()
+}
+
+fn call_twice_at_once<R: Threads + Wait + Sync>(
+    rt: &R,
+    shared: &Shared<Number>,
+    first: Pass<Number>,
+    second: Pass<Number>,
+) -> (bool, bool)
+    requires { IsPassOf shared.now first × IsPassOf shared.now second }
+{
+    join(
+        rt,
+        move || -> bool
+            requires { IsSync R.row × IsPassOf shared.now first }
+        { call_at_once(rt, shared, first) },
+        move || -> bool
+            requires { IsSync R.row × IsPassOf shared.now second }
+        { call_at_once(rt, shared, second) },
+    )
+}
+
 fn shared(alloc: Global, fails_each: u64) -> Result<(Shared<Number>, Pass<Number>), Fail>
     ensures own { IfOk result (λ r. IsPassOf r.0 r.1) }
     ensures first { IfOk result (λ r. (number r.1 ≡ []) × (made r.1 ≡ 0)) }
@@ -182,5 +227,14 @@ fn a_call_without_memory_leaves_no_entry(rt: HostRuntime) -> Result<(), Fail> {
     let q = shared.split(&mut p);
     let p = add_ones(&rt, &shared, p, 9);
     assert_eq!(rt; close_two(rt.alloc(), shared, p, q)?.value, 6);
+    Ok(())
+}
+
+// Both have a ticket while one has the turn, so the other sleeps in the queue until it is woken.
+#[test]
+fn a_caller_that_sleeps_with_a_ticket_is_woken(rt: HostRuntime) -> Result<(), Fail> {
+    let (shared, mut p) = shared(rt.alloc(), 0)?;
+    let q = shared.split(&mut p);
+    assert_eq!(rt; call_twice_at_once(&rt, &shared, p, q), (true, true));
     Ok(())
 }

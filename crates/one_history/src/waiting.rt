@@ -35,8 +35,15 @@ impl Gate {
     fn come(&self) -> u64 {
         self.sleepers.fetch_add(1, SeqCst);
         let epoch = self.epoch.load(SeqCst);
-        self.coming.store(0, SeqCst);
+        self.clear();
         epoch
+    }
+
+    // Nobody is on the way. It is read first, since all who leave a turn look at it.
+    fn clear(&self) {
+        if self.coming.load(SeqCst) != 0 {
+            self.coming.store(0, SeqCst);
+        }
     }
 
     // Sleeps, unless one was called since `come`.
@@ -47,16 +54,19 @@ impl Gate {
     // Whoever leaves says so last: a sleeper that is counted when one is called clears `coming` after.
     fn leave(&self) {
         self.sleepers.fetch_sub(1, SeqCst);
-        self.coming.store(0, SeqCst);
+        self.clear();
     }
 
     // Calls one in, unless one is on the way.
     fn call_one(&self) {
-        if self.sleepers.load(SeqCst) == 0 || self.coming.swap(1, SeqCst) == 1 {
+        if self.sleepers.load(SeqCst) == 0 || self.coming.load(SeqCst) == 1 {
+            return;
+        }
+        if self.coming.swap(1, SeqCst) == 1 {
             return;
         }
         if self.sleepers.load(SeqCst) == 0 {
-            self.coming.store(0, SeqCst);
+            self.clear();
             return;
         }
         self.epoch.fetch_add(1, SeqCst);
@@ -83,6 +93,8 @@ impl<O: Object> Shared<O> {
                     self.gate.sleep(rt, epoch);
                 }
                 self.gate.leave();
+                // Another caller may have come first. It is done soon, so this one spins again.
+                backoff.reset();
             } else {
                 backoff.snooze();
             }
