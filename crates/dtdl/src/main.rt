@@ -4,11 +4,13 @@
 use dt_base::{QuietShelf, StdSink, StdSource};
 use dtdl_cmd::{Status, run_plain};
 use std::alloc::{AllocError, Global};
+use std::io::ErrorKind;
 use std::process::ExitCode;
 use std::rt::Env;
 use std::{env, io};
 
-/// The words after the program's name.
+/// The words after the program's name. An error of another kind than `OutOfMemory` means that one of them
+/// is not UTF-8.
 fn words(rt: &(impl AllocGlobal + Env), alloc: Global) -> io::Result<Vec<String>> {
     let mut words = Vec::new(alloc);
     for word in env::args(rt)?.skip(1) {
@@ -18,8 +20,13 @@ fn words(rt: &(impl AllocGlobal + Env), alloc: Global) -> io::Result<Vec<String>
 }
 
 fn main(rt: HostRuntime) -> ExitCode {
-    let Ok(words) = words(&rt, rt.alloc()) else {
-        return ExitCode::from(Status::OutOfMemory.number());
+    let words = match words(&rt, rt.alloc()) {
+        Ok(words) => words,
+        Err(error) if error.kind() == ErrorKind::OutOfMemory => {
+            return ExitCode::from(Status::OutOfMemory.number());
+        }
+        // Words that are not UTF-8 are those of no command, as no words are.
+        Err(_) => Vec::new(rt.alloc()),
     };
     let mut input = StdSource::new(rt.stdin());
     let mut output = StdSink::new(rt.stdout());

@@ -1,8 +1,8 @@
 -- The lines that commands print in place of what was asked for.
-use Rattle.std.specs.Prelude.{◌≡◌, ℕ, ◌⊎◌, List, [], ◌∷◌, ◌++◌, codes}
+use Rattle.std.specs.Prelude.{◌≡◌, ℕ, List, [], ◌∷◌, ◌++◌, codes}
 use Rattle.std.specs.Fmt.{decimal}
 use Rattle.json_tree.specs.Values.{Json, Raw, text}
-use Rattle.json_tree.specs.Grammar.{IsText, Spells}
+use Rattle.json_tree.specs.Grammar.{IsText}
 use Rattle.json_tree.specs.Faults.{IsFault}
 use Rattle.json_tree.specs.Pointers.{IsPointerOf}
 use Rattle.json_tree.specs.Printing.{printed}
@@ -35,11 +35,9 @@ abbrev pub IsBreachLine : Json → List ℕ → Type 0
 IsBreachLine v line = (place : List ℕ) × (broken : LocalRule) × (pointer : List ℕ) × IsFirstBreach v place broken × IsPointerOf v place pointer
     × (line ≡ pointer_line pointer (rule_code broken))
 
--- The line names the first fault of the bytes: the one fault that they have as a JSON text, or else the first broken
--- rule of the value that they spell.
-abbrev pub IsRefusedLine : List ℕ → List ℕ → Type 0
-IsRefusedLine bytes line = ((fault : JsonFault) × IsFault bytes fault × IsFaultLine bytes fault line)
-    ⊎ ((v : Json) × Spells bytes v × IsBreachLine v line)
+-- The line names the one fault that the bytes have as a JSON text.
+abbrev pub IsJsonFaultLine : List ℕ → List ℕ → Type 0
+IsJsonFaultLine bytes line = (fault : JsonFault) × IsFault bytes fault × IsFaultLine bytes fault line
 
 abbrev pub usage_line : List ℕ
 usage_line = codes "usage: dtdl check [NAME..] | canon [NAME..] | replay | make N | serve PORT WORKERS EACH | ask HOST PORT METHOD PATH" ++ 10 ∷ []

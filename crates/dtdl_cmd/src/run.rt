@@ -1,12 +1,10 @@
 //! The commands that need no thread and no socket.
 
-ghost use Rattle.std.specs.Prelude.{◌≡◌, ℕ, ◌<◌, ◌≤◌, ◌↔◌, List, length, take, Err};
-ghost use Rattle.std.specs.Io.KnownBytes.{Appends, Consumes, Keeps};
+ghost use Rattle.std.specs.Prelude.{◌≡◌, ℕ, ◌<◌, ◌≤◌, ◌⊎◌, List, length, take, Err, IfOk};
+ghost use Rattle.std.specs.Io.KnownBytes.{Appends};
 ghost use Rattle.dt_base.specs.Faults.{Rose};
-ghost use Rattle.dtdl_cmd.specs.Runs.{AnswersBytes, AnswersSource, AnswersValue, Ends, IsCommand, Says, TextOf, Told};
+ghost use Rattle.dtdl_cmd.specs.Runs.{AnswersCommand, AnswersDocument, AnswersUnbroken, AnswersValue, Ends, Held, IsCommand};
 ghost use Rattle.json_tree.specs.View.{view};
-ghost use Rattle.json_tree.specs.Faults.{IsFault};
-ghost use Rattle.local_rules.specs.Breaches.{IsFirstBreach};
 ghost use Rattle.dtdl_cmd.specs.declared.command.Command.{Command};
 
 use crate::alone::stands_alone;
@@ -16,9 +14,9 @@ use crate::faults::{breach_line, fault_line};
 use crate::interface::interface_of;
 use crate::refusal::Refusal;
 use crate::status::Status;
-use dt_base::{List, ReadEnd, Shelf, Sink, Source, read_all, write_all};
-use json_tree::{JsonFault, Tree};
-use local_faults::{Breach, first_breach};
+use dt_base::{List, OutOfMemory, ReadEnd, Shelf, Sink, Source, read_all, write_all};
+use json_tree::Tree;
+use local_faults::first_breach;
 use std::alloc::Global;
 use thiserror::Error;
 
@@ -32,85 +30,93 @@ const USAGE: &[u8] =
 /// The line for one interface that breaks no rule.
 const ACCEPTED: &[u8] = b"accepted 1\n";
 
-/// Why a command has no line or text of its own to print.
-#[derive(Debug, Drop, Error)]
-pub enum CommandEnd {
+/// The line for a document without faults that is nothing that is built yet.
+const NOT_BUILT: &[u8] = b"not built\n";
+
+/// A status, and the line or text that is written with it.
+#[derive(Debug, Drop)]
+struct Answer {
+    status: Status,
+    line: List<u8>,
+}
+
+/// Why there is no answer.
+#[derive(Clone, Copy, Debug, PartialEq, Eq, Error)]
+enum NoAnswer {
     #[error("the read failed")]
     ReadFault,
-    #[error("too long")]
-    TooLong,
-    #[error("refused")]
-    Refused { line: List<u8> },
-    #[error("not built")]
-    NotBuilt,
     #[error("out of memory")]
     OutOfMemory,
 }
 
-/// What a command makes of the input.
-fn answer<S: Source>(alloc: Global, command: Command, input: &mut S) -> Result<List<u8>, CommandEnd>
-    ensures given { AnswersSource command (S.left input.old) (S.left input.new) result }
-    ensures cause { result ≡ Err CommandEnd.ReadFault → Rose (S.faults input.old) (S.faults input.new) }
+impl From<OutOfMemory> for NoAnswer {
+    ghost from_gives = { λ _ end. end ≡ NoAnswer.OutOfMemory };
+
+    fn from(_error: OutOfMemory) -> NoAnswer {
+        NoAnswer::OutOfMemory
+    }
+}
+
+/// The answer with this line.
+fn answer_with(alloc: Global, status: Status, line: &[u8]) -> Result<Answer, OutOfMemory>
+    ensures { IfOk result (λ answer. (answer.status ≡ status) × (answer.line ≡ line.now)) }
+{
+    let line = List::from_vec(Vec::from_slice(alloc, line)?);
+    Ok(Answer { status, line })
+}
+
+/// The answer of a command to the input.
+fn answer_to_input<S: Source>(alloc: Global, command: Command, input: &mut S) -> Result<Answer, NoAnswer>
+    ensures given { IfOk result (λ answer. (bytes : List ℕ) × AnswersCommand command bytes answer.status answer.line
+        × Held (record { before = S.left input.old; after = S.left input.new; faults_before = S.faults input.old; faults_after = S.faults input.new }) bytes) }
+    ensures cause { result ≡ Err NoAnswer.ReadFault → Rose (S.faults input.old) (S.faults input.new) }
     ensures count { S.faults input.old ≤ S.faults input.new }
     ensures beside { S.aside input.new ≡ S.aside input.old }
 {
     match read_all(alloc, input, MAX_INPUT) {
-        Ok(bytes) => answer_of_bytes(alloc, command, bytes),
-        Err(ReadEnd::ReadFault) => Err(CommandEnd::ReadFault),
-        Err(ReadEnd::TooLong) => Err(CommandEnd::TooLong),
-        Err(ReadEnd::OutOfMemory) => Err(CommandEnd::OutOfMemory),
+        Ok(bytes) => Ok(answer_to_bytes(alloc, command, bytes)?),
+        Err(ReadEnd::ReadFault) => Err(NoAnswer::ReadFault),
+        Err(ReadEnd::TooLong) => Ok(answer_with(alloc, Status::TooLong, b"too long 1\n")?),
+        Err(ReadEnd::OutOfMemory) => Err(NoAnswer::OutOfMemory),
     }
 }
 
-/// What a command makes of the bytes, which are let go as soon as they are a tree.
-fn answer_of_bytes(alloc: Global, command: Command, bytes: List<u8>) -> Result<List<u8>, CommandEnd>
-    ensures { AnswersBytes command bytes result }
+/// The answer to bytes, which are let go as soon as they are a tree.
+fn answer_to_bytes(alloc: Global, command: Command, bytes: List<u8>) -> Result<Answer, OutOfMemory>
+    ensures { IfOk result (λ answer. AnswersDocument command bytes answer.status answer.line) }
 {
     match json_tree::read(alloc, bytes.as_slice()) {
         Ok(tree) => {
             drop(bytes);
-            answer_of_tree(alloc, command, &tree)
+            answer_to_tree(alloc, command, &tree)
         }
-        Err(fault) => Err(refused(alloc, bytes.as_slice(), fault)),
+        Err(fault) => {
+            let line = fault_line(alloc, bytes.as_slice(), &fault)?;
+            Ok(Answer {
+                status: Status::Refused,
+                line,
+            })
+        }
     }
 }
 
-/// The refusal of bytes that have this fault.
-fn refused(alloc: Global, bytes: &[u8], fault: JsonFault) -> CommandEnd
-    requires { IsFault bytes.now fault }
-    ensures { (command : Command) → AnswersBytes command bytes.now (Err result) }
+/// The answer to a document.
+fn answer_to_tree(alloc: Global, command: Command, tree: &Tree) -> Result<Answer, OutOfMemory>
+    ensures { IfOk result (λ answer. AnswersValue command (view tree.now) answer.status answer.line) }
 {
-    match fault_line(alloc, bytes, &fault) {
-        Ok(line) => CommandEnd::Refused { line },
-        Err(_) => CommandEnd::OutOfMemory,
-    }
+    let Some(breach) = first_breach(alloc, tree)? else {
+        return answer_to_unbroken(alloc, command, tree);
+    };
+    let line = breach_line(alloc, tree, &breach)?;
+    Ok(Answer {
+        status: Status::Refused,
+        line,
+    })
 }
 
-/// What a command makes of a document.
-fn answer_of_tree(alloc: Global, command: Command, tree: &Tree) -> Result<List<u8>, CommandEnd>
-    ensures { AnswersValue command (view tree.now) result }
-{
-    match first_breach(alloc, tree) {
-        Ok(None) => text_of(alloc, command, tree),
-        Ok(Some(breach)) => Err(broken(alloc, tree, &breach)),
-        Err(_) => Err(CommandEnd::OutOfMemory),
-    }
-}
-
-/// The refusal of a document whose first breach this is.
-fn broken(alloc: Global, tree: &Tree, breach: &Breach) -> CommandEnd
-    requires { IsFirstBreach (view tree.now) breach.now.place.steps breach.now.rule }
-    ensures { (command : Command) → AnswersValue command (view tree.now) (Err result) }
-{
-    match breach_line(alloc, tree, breach) {
-        Ok(line) => CommandEnd::Refused { line },
-        Err(_) => CommandEnd::OutOfMemory,
-    }
-}
-
-/// The line or text that a command prints for a document without faults.
-fn text_of(alloc: Global, command: Command, tree: &Tree) -> Result<List<u8>, CommandEnd>
-    ensures { TextOf command (view tree.now) result }
+/// The answer to a document without faults.
+fn answer_to_unbroken(alloc: Global, command: Command, tree: &Tree) -> Result<Answer, OutOfMemory>
+    ensures { IfOk result (λ answer. AnswersUnbroken command (view tree.now) answer.status answer.line) }
 {
     match command {
         Command::Check => accepted(alloc, tree),
@@ -118,37 +124,39 @@ fn text_of(alloc: Global, command: Command, tree: &Tree) -> Result<List<u8>, Com
     }
 }
 
-/// The line for an interface that stands alone.
-fn accepted(alloc: Global, tree: &Tree) -> Result<List<u8>, CommandEnd>
-    ensures { TextOf Command.Check (view tree.now) result }
+/// `check`: the line for an interface that stands alone.
+fn accepted(alloc: Global, tree: &Tree) -> Result<Answer, OutOfMemory>
+    ensures { IfOk result (λ answer. AnswersUnbroken Command.Check (view tree.now) answer.status answer.line) }
 {
-    if !stands_alone(tree) {
-        return Err(CommandEnd::NotBuilt);
-    }
-    match Vec::from_slice(alloc, ACCEPTED) {
-        Ok(line) => Ok(List::from_vec(line)),
-        Err(_) => Err(CommandEnd::OutOfMemory),
+    if stands_alone(tree) {
+        answer_with(alloc, Status::Ok, ACCEPTED)
+    } else {
+        answer_with(alloc, Status::NotBuilt, NOT_BUILT)
     }
 }
 
-/// The canonical text of the interface that a document declares.
-fn canon(alloc: Global, tree: &Tree) -> Result<List<u8>, CommandEnd>
-    ensures { TextOf Command.Canon (view tree.now) result }
+/// `canon`: the canonical text of the interface that a document declares.
+fn canon(alloc: Global, tree: &Tree) -> Result<Answer, OutOfMemory>
+    ensures { IfOk result (λ answer. AnswersUnbroken Command.Canon (view tree.now) answer.status answer.line) }
 {
     match interface_of(alloc, tree) {
-        Ok(interface) => match canonical_text(alloc, &interface) {
-            Ok(text) => Ok(text),
-            Err(_) => Err(CommandEnd::OutOfMemory),
-        },
-        Err(Refusal::NotBuilt) => Err(CommandEnd::NotBuilt),
-        Err(Refusal::OutOfMemory) => Err(CommandEnd::OutOfMemory),
+        Ok(interface) => {
+            let line = canonical_text(alloc, &interface)?;
+            Ok(Answer {
+                status: Status::Ok,
+                line,
+            })
+        }
+        Err(Refusal::NotBuilt) => answer_with(alloc, Status::NotBuilt, NOT_BUILT),
+        Err(Refusal::OutOfMemory) => Err(OutOfMemory),
     }
 }
 
-/// Writes a line or text and answers its status, or `WriteFault` where it was not written whole.
+/// Writes a line and answers its status, or `WriteFault` where it was not written whole.
 fn say<K: Sink>(output: &mut K, status: Status, line: &[u8]) -> Status
-    ensures said { Says status line.now
-        (record { before = K.taken output.old; after = K.taken output.new; faults_before = K.faults output.old; faults_after = K.faults output.new }) result }
+    ensures said { ((result ≡ status) × Appends (K.taken output.old) (K.taken output.new) line.now)
+        ⊎ ((result ≡ Status.WriteFault) × Rose (K.faults output.old) (K.faults output.new)
+        × ((written : ℕ) × (written < length line.now) × Appends (K.taken output.old) (K.taken output.new) (take written line.now))) }
     ensures count { K.faults output.old ≤ K.faults output.new }
     ensures beside { K.aside output.new ≡ K.aside output.old }
 {
@@ -187,12 +195,9 @@ pub fn run_plain<S: Source, K: Sink, F: Shelf>(
     let Some(command) = command_of(words) else {
         return say(output, Status::Usage, USAGE);
     };
-    match answer(alloc, command, input) {
-        Ok(text) => say(output, Status::Ok, text.as_slice()),
-        Err(CommandEnd::Refused { line }) => say(output, Status::Refused, line.as_slice()),
-        Err(CommandEnd::NotBuilt) => say(output, Status::NotBuilt, b"not built\n"),
-        Err(CommandEnd::TooLong) => say(output, Status::TooLong, b"too long 1\n"),
-        Err(CommandEnd::ReadFault) => Status::ReadFault,
-        Err(CommandEnd::OutOfMemory) => Status::OutOfMemory,
+    match answer_to_input(alloc, command, input) {
+        Ok(answer) => say(output, answer.status, answer.line.as_slice()),
+        Err(NoAnswer::ReadFault) => Status::ReadFault,
+        Err(NoAnswer::OutOfMemory) => Status::OutOfMemory,
     }
 }
