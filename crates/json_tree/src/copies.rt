@@ -2,7 +2,7 @@
 
 ghost use Rattle.std.specs.Prelude.{◌≡◌, IfOk};
 
-use crate::fault::Place;
+use crate::places::Place;
 use crate::pointers::Pointer;
 use crate::tree::{Member, Tree};
 use dt_base::{List, OutOfMemory};

@@ -4,9 +4,9 @@ ghost use Rattle.std.specs.Prelude.{◌≡◌, ◌<◌, ◌≤◌, ◌^◌, ◌�
 ghost use Rattle.std.specs.List.{slice_range, AllByRecursion};
 ghost use Rattle.json_tree.specs.Values.{Json};
 ghost use Rattle.json_tree.specs.View.{view, elements_view, members_view};
-ghost use Rattle.json_tree.specs.Faults.{element_at};
+ghost use Rattle.json_tree.specs.Places.{element_at};
 ghost use Rattle.json_tree.specs.Pointers.{token_byte, token_text, IsFirstOf, IsStep, PointsTo};
-ghost use Rattle.json_tree.specs.Tokens.{IsNoSlash, HasIndexForm};
+ghost use Rattle.json_tree.specs.Machinery.Tokens.{IsNoSlash, HasIndexForm};
 
 use crate::pointers::is_bare;
 use crate::tree::{Member, Tree};

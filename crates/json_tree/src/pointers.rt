@@ -4,11 +4,11 @@ ghost use Rattle.std.specs.Prelude.{◌≡◌, ◌<◌, ◌≤◌, ◌⊎◌, �
 ghost use Rattle.std.specs.List.{slice_range, AllByRecursion};
 ghost use Rattle.json_tree.specs.Values.{Json, HasDistinctKeys};
 ghost use Rattle.json_tree.specs.View.{view};
-ghost use Rattle.json_tree.specs.Faults.{IsPart, StandsAt};
+ghost use Rattle.json_tree.specs.Places.{IsPart, StandsAt};
 ghost use Rattle.json_tree.specs.Pointers.{token_byte, token_text, pointer_text, PointsTo, HasToken, AreTokens, IsPointerOf};
-ghost use Rattle.json_tree.specs.Tokens.{IsBare};
+ghost use Rattle.json_tree.specs.Machinery.Tokens.{IsBare};
 
-use crate::fault::Place;
+use crate::places::Place;
 use crate::tree::Tree;
 use dt_base::{OutOfMemory, Text};
 use std::alloc::{AllocError, Global};
