@@ -24,3 +24,4 @@ mod EscapeSpans
 mod ValueSpans
 pub mod Pointed
 mod Spelled
+mod OneFault

@@ -1,21 +1,19 @@
--- Bytes spell one value, and a printed text is that of one value.
+-- Bytes spell one value.
 use Rattle.std.proofs.Common.{◌≡◌, ℕ, ◌+◌, List, drop, refl, sym, ◌∙◌, subst}
 use Rattle.std.proofs.lemmas.List.{take-append-drop}
 use Rattle.json_read.specs.declared.fault.JsonFault.{JsonFault}
 use Rattle.json_read.specs.declared.fault.JsonFault.TheVariants as faults
-use Rattle.json_tree.specs.Values.{Raw, Json, HasDistinctKeys, IsReadAs}
+use Rattle.json_tree.specs.Values.{Raw, Json, IsReadAs}
 use Rattle.json_tree.specs.Grammar.{IsText, Spells}
 use Rattle.json_read.specs.Faults.{IsFirstWrong}
 use Rattle.json_read.specs.Machinery.Automaton.{Outcome, wrong, cut, gives, outcome, reading, start}
 use Rattle.json_read.specs.Machinery.Leads.{IsOutcome}
-use Rattle.json_tree.specs.Printing.{IsSound, NestsWithin, printed}
 use Rattle.json_read.proofs.Readings.{reading_all}
 use Rattle.json_read.proofs.Says.{says_wrong, says_cut, says_gives}
 use Rattle.json_read.proofs.OneValue.{OneNumber, one_value}
-use Rattle.json_tree.proofs.Printable.{print_spells}
 
 -- no byte of a text is wrong
-not_wrong : (bytes : List ℕ) (raw : Raw) (at : ℕ) → IsText bytes raw → IsFirstWrong bytes at → ⊥
+pub not_wrong : (bytes : List ℕ) (raw : Raw) (at : ℕ) → IsText bytes raw → IsFirstWrong bytes at → ⊥
 not_wrong bytes raw at text first =
     first.dead (drop (at + 1) bytes, raw, subst (λ (b : List ℕ). IsText b raw) (sym (take-append-drop (at + 1) bytes)) text)
 
@@ -24,20 +22,12 @@ by_outcome bytes a b (wrong at) e one other = absurd (not_wrong bytes a at one (
 by_outcome bytes a b cut e one other = absurd ((says_cut bytes e).none a one)
 by_outcome bytes a b (gives raw) e one other = sym ((says_gives bytes raw e a).0 one) ∙ (says_gives bytes raw e b).0 other
 
-one_raw : (bytes : List ℕ) (a b : Raw) → IsText bytes a → IsText bytes b → a ≡ b
+pub one_raw : (bytes : List ℕ) (a b : Raw) → IsText bytes a → IsText bytes b → a ≡ b
 one_raw bytes a b = by_outcome bytes a b (outcome start 0 bytes) refl
 
 pub one_spelled : OneNumber → (bytes : List ℕ) (v w : Json) → Spells bytes v → Spells bytes w → v ≡ w
 one_spelled one bytes v w p q =
     one_value one p.0 v w p.3 (subst (λ (raw : Raw). IsReadAs raw w) (sym (one_raw bytes p.0 q.0 p.1 q.1)) q.3)
-
-abbrev pub OneSpelled : Type 0
-OneSpelled = (bytes : List ℕ) (v w : Json) → Spells bytes v → Spells bytes w → v ≡ w
-
-pub one_printed : OneSpelled → (v w : Json) → IsSound v → IsSound w → NestsWithin 64 v → NestsWithin 64 w → HasDistinctKeys v → HasDistinctKeys w
-    → printed v ≡ printed w → v ≡ w
-one_printed one v w sound_v sound_w nests_v nests_w distinct_v distinct_w same =
-    one (printed w) v w (subst (λ (b : List ℕ). Spells b v) same (print_spells v sound_v nests_v distinct_v)) (print_spells w sound_w nests_w distinct_w)
 
 -- a text is refused for want of memory alone
 pub text_refused : (bytes : List ℕ) (raw : Raw) (fault : JsonFault) → IsText bytes raw → IsOutcome bytes fault (reading bytes start 0) → fault ≡ faults.OutOfMemory

@@ -3,7 +3,7 @@ pub mod Views
 pub mod Parts
 mod Escaped
 mod Printed
-pub mod Printable
+mod Printable
 mod Characters
 mod FirstKeys
 mod TreeItems
@@ -12,3 +12,4 @@ mod SortedParts
 mod Indices
 mod Evaluated
 mod Stepped
+mod OnePointer

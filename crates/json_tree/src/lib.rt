@@ -3,6 +3,7 @@
 
 mod copies;
 mod evaluation;
+mod laws;
 mod places;
 mod pointers;
 mod printing;
@@ -10,6 +11,7 @@ mod sorting;
 mod tree;
 
 pub use evaluation::at;
+pub use laws::{one_pointer, reads_back};
 pub use places::Place;
 pub use pointers::{Pointer, pointer_of};
 pub use printing::{print, push_quoted};

@@ -1,4 +1,4 @@
--- Bytes of tokens. These serve private clauses.
+-- Bytes of the tokens of pointers. No public contract speaks of these words.
 use Rattle.std.specs.Prelude.{◌≡◌, ◌≢◌, ◌<◌, ℕ, List, [], ◌∷◌, length, get_or}
 use Rattle.json_tree.specs.Pointers.{token_byte}
 
