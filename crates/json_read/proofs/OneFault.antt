@@ -2,7 +2,7 @@
 use Rattle.std.proofs.Common.{◌≡◌, ℕ, zero, suc, ◌+◌, ◌<◌, ◌⊎◌, inl, inr, List, [], ◌∷◌, ◌++◌, take, drop, Some, append_assoc, refl, sym, ap, ◌∙◌, subst, arith}
 use Rattle.std.proofs.lemmas.List.{take-append-drop}
 use Rattle.std.proofs.lemmas.Bool.{cases_order}
-use Rattle.json_decimal.specs.Number.{Number, IsOutOfRange}
+use Rattle.json_decimal.specs.Number.{Number}
 use Rattle.json_tree.specs.declared.places.Place.{Place}
 use Rattle.json_tree.specs.Values.{Value, Raw, Json, null, truth, number, text, array, object, Elements, no_elements, element, Members, no_members, member, LacksKey, HasDistinctKeys, ElementsHaveDistinctKeys, MembersHaveDistinctKeys, IsInRange, IsReadAs, ElementsAreReadAs, MembersAreReadAs}
 use Rattle.json_tree.specs.Grammar.{IsText, Spells}

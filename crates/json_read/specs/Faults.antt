@@ -56,6 +56,6 @@ IsFault bytes (faults.Range place) = (raw : Raw)
 IsFault bytes faults.OutOfMemory = Unit {0}
 
 -- The answer's tree is the one value that the bytes spell, and nothing else; or the answer's fault is theirs.
-abbrev pub Answers : List ℕ → Result Tree JsonFault → Type 0
-Answers bytes (Ok tree) = (value : Json) → Spells bytes value ↔ (view tree ≡ value)
-Answers bytes (Err fault) = IsFault bytes fault
+abbrev pub Reads : List ℕ → Result Tree JsonFault → Type 0
+Reads bytes (Ok tree) = (value : Json) → Spells bytes value ↔ (view tree ≡ value)
+Reads bytes (Err fault) = IsFault bytes fault
