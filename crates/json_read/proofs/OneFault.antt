@@ -119,8 +119,8 @@ not_cut bytes at h k = h.dead (
   drop (at + 1) bytes ++ k.viable.0,
   k.viable.1,
   subst (λ (b : List ℕ). IsText b k.viable.1)
-    (ap (λ (b : List ℕ). b ++ k.viable.0) (sym (take-append-drop (at + 1) bytes)) ∙ append_assoc (take (at + 1) bytes) (drop (at + 1) bytes) k.viable.0)
-    k.viable.2,
+      (ap (λ (b : List ℕ). b ++ k.viable.0) (sym (take-append-drop (at + 1) bytes)) ∙ append_assoc (take (at + 1) bytes) (drop (at + 1) bytes) k.viable.0)
+      k.viable.2,
 )
 
 one_wrong : (bytes : List ℕ) (at other : ℕ) → IsFirstWrong bytes at → IsFirstWrong bytes other → at ≡ other

@@ -280,7 +280,7 @@ fn whole(alloc: Global, bytes: &[u8]) -> Result<Found, JsonFault>
 ///
 /// `Byte` comes where a byte makes it impossible that a text follows, `Ends` where only the end does. Where the
 /// bytes are a text, `Duplicate` and `Range` name the first place in preorder with such a fault, and `Duplicate`
-/// wins at one place.
+/// wins at one place. `OutOfMemory` says nothing of the bytes.
 pub fn read(alloc: Global, bytes: &[u8]) -> Result<Tree, JsonFault>
     // The bytes spell what is read and nothing else, or have this fault.
     ensures { Reads bytes.now result }
@@ -313,7 +313,8 @@ fn want_of_memory(fault: &JsonFault) -> OutOfMemory
     }
 }
 
-/// The pointer to a place in the value of a JSON text, as to that of a fault. The bytes are read again.
+/// The pointer to a place in the value of a JSON text, as to that of a fault. The bytes are read again. Fails only for want
+/// of memory.
 pub fn pointer_in(alloc: Global, bytes: &[u8], place: &Place) -> Result<Pointer, OutOfMemory>
     requires { (raw : Raw) × IsText bytes.now raw × ((part : Raw) × StandsAt raw place.now.steps part) }
     ensures { IfOk result (λ pointer. (raw : Raw) × IsText bytes.now raw × IsPointerOf raw place.now.steps pointer.text) }

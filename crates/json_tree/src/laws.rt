@@ -20,8 +20,8 @@ pub fn one_pointer()
 {}
 
 /// The text that a tree prints as spells its value, where that nests at most 64 deep and no object in it has two members
-/// of one key. The call walks over the tree, whose types keep what this rests on, and takes no memory; where the text is
-/// printed anyway, `print` says the same.
+/// of one key. The call walks over the tree, whose types keep what this rests on, as deep as it nests, and takes no memory
+/// but the stack's; where the text is printed anyway, `print` says the same.
 #[tactic(auto, using(crate::proofs::Printable::print_spells))]
 pub fn reads_back(tree: &Tree)
     ensures { NestsWithin 64 (view tree.now) → HasDistinctKeys (view tree.now) → Spells (printed (view tree.now)) (view tree.now) }

@@ -122,7 +122,8 @@ fn text_of(alloc: Global, tree: &Tree, steps: &[u64]) -> Result<Text, OutOfMemor
     Ok(Text::from_string(out))
 }
 
-/// The pointer (RFC 6901) to a place in a tree: the keys and positions on the way to it.
+/// The pointer (RFC 6901) to a place in a tree: the keys and positions on the way to it. Fails only for want of memory.
+/// The call goes down as deep as the place lies.
 pub fn pointer_of(alloc: Global, tree: &Tree, place: &Place) -> Result<Pointer, OutOfMemory>
     requires { (part : Json) × StandsAt (view tree.now) place.now.steps part }
     ensures text { IfOk result (λ pointer. IsPointerOf (view tree.now) place.now.steps pointer.text) }

@@ -100,7 +100,7 @@ fn push_escaped(out: &mut String, text: &str) -> Result<(), AllocError>
     Ok(())
 }
 
-/// Appends a text between quotation marks, as `print` does.
+/// Appends a text between quotation marks, as `print` does. Fails only for want of memory.
 pub fn push_quoted(out: &mut String, text: &str) -> Result<(), AllocError>
     ensures printed { OnOk result (string_bytes out.new ≡ string_bytes out.old ++ quoted text.now) }
     ensures utf8 { IsUtf8 text.now }
@@ -183,6 +183,8 @@ fn push_members(alloc: Global, out: &mut String, members: &[Member]) -> Result<(
 /// behind a backslash, the controls of RFC 8259, section 7, that have a short escape are `\b`, `\f`, `\n`, `\r` and
 /// `\t`, the other ones below 32 are `\u00` and two hexadecimal digits in lower case, and every other byte stands as
 /// it is. Numbers are printed as `Decimal::print` does. Which of the texts of a tree is given is this project's own.
+///
+/// Fails only for want of memory. The call goes down as deep as the tree nests.
 #[tactic(auto, using(crate::proofs::Printable::print_spells))]
 pub fn print(alloc: Global, tree: &Tree) -> Result<Text, OutOfMemory>
     ensures text { IfOk result (λ t. t ≡ printed (view tree.now)) }

@@ -1,5 +1,5 @@
--- Reading one byte at a time. This serves proofs alone: it ties the functions to the grammar. Some text begins with
--- the bytes read so far in each state that there is, so a byte is wrong where no state follows.
+-- Reading one byte at a time, which ties the functions to the grammar. No public contract speaks of it. Some text begins
+-- with the bytes read so far in each state that there is, so a byte is wrong where no state follows.
 use Rattle.std.specs.Prelude.{ℕ, zero, suc, ◌+◌, ◌-◌, ◌*◌, List, [], ◌∷◌, ◌++◌, drop, Bool, true, false, ◌&&◌, ◌==◌, nat_le, if◌then◌else◌, Option, Some, None, encode_utf8}
 use Rattle.json_tree.specs.Values.{Raw, null, truth, number, text, array, object, no_elements, no_members, elements_of, members_of}
 use Rattle.json_tree.specs.Grammar.{paired, tail}

@@ -1,4 +1,4 @@
--- What the functions that read say of the outcome of reading. These clauses are private.
+-- What the functions that read say of the outcome of reading. No public contract speaks of these words.
 use Rattle.std.specs.Prelude.{◌≡◌, ℕ, List, length, Option, Result, Ok, Err, ◌⊎◌}
 use Rattle.json_decimal.specs.Number.{Number, zero_number, IsOutOfRange}
 use Rattle.json_decimal.specs.Literal.{IsLiteralOf}

@@ -1,4 +1,4 @@
--- What may remain of a text in each state of reading, by the grammar. This serves proofs alone.
+-- What may remain of a text in each state of reading, by the grammar. No public contract speaks of it.
 use Rattle.std.specs.Prelude.{◌≡◌, ℕ, suc, ◌+◌, ◌*◌, ◌≤◌, ◌⊎◌, List, [], ◌∷◌, ◌++◌, length, Option, Some, None, IfSome, encode_utf8}
 use Rattle.json_decimal.specs.Literal.{Sign, Exponent, IsInteger, IsPower, IsExponent, AreDigits, sign_bytes, fraction_bytes, exponent_bytes}
 use Rattle.json_tree.specs.Values.{Raw, number, text, array, object, Elements, element, Members, member}

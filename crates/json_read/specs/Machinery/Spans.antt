@@ -1,4 +1,5 @@
--- What the functions say that go over the parts of a number or a text. These clauses are private.
+-- What the functions say that go over the parts of a number or a text. No public contract
+-- speaks of these words.
 use Rattle.std.specs.Prelude.{◌≡◌, ℕ, zero, suc, ◌+◌, ◌*◌, ◌<◌, ◌≤◌, ◌⊎◌, List, [], ◌∷◌, ◌++◌, length, true, false, ◌==◌, if◌then◌else◌, Option, Some, None, Result, Ok, Err}
 use Rattle.std.specs.List.{slice_range, slice_index}
 use Rattle.std.specs.Str.{IsUtf8}

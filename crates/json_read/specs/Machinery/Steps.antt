@@ -1,4 +1,4 @@
--- What is proved of each state of reading. This serves proofs alone.
+-- What is proved of each state of reading. No public contract speaks of it.
 use Rattle.std.specs.Prelude.{◌≡◌, ℕ, ◌+◌, ◌<◌, ◌↔◌, List, [], ◌∷◌, ◌++◌, length, take, Some}
 use Rattle.json_tree.specs.Values.{Raw}
 use Rattle.json_read.specs.Machinery.Automaton.{State, Move, dead, on, on_with, done, step, end, Outcome, wrong, cut, gives}

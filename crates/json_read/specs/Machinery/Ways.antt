@@ -1,4 +1,5 @@
--- Ways to the first place in a value, in preorder, of which something holds. These words serve private clauses.
+-- Ways to the first place in a value, in preorder, of which something holds. No public contract speaks of
+-- these words.
 use Rattle.std.specs.Prelude.{ℕ, suc, List, [], ◌∷◌, ◌++◌, reverse, Bool, true, false, ◌||◌, ◌==◌, nat_lt, bytes_eq, if◌then◌else◌, Option, Some, None}
 use Rattle.json_tree.specs.Values.{Value, Raw}
 use Rattle.json_tree.specs.Places.{IsBefore}

@@ -1,4 +1,4 @@
--- The digits at the front of a text, as the reader walks over them.
+-- The digits at the front of a text, as the reader walks over them. No public contract speaks of these words.
 use Rattle.std.specs.Prelude.{◌≡◌, ℕ, ◌+◌, ◌<◌, ◌⊎◌, ◌&&◌, Bool, false, nat_le, if◌then◌else◌, ◌==◌, List, [], ◌∷◌, length}
 use Rattle.json_decimal.specs.Literal.{IsDigit}
 

@@ -1,4 +1,4 @@
--- What the readers of the parts of a literal answer.
+-- What the readers of the parts of a literal answer. No public contract speaks of these words.
 use Rattle.std.specs.Prelude.{◌≡◌, ℕ, ◌+◌, ◌≤◌, Bool, ℤ, pos, ◌-ℤ◌, List, ◌++◌, length, Option, IfSome}
 use Rattle.json_decimal.specs.Literal.{Literal, Sign, Exponent, IsLiteral, IsExponent, IsPower, AreDigits, spelling, fraction_bytes, exponent_bytes, exponent_value, sign_bytes, signed_exponent, value_after, digits_value, scale}
 
