@@ -85,7 +85,7 @@ fn answer_to_input<S: Source>(alloc: Global, command: Command, input: &mut S) ->
 fn answer_to_bytes(alloc: Global, command: Command, bytes: List<u8>) -> Result<Answer, OutOfMemory>
     ensures { IfOk result (λ answer. AnswersDocument command bytes answer.status answer.line) }
 {
-    match json_tree::read(alloc, bytes.as_slice()) {
+    match json_read::read(alloc, bytes.as_slice()) {
         Ok(tree) => {
             drop(bytes);
             answer_to_tree(alloc, command, &tree)
