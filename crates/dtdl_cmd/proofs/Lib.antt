@@ -3,8 +3,8 @@ pub mod Order
 pub mod Entries
 pub mod Unique
 pub mod Refused
+pub mod Ended
 pub mod Appended
-pub mod Given
 pub mod Words
 pub mod Breached
 pub mod Rising

@@ -50,6 +50,8 @@ enum NoAnswer {
 }
 
 impl From<OutOfMemory> for NoAnswer {
+    ghost use Rattle.dtdl_cmd.specs.declared.run.NoAnswer.{NoAnswer};
+
     ghost from_gives = { λ _ end. end ≡ NoAnswer.OutOfMemory };
 
     fn from(_error: OutOfMemory) -> NoAnswer {
