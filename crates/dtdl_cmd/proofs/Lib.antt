@@ -14,3 +14,5 @@ pub mod Cut
 pub mod Spelled
 pub mod PropertyTexts
 pub mod OneText
+pub mod OneAnswer
+pub mod OneInput

@@ -14,7 +14,7 @@ mod refusal;
 mod run;
 mod status;
 
-pub use laws::{equal_texts, one_interface};
+pub use laws::{equal_texts, one_answer, one_input, one_interface};
 pub use run::run_plain;
 pub use status::Status;
 
