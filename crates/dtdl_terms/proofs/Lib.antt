@@ -1,2 +1,3 @@
 pub mod TermViews
 pub mod OneTerm
+pub mod Same

@@ -17,7 +17,7 @@ use Rattle.local_rules.specs.Roles.{part_role}
 use Rattle.local_rules.specs.declared.rule.LocalRule.{LocalRule}
 use Rattle.local_rules.specs.declared.role.Role.{Role}
 use Rattle.local_faults.specs.declared.walk.Found.{Found}
-use Rattle.local_faults.specs.Walks.{IsBrokenFrom, IsFirstBroken, HasText, Walks, WalksPart, WalksClear, IsWalkedTo, IsClearHere, Judges}
+use Rattle.local_faults.specs.machinery.Walks.{IsBrokenFrom, IsFirstBroken, HasText, Walks, WalksPart, WalksClear, IsWalkedTo, IsClearHere, Judges}
 use Rattle.local_faults.proofs.IdSets.{if_ok}
 use Rattle.local_faults.proofs.Walked.{IsNoText, here_after, walks_after, walked_leaf, judged, part_found, part_walked}
 

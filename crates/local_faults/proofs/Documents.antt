@@ -16,7 +16,7 @@ use Rattle.local_rules.specs.Breaches.{Breaks, IsEarlierId, IsBroken, IsBreach, 
 use Rattle.local_rules.specs.declared.rule.LocalRule.{LocalRule}
 use Rattle.local_rules.specs.declared.role.Role.TheVariants as role
 use Rattle.local_faults.specs.declared.walk.Found.{Found}
-use Rattle.local_faults.specs.Walks.{HasText, HasIdBefore, IsBrokenFrom, FindsFirst, Walks}
+use Rattle.local_faults.specs.machinery.Walks.{HasText, HasIdBefore, IsBrokenFrom, FindsFirst, Walks}
 use Rattle.local_faults.proofs.Rules.{breaks_along}
 use Rattle.local_faults.proofs.IdSets.{if_ok}
 use Rattle.local_faults.proofs.Walked.{first_along, comes_before}

@@ -17,7 +17,7 @@ use Rattle.local_rules.specs.declared.rule.LocalRule.{LocalRule}
 use Rattle.local_rules.specs.declared.rule.LocalRule.TheVariants as rule
 use Rattle.local_rules.specs.declared.role.Role.{Role}
 use Rattle.local_rules.specs.declared.role.Role.TheVariants as role
-use Rattle.local_faults.specs.Walks.{HasText, IsId, Judges, JudgesId, Adds, id_in}
+use Rattle.local_faults.specs.machinery.Walks.{HasText, IsId, Judges, JudgesId, Adds, id_in}
 use Rattle.local_faults.proofs.Rules.{first_alone, first_schema, first_id}
 
 abbrev Ids : Type 0

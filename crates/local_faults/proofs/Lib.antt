@@ -5,3 +5,9 @@ pub mod IdSets
 pub mod Parts
 pub mod Answered
 pub mod Documents
+mod Indexed
+pub mod Sizes
+mod Climbs
+mod LevelSteps
+mod Tabled
+mod Judged

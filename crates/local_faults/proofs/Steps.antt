@@ -8,7 +8,7 @@ use Rattle.local_rules.specs.Identifiers.{IsIdRole}
 use Rattle.local_rules.specs.Breaches.{Breaks}
 use Rattle.local_rules.specs.declared.rule.LocalRule.{LocalRule}
 use Rattle.local_rules.specs.declared.role.Role.{Role}
-use Rattle.local_faults.specs.Walks.{HasIdBefore, HasIdInPartBefore, IsBrokenFrom}
+use Rattle.local_faults.specs.machinery.Walks.{HasIdBefore, HasIdInPartBefore, IsBrokenFrom}
 use Rattle.local_faults.proofs.Rules.{breaks_along}
 
 -- there is one part at a position

@@ -14,7 +14,7 @@ use Rattle.local_rules.specs.Breaches.{Breaks, ComesBefore}
 use Rattle.local_rules.specs.declared.rule.LocalRule.{LocalRule}
 use Rattle.local_rules.specs.declared.role.Role.{Role}
 use Rattle.local_faults.specs.declared.walk.Found.{Found}
-use Rattle.local_faults.specs.Walks.{HasId, HasIdInPartBefore, IsBrokenFrom, IsFirstBroken, FindsFirst, HasText, Walks, WalksPart, IsWalkedTo, IsClearHere, IsId, Judges}
+use Rattle.local_faults.specs.machinery.Walks.{HasId, HasIdInPartBefore, IsBrokenFrom, IsFirstBroken, FindsFirst, HasText, Walks, WalksPart, IsWalkedTo, IsClearHere, IsId, Judges}
 use Rattle.local_faults.proofs.Rules.{breaks_along}
 use Rattle.local_faults.proofs.Steps.{one_part, one_role, Before, broken_down, broken_up, broken_along, broken_here, is_broken_here}
 

@@ -3,12 +3,12 @@
 ghost use Rattle.std.specs.Prelude.{◌≡◌, IfOk};
 ghost use Rattle.std.specs.Option.{option_map};
 ghost use Rattle.json_tree.specs.View.{view, members_view};
-ghost use Rattle.local_faults.specs.Walks.{Adds, Judges, JudgesId, id_in};
+ghost use Rattle.local_faults.specs.machinery.Walks.{Adds, Judges, JudgesId, id_in};
 
 use dt_base::OutOfMemory;
 use json_tree::Tree;
 use local_rules::{LocalRule, Role, own_rule, text_in};
-use schema_levels::NamedSchemas;
+use crate::schemas::NamedSchemas;
 use std::collections::BTreeSet;
 
 /// The text that a value is as an `@id`.

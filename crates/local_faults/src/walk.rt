@@ -4,13 +4,13 @@ ghost use Rattle.std.specs.Prelude.{◌≡◌, [], ◌∷◌, ◌++◌, IfOk};
 ghost use Rattle.json_tree.specs.Values.{array, object};
 ghost use Rattle.json_tree.specs.View.{view, elements_view, members_view};
 ghost use Rattle.local_rules.specs.Breaches.{IsBroken};
-ghost use Rattle.local_faults.specs.Walks.{FindsFirst, Walks, WalksClear, WalksPart};
+ghost use Rattle.local_faults.specs.machinery.Walks.{FindsFirst, Walks, WalksClear, WalksPart};
 
 use crate::ids::judge;
 use dt_base::OutOfMemory;
 use json_tree::{Member, Tree};
 use local_rules::{EntryRoles, LocalRule, Role, element_of, member_role, members_in};
-use schema_levels::NamedSchemas;
+use crate::schemas::NamedSchemas;
 use std::alloc::Global;
 use std::collections::BTreeSet;
 

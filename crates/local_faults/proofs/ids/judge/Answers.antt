@@ -1,5 +1,5 @@
 use Rattle.json_tree.specs.View.{view, members_view}
-use Rattle.local_faults.specs.Walks.{Judges, JudgesId}
+use Rattle.local_faults.specs.machinery.Walks.{Judges, JudgesId}
 use Rattle.local_faults.proofs.IdSets.{if_ok, judged_alone, judged_schema, judged_id}
 use Rattle.local_faults.proofs.ids.judge.Goals as goal
 
