@@ -1,3 +1,2 @@
 pub mod TermViews
 pub mod OneTerm
-pub mod Same

@@ -1,7 +1,4 @@
 pub mod formers
 pub mod Primitives
-pub mod Limits
 pub mod Terms
 pub mod TermViews
-pub mod Lists
-pub mod Declarations
