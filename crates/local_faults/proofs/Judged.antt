@@ -7,7 +7,7 @@ use Rattle.json_tree.specs.Values.{Json, null, truth, number, text, array, objec
 use Rattle.local_rules.specs.Members.{text_in}
 use Rattle.local_rules.specs.Identifiers.{OfText}
 use Rattle.local_rules.specs.Codes.{rule_number}
-use Rattle.local_rules.specs.Choices.{BreaksSchema, IsFirstOf}
+use Rattle.local_rules.specs.Breaches.{BreaksBySchemas, IsFirstOf}
 use Rattle.local_rules.specs.Levels.{IsOuter, UnknownSchema, TooDeep, ArrayInProperty}
 use Rattle.local_rules.specs.declared.rule.LocalRule.{LocalRule}
 use Rattle.local_rules.specs.declared.rule.LocalRule.TheVariants as rule
@@ -53,40 +53,40 @@ on_by true h = refl
 on_by false h = cc
 
 module _ (ms : Members Number) (r : Role) (v : Json) where
-  before_unknown : (other : LocalRule) → rule_number other < 31 → BreaksSchema ms other r v → ⊥
+  before_unknown : (other : LocalRule) → rule_number other < 31 → BreaksBySchemas ms other r v → ⊥
   before_unknown rule.UnknownSchema less broken = omega (arith, less)
   before_unknown rule.TooDeep less broken = omega (arith, less)
   before_unknown rule.ArrayInProperty less broken = omega (arith, less)
   before_unknown other less broken = broken
 
-  before_deep : (UnknownSchema ms r v → ⊥) → (other : LocalRule) → rule_number other < 33 → BreaksSchema ms other r v → ⊥
+  before_deep : (UnknownSchema ms r v → ⊥) → (other : LocalRule) → rule_number other < 33 → BreaksBySchemas ms other r v → ⊥
   before_deep known rule.UnknownSchema less broken = known broken
   before_deep known rule.TooDeep less broken = omega (arith, less)
   before_deep known rule.ArrayInProperty less broken = omega (arith, less)
   before_deep known other less broken = broken
 
-  before_array : (UnknownSchema ms r v → ⊥) → (TooDeep ms r v → ⊥) → (other : LocalRule) → rule_number other < 34 → BreaksSchema ms other r v → ⊥
+  before_array : (UnknownSchema ms r v → ⊥) → (TooDeep ms r v → ⊥) → (other : LocalRule) → rule_number other < 34 → BreaksBySchemas ms other r v → ⊥
   before_array known flat rule.UnknownSchema less broken = known broken
   before_array known flat rule.TooDeep less broken = flat broken
   before_array known flat rule.ArrayInProperty less broken = omega (arith, less)
   before_array known flat other less broken = broken
 
-  none_broken : (UnknownSchema ms r v → ⊥) → (TooDeep ms r v → ⊥) → (ArrayInProperty ms r v → ⊥) → (other : LocalRule) → BreaksSchema ms other r v → ⊥
+  none_broken : (UnknownSchema ms r v → ⊥) → (TooDeep ms r v → ⊥) → (ArrayInProperty ms r v → ⊥) → (other : LocalRule) → BreaksBySchemas ms other r v → ⊥
   none_broken known flat free rule.UnknownSchema broken = known broken
   none_broken known flat free rule.TooDeep broken = flat broken
   none_broken known flat free rule.ArrayInProperty broken = free broken
   none_broken known flat free other broken = broken
 
-  pub first_unknown : UnknownSchema ms r v → IsFirstOf (λ broken. BreaksSchema ms broken r v) (Some rule.UnknownSchema)
+  pub first_unknown : UnknownSchema ms r v → IsFirstOf (λ broken. BreaksBySchemas ms broken r v) (Some rule.UnknownSchema)
   first_unknown broken = (broken, before_unknown)
 
-  pub first_deep : (UnknownSchema ms r v → ⊥) → TooDeep ms r v → IsFirstOf (λ broken. BreaksSchema ms broken r v) (Some rule.TooDeep)
+  pub first_deep : (UnknownSchema ms r v → ⊥) → TooDeep ms r v → IsFirstOf (λ broken. BreaksBySchemas ms broken r v) (Some rule.TooDeep)
   first_deep known broken = (broken, before_deep known)
 
-  pub first_array : (UnknownSchema ms r v → ⊥) → (TooDeep ms r v → ⊥) → ArrayInProperty ms r v → IsFirstOf (λ broken. BreaksSchema ms broken r v) (Some rule.ArrayInProperty)
+  pub first_array : (UnknownSchema ms r v → ⊥) → (TooDeep ms r v → ⊥) → ArrayInProperty ms r v → IsFirstOf (λ broken. BreaksBySchemas ms broken r v) (Some rule.ArrayInProperty)
   first_array known flat broken = (broken, before_array known flat)
 
-  pub first_none : (UnknownSchema ms r v → ⊥) → (TooDeep ms r v → ⊥) → (ArrayInProperty ms r v → ⊥) → IsFirstOf (λ broken. BreaksSchema ms broken r v) None
+  pub first_none : (UnknownSchema ms r v → ⊥) → (TooDeep ms r v → ⊥) → (ArrayInProperty ms r v → ⊥) → IsFirstOf (λ broken. BreaksBySchemas ms broken r v) None
   first_none known flat free = none_broken known flat free
 
   -- a role in another schema breaks neither of the two others

@@ -1,5 +1,6 @@
 pub mod Rules
 pub mod Steps
+pub mod Marked
 pub mod Walked
 pub mod IdSets
 pub mod Parts

@@ -2,7 +2,7 @@
 
 ghost use Rattle.std.specs.Prelude.{◌≡◌, ◌↔◌, IfOk, IsTrue};
 ghost use Rattle.json_tree.specs.View.{view, members_view};
-ghost use Rattle.local_rules.specs.Choices.{BreaksSchema, IsFirstOf};
+ghost use Rattle.local_rules.specs.Breaches.{BreaksBySchemas, IsFirstOf};
 ghost use Rattle.local_rules.specs.Levels.{IsOuter, UnknownSchema};
 ghost use Rattle.local_rules.specs.Identifiers.{OfText};
 ghost use Rattle.local_faults.specs.machinery.Named.{IsUnknownName};
@@ -89,7 +89,7 @@ impl<'a> NamedSchemas<'a> {
 
     /// The first of the rules on named schemas that a value in a role breaks.
     pub fn rule(&self, role: Role, tree: &Tree) -> Option<LocalRule>
-        ensures { IsFirstOf (λ broken. BreaksSchema (members_view self.now) broken role (view tree.now)) result }
+        ensures { IsFirstOf (λ broken. BreaksBySchemas (members_view self.now) broken role (view tree.now)) result }
     {
         first_broken(&self.names, self.table.as_slice(), role, tree)
     }
@@ -98,7 +98,7 @@ impl<'a> NamedSchemas<'a> {
 /// The first of these rules that is broken, by the measures of the named schemas.
 fn first_broken(names: &Names, table: &[Measure], role: Role, tree: &Tree) -> Option<LocalRule>
     requires { AreMeasured (members_view names.now) 6 table.now }
-    ensures { IsFirstOf (λ broken. BreaksSchema (members_view names.now) broken role (view tree.now)) result }
+    ensures { IsFirstOf (λ broken. BreaksBySchemas (members_view names.now) broken role (view tree.now)) result }
 {
     if is_unknown(names, role, tree) {
         return Some(LocalRule::UnknownSchema);

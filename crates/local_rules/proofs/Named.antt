@@ -6,7 +6,7 @@ use Rattle.json_decimal.specs.Number.{Number}
 use Rattle.json_tree.specs.Values.{Json, text, array, Elements, no_elements, element}
 use Rattle.json_tree.specs.Faults.{element_at}
 use Rattle.local_rules.specs.Members.{list_of, text_in}
-use Rattle.local_rules.specs.Roles.{holds_some}
+use Rattle.local_rules.specs.Repeats.{holds_some}
 use Rattle.local_rules.specs.Levels.{elements_under}
 
 -- the first element that passes a test is some element, and passes it

@@ -6,7 +6,8 @@ use Rattle.json_tree.specs.Values.{Json, text, object, Members}
 use Rattle.dtdl_terms.specs.Primitives.{primitive_name}
 use Rattle.dtdl_terms.specs.declared.primitive.Primitive.{Primitive}
 use Rattle.local_rules.specs.Members.{value_in, text_in, elements_in, members_in}
-use Rattle.local_rules.specs.Roles.{type_of, holds_some}
+use Rattle.local_rules.specs.Roles.{type_of}
+use Rattle.local_rules.specs.Repeats.{holds_some}
 use Rattle.local_rules.specs.Identifiers.{OfText}
 use Rattle.local_rules.specs.declared.role.Element.{Element}
 use Rattle.local_rules.specs.declared.role.Element.TheVariants as element

@@ -1,5 +1,5 @@
 -- Rules on the values of enums, on the keys of maps and on multiplicities.
-use Rattle.std.specs.Prelude.{◌≡◌, ◌≢◌, ℕ, ◌⊎◌, Bool, ℤ, pos, ◌≤ℤ◌, FitsSigned, codes, List}
+use Rattle.std.specs.Prelude.{◌≡◌, ◌≢◌, ℕ, ◌⊎◌, ℤ, pos, ◌≤ℤ◌, FitsSigned, codes, List}
 use Rattle.std.specs.Int.{w32}
 use Rattle.json_decimal.specs.Number.{Number, zero_number}
 use Rattle.json_decimal.specs.Comparing.{IsWhole}
@@ -28,7 +28,7 @@ IsNoneOf kind.Word v = IsWord v → ⊥
 IsNoneOf kind.Neither v = ⊥
 
 abbrev pub BadEnumValue : Role → Json → Type 0
-BadEnumValue r v = (k : ValueKind) × (same_value : Bool) × (r ≡ role.EnumValue k same_value) × IsNoneOf k v
+BadEnumValue r v = (k : ValueKind) × (r ≡ role.EnumValue k) × IsNoneOf k v
 
 -- The schema of a map's key is not `string` (DTDL v2, "Map").
 abbrev pub BadMapKey : Role → Json → Type 0

@@ -34,19 +34,6 @@ pub enum Position {
     Free,
 }
 
-/// Of which list an element is an entry whose name may repeat an earlier one's.
-#[derive(Clone, Copy, Debug, PartialEq, Eq)]
-pub enum Naming {
-    /// The name of a payload of a command, or of a map's key or value, which stands alone.
-    Alone,
-    /// An entry of `contents` or `properties`.
-    Content,
-    /// An entry of `fields`.
-    Field,
-    /// An entry of `enumValues`.
-    EnumEntry,
-}
-
 /// What a payload describes.
 #[derive(Clone, Copy, Debug, PartialEq, Eq)]
 pub enum PayloadUse {
@@ -89,32 +76,21 @@ pub enum Localized {
 
 /// What a place of an interface is for: which kind of value it wants, and which rules hold there. A place that is
 /// under an unknown key, or under a value of a wrong kind, has no role.
-///
-/// `repeats` tells that an earlier entry of the same list has the same name, `same_value` that an earlier enum
-/// entry has the same value.
 #[derive(Clone, Copy, Debug, PartialEq, Eq)]
 pub enum Role {
     Interface,
     /// An entry of `contents`.
-    Content {
-        repeats: bool,
-    },
+    Content,
     /// An entry of a relationship's `properties`.
-    RelationshipProperty {
-        repeats: bool,
-    },
+    RelationshipProperty,
     Payload {
         part: PayloadUse,
     },
     /// An entry of an object schema's `fields`.
-    Field {
-        repeats: bool,
-    },
+    Field,
     /// An entry of `enumValues`.
     EnumEntry {
         kind: ValueKind,
-        repeats: bool,
-        same_value: bool,
     },
     /// An entry of an interface's `schemas`.
     NamedSchema,
@@ -137,17 +113,14 @@ pub enum Role {
     Localized {
         text: Localized,
     },
-    /// A member of one of these; `tagged` tells that its key is a language code.
+    /// A member of one of these.
     LocalizedText {
         text: Localized,
-        tagged: bool,
     },
     /// An entry of a list that is the value of `@type` or `@context`.
-    Entry,
-    /// An entry of `extends`; `repeats` tells that an earlier entry is the same text.
-    Parent {
-        repeats: bool,
-    },
+    ListedText,
+    /// An entry of `extends`.
+    Parent,
     /// The `@id` of an interface.
     InterfaceId,
     /// Any other `@id`.
@@ -155,10 +128,7 @@ pub enum Role {
     /// The `target` of a relationship or the `schema` of a component.
     InterfaceReference,
     Comment,
-    Name {
-        naming: Naming,
-        repeats: bool,
-    },
+    Name,
     CommandType,
     Unit,
     ValueSchema,
@@ -167,7 +137,6 @@ pub enum Role {
     MaxMultiplicity,
     EnumValue {
         kind: ValueKind,
-        same_value: bool,
     },
     /// A member whose key is none of its object's.
     Unknown,
