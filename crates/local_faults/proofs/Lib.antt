@@ -12,3 +12,4 @@ mod Climbs
 mod LevelSteps
 mod Tabled
 mod Judged
+pub mod OneBreach

@@ -202,13 +202,13 @@ object_below s m (text bytes) j w q p is no_list plain = absurd p
 -- the rule of a name or of an enum value, by its mark
 name_found : (q : MarkedRole) (list : Role) (a b : Bool) (broken : LocalRule) → marks.Member list a b ≡ q.mark → q.role ≡ role.Name → a ≡ true → name_rule list ≡ Some broken
     → mark_rule q.role q.mark ≡ Some broken
-name_found q list a b broken is name yes found =
-    ap (mark_rule q.role) (sym is) ∙ (ap (λ (r : Role). member_rule r list a b) name ∙ (ap (λ (t : Bool). member_rule role.Name list t b) yes ∙ found))
+name_found q list a b broken is name on found =
+    ap (mark_rule q.role) (sym is) ∙ (ap (λ (r : Role). member_rule r list a b) name ∙ (ap (λ (t : Bool). member_rule role.Name list t b) on ∙ found))
 
 value_found : (q : MarkedRole) (list : Role) (a b : Bool) (broken : LocalRule) → marks.Member list a b ≡ q.mark → (k : ValueKind) → q.role ≡ role.EnumValue k → b ≡ true
     → value_rule list ≡ Some broken → mark_rule q.role q.mark ≡ Some broken
-value_found q list a b broken is k value yes found =
-    ap (mark_rule q.role) (sym is) ∙ (ap (λ (r : Role). member_rule r list a b) value ∙ (ap (λ (t : Bool). member_rule (role.EnumValue k) list a t) yes ∙ found))
+value_found q list a b broken is k value on found =
+    ap (mark_rule q.role) (sym is) ∙ (ap (λ (r : Role). member_rule r list a b) value ∙ (ap (λ (t : Bool). member_rule (role.EnumValue k) list a t) on ∙ found))
 
 -- ---- from marks to places
 -- an interface itself has no mark

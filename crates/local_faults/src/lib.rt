@@ -5,6 +5,7 @@
 mod document;
 mod ids;
 mod index;
+mod laws;
 mod look;
 mod measures;
 mod rounds;
@@ -12,3 +13,4 @@ mod schemas;
 mod walk;
 
 pub use document::{Breach, first_breach};
+pub use laws::one_first_breach;
