@@ -12,12 +12,12 @@ use Rattle.json_tree.specs.declared.tree.Tree.{Tree}
 use Rattle.json_tree.specs.declared.tree.Tree as variants
 use Rattle.local_rules.proofs.Views.{view-Null, view-Bool, view-Number, view-Text}
 use Rattle.local_faults.proofs.Parts.{leaf_of}
-use Rattle.json_tree.specs.Faults.{IsPart}
-use Rattle.local_rules.specs.machinery.Marks.{part_marked}
+use Rattle.json_tree.specs.Places.{IsPart}
+use Rattle.local_rules.specs.Machinery.Marks.{part_marked}
 use Rattle.local_rules.specs.declared.rule.LocalRule.{LocalRule}
 use Rattle.local_rules.specs.declared.marks.MarkedRole.{MarkedRole}
 use Rattle.local_faults.specs.declared.walk.Found.{Found}
-use Rattle.local_faults.specs.machinery.Walks.{IsBrokenFrom, IsFirstBroken, IsNoted, Walks, WalksPart, WalksClear, IsWalkedTo, IsClearHere, Judges}
+use Rattle.local_faults.specs.Machinery.Walks.{IsBrokenFrom, IsFirstBroken, IsNoted, Walks, WalksPart, WalksClear, IsWalkedTo, IsClearHere, Judges}
 use Rattle.local_faults.proofs.IdSets.{if_ok}
 use Rattle.local_faults.proofs.Walked.{IsNoText, here_after, walks_after, walked_leaf, judged, part_found, part_walked}
 

@@ -10,14 +10,14 @@ use Rattle.std.proofs.lemmas.List.{reverse-append}
 use Rattle.std.proofs.lemmas.Bool.{cases_lt}
 use Rattle.json_decimal.specs.Number.{Number}
 use Rattle.json_tree.specs.Values.{Json, text, array, object, Elements, Members}
-use Rattle.json_tree.specs.Faults.{IsPart, element_at}
+use Rattle.json_tree.specs.Places.{IsPart, element_at}
 use Rattle.local_rules.specs.Members.{members_in}
 use Rattle.local_rules.specs.Breaches.{Breaks, BreaksBySchemas, IsEarlierId, IsBroken, IsBreach, ComesBefore}
-use Rattle.local_rules.specs.machinery.Marks.{HasMarkedRole, interface_role}
+use Rattle.local_rules.specs.Machinery.Marks.{HasMarkedRole, interface_role}
 use Rattle.local_rules.specs.declared.marks.MarkedRole.{MarkedRole}
 use Rattle.local_rules.specs.declared.rule.LocalRule.{LocalRule}
 use Rattle.local_faults.specs.declared.walk.Found.{Found}
-use Rattle.local_faults.specs.machinery.Walks.{BreaksMarked, IsNoted, HasIdBefore, IsBrokenFrom, FindsFirst, Walks}
+use Rattle.local_faults.specs.Machinery.Walks.{BreaksMarked, IsNoted, HasIdBefore, IsBrokenFrom, FindsFirst, Walks}
 use Rattle.local_faults.proofs.Rules.{id_along}
 use Rattle.local_faults.proofs.Marked.{role_of_marked, marked_of_role, mark_breaks, place_breaks}
 use Rattle.local_faults.proofs.IdSets.{if_ok}

@@ -12,8 +12,8 @@ use Rattle.json_tree.specs.Values.{Json, null, truth, number, text, array, objec
 use Rattle.local_rules.specs.Members.{text_in}
 use Rattle.local_rules.specs.Identifiers.{OfText}
 use Rattle.local_rules.specs.Breaches.{IsFirstOf, BreaksAlone, BreaksBySchemas, BreaksById}
-use Rattle.local_rules.specs.machinery.Firsts.{earlier}
-use Rattle.local_rules.specs.machinery.Marks.{BreaksMark}
+use Rattle.local_rules.specs.Machinery.Firsts.{earlier}
+use Rattle.local_rules.specs.Machinery.Marks.{BreaksMark}
 use Rattle.local_rules.specs.declared.marks.MarkedRole.{MarkedRole}
 use Rattle.local_rules.proofs.Firsts.{first_either}
 use Rattle.local_rules.specs.Codes.{rule_number}
@@ -21,7 +21,7 @@ use Rattle.local_rules.specs.declared.rule.LocalRule.{LocalRule}
 use Rattle.local_rules.specs.declared.rule.LocalRule.TheVariants as rule
 use Rattle.local_rules.specs.declared.role.Role.{Role}
 use Rattle.local_rules.specs.declared.role.Role.TheVariants as role
-use Rattle.local_faults.specs.machinery.Walks.{IsNoted, IsId, Judges, JudgesId, Adds, id_in}
+use Rattle.local_faults.specs.Machinery.Walks.{IsNoted, IsId, Judges, JudgesId, Adds, id_in}
 use Rattle.local_faults.proofs.Rules.{none_of_two}
 
 abbrev Ids : Type 0

@@ -14,7 +14,7 @@ use Rattle.local_rules.specs.declared.rule.LocalRule.TheVariants as rule
 use Rattle.local_rules.specs.declared.role.Role.{Role}
 use Rattle.local_rules.specs.declared.role.Role.TheVariants as role
 use Rattle.local_rules.specs.declared.role.SchemaUse.TheVariants as place
-use Rattle.local_faults.specs.machinery.Measured.{IsMeasure}
+use Rattle.local_faults.specs.Machinery.Measured.{IsMeasure}
 use Rattle.local_faults.specs.declared.measures.Measure.{Measure}
 use Rattle.local_faults.proofs.Climbs.{level_down, short_way}
 

@@ -8,7 +8,7 @@ use Rattle.json_tree.specs.Values.{Json, object, Members}
 use Rattle.local_rules.specs.Levels.{IsComplex, HasLevel, ReachesWithin, schema_type, schema_parts}
 use Rattle.local_rules.specs.declared.role.Element.{Element}
 use Rattle.local_rules.specs.declared.role.Element.TheVariants as element
-use Rattle.local_faults.specs.machinery.Measured.{IsMeasure, ArePartsMeasured}
+use Rattle.local_faults.specs.Machinery.Measured.{IsMeasure, ArePartsMeasured}
 use Rattle.local_faults.specs.declared.measures.Measure.{Measure}
 use Rattle.local_faults.proofs.Climbs.{level_down, object_complex, object_is, level_along, reach_along}
 

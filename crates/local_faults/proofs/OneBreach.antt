@@ -2,7 +2,7 @@
 use Rattle.std.proofs.Common.{◌≡◌, ℕ, ◌<◌, ◌-◌, ◌⊎◌, inl, inr, List, [], ◌∷◌, get_or, refl, sym, ap, ◌∙◌, arith}
 use Rattle.std.proofs.lemmas.Bool.{cases_lt}
 use Rattle.json_tree.specs.Values.{Json}
-use Rattle.json_tree.specs.Faults.{IsBefore}
+use Rattle.json_tree.specs.Places.{IsBefore}
 use Rattle.local_rules.specs.Codes.{rule_number}
 use Rattle.local_rules.specs.Breaches.{ComesBefore, IsFirstBreach}
 use Rattle.local_rules.specs.declared.rule.LocalRule.{LocalRule}

@@ -2,13 +2,13 @@
 use Rattle.std.proofs.Common.{◌≡◌, ℕ, zero, suc, ◌<◌, List, [], ◌∷◌, length, map, Option, Some, option_and_then, sym, ap, subst, ◌∙◌, arith}
 use Rattle.json_decimal.specs.Number.{Number}
 use Rattle.json_tree.specs.Values.{Json, text, array, object, Elements, Members}
-use Rattle.json_tree.specs.Faults.{IsPart, member_at}
+use Rattle.json_tree.specs.Places.{IsPart, member_at}
 use Rattle.json_tree.specs.View.{view, elements_view, members_view}
 use Rattle.json_tree.specs.declared.tree.Tree.{Tree}
 use Rattle.json_tree.specs.declared.tree.Member.{Member}
 use Rattle.std.specs.Option.{option_map, option_map_or}
 use Rattle.local_rules.specs.Roles.{element_of, element_member, entry_role}
-use Rattle.local_rules.specs.machinery.Marks.{entry_mark, member_mark, part_marked}
+use Rattle.local_rules.specs.Machinery.Marks.{entry_mark, member_mark, part_marked}
 use Rattle.local_rules.specs.declared.marks.Mark.TheVariants as marks
 use Rattle.local_rules.specs.declared.marks.MarkedRole.{MarkedRole}
 use Rattle.local_rules.specs.declared.role.Element.{Element}

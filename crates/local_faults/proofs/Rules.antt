@@ -5,12 +5,12 @@ use Rattle.json_tree.specs.Values.{Json, null, truth, number, text, array, objec
 use Rattle.local_rules.specs.Codes.{rule_number}
 use Rattle.local_rules.specs.Identifiers.{OfText}
 use Rattle.local_rules.specs.Breaches.{BreaksById}
-use Rattle.local_rules.specs.machinery.Firsts.{earlier}
+use Rattle.local_rules.specs.Machinery.Firsts.{earlier}
 use Rattle.local_rules.specs.declared.rule.LocalRule.{LocalRule}
 use Rattle.local_rules.specs.declared.rule.LocalRule.TheVariants as rule
 use Rattle.local_rules.specs.declared.marks.MarkedRole.{MarkedRole}
 use Rattle.local_rules.specs.declared.role.Role.{Role}
-use Rattle.local_faults.specs.machinery.Walks.{BreaksMarked}
+use Rattle.local_faults.specs.Machinery.Walks.{BreaksMarked}
 
 pub of_text : (P Q : List ℕ → Type 0) → ((bytes : List ℕ) → P bytes → Q bytes) → (v : Json) → OfText P v → OfText Q v
 of_text P Q f null b = b

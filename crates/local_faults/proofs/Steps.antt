@@ -2,12 +2,12 @@
 use Rattle.std.proofs.Common.{◌≡◌, ℕ, ◌⊎◌, inl, inr, List, [], ◌∷◌, Some, refl, sym, ap, subst, ◌∙◌}
 use Rattle.json_decimal.specs.Number.{Number}
 use Rattle.json_tree.specs.Values.{Json, null, truth, number, text, array, object, Members}
-use Rattle.json_tree.specs.Faults.{IsPart, IsBefore}
-use Rattle.local_rules.specs.machinery.Marks.{HasMarkedRole, part_marked}
+use Rattle.json_tree.specs.Places.{IsPart, IsBefore}
+use Rattle.local_rules.specs.Machinery.Marks.{HasMarkedRole, part_marked}
 use Rattle.local_rules.specs.Identifiers.{IsIdRole}
 use Rattle.local_rules.specs.declared.rule.LocalRule.{LocalRule}
 use Rattle.local_rules.specs.declared.marks.MarkedRole.{MarkedRole}
-use Rattle.local_faults.specs.machinery.Walks.{BreaksMarked, HasIdBefore, HasIdInPartBefore, IsBrokenFrom}
+use Rattle.local_faults.specs.Machinery.Walks.{BreaksMarked, HasIdBefore, HasIdInPartBefore, IsBrokenFrom}
 use Rattle.local_faults.proofs.Rules.{breaks_along}
 
 -- there is one part at a position

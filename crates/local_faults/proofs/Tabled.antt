@@ -16,8 +16,8 @@ use Rattle.json_tree.specs.declared.tree.Tree as variants
 use Rattle.json_tree.specs.declared.tree.Member.{Member}
 use Rattle.local_rules.specs.Levels.{IsComplex, IsPrimitive, schema_named, schema_type, has_id}
 use Rattle.local_rules.specs.declared.role.Element.{Element}
-use Rattle.local_faults.specs.machinery.Named.{schemas_in}
-use Rattle.local_faults.specs.machinery.Measured.{IsMeasure, AreMeasured, Measures}
+use Rattle.local_faults.specs.Machinery.Named.{schemas_in}
+use Rattle.local_faults.specs.Machinery.Measured.{IsMeasure, AreMeasured, Measures}
 use Rattle.local_faults.specs.declared.measures.Measure.{Measure}
 use Rattle.local_faults.proofs.Climbs.{text_complex, text_is, object_of_text}
 use Rattle.local_faults.proofs.LevelSteps.{least_measure, measure_along, measure_weaker, first_measure}

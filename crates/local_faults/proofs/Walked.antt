@@ -6,15 +6,15 @@ use Rattle.std.proofs.lemmas.List.{reverse-append}
 use Rattle.std.proofs.lemmas.Bool.{cases_lt}
 use Rattle.json_decimal.specs.Number.{Number}
 use Rattle.json_tree.specs.Values.{Json, text, Members}
-use Rattle.json_tree.specs.Faults.{IsPart}
+use Rattle.json_tree.specs.Places.{IsPart}
 use Rattle.local_rules.specs.Codes.{rule_number}
-use Rattle.local_rules.specs.machinery.Marks.{HasMarkedRole, part_marked}
+use Rattle.local_rules.specs.Machinery.Marks.{HasMarkedRole, part_marked}
 use Rattle.local_rules.specs.Identifiers.{IsIdRole}
 use Rattle.local_rules.specs.Breaches.{ComesBefore}
 use Rattle.local_rules.specs.declared.rule.LocalRule.{LocalRule}
 use Rattle.local_rules.specs.declared.marks.MarkedRole.{MarkedRole}
 use Rattle.local_faults.specs.declared.walk.Found.{Found}
-use Rattle.local_faults.specs.machinery.Walks.{BreaksMarked, HasId, HasIdInPartBefore, IsBrokenFrom, IsFirstBroken, FindsFirst, IsNoted, Walks, WalksPart, IsWalkedTo, IsClearHere, IsId, Judges}
+use Rattle.local_faults.specs.Machinery.Walks.{BreaksMarked, HasId, HasIdInPartBefore, IsBrokenFrom, IsFirstBroken, FindsFirst, IsNoted, Walks, WalksPart, IsWalkedTo, IsClearHere, IsId, Judges}
 use Rattle.local_faults.proofs.Rules.{breaks_along}
 use Rattle.local_faults.proofs.Steps.{one_part, one_role, Before, broken_down, broken_up, broken_along, broken_here, is_broken_here}
 

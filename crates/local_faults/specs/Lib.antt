@@ -1,1 +1,1 @@
-pub mod machinery
+pub mod Machinery

@@ -5,7 +5,7 @@ ghost use Rattle.json_tree.specs.Values.{array};
 ghost use Rattle.json_tree.specs.View.{view, elements_view};
 ghost use Rattle.local_rules.specs.Breaches.{IsBreach, IsFirstBreach};
 ghost use Rattle.local_rules.specs.declared.rule.LocalRule.{LocalRule};
-ghost use Rattle.local_faults.specs.machinery.Walks.{FindsFirst};
+ghost use Rattle.local_faults.specs.Machinery.Walks.{FindsFirst};
 
 use crate::walk::{Found, first_in_interface};
 use dt_base::{List, OutOfMemory};

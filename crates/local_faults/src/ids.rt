@@ -3,7 +3,7 @@
 ghost use Rattle.std.specs.Prelude.{◌≡◌, IfOk};
 ghost use Rattle.std.specs.Option.{option_map};
 ghost use Rattle.json_tree.specs.View.{view, members_view};
-ghost use Rattle.local_faults.specs.machinery.Walks.{Adds, Judges, JudgesId, id_in};
+ghost use Rattle.local_faults.specs.Machinery.Walks.{Adds, Judges, JudgesId, id_in};
 
 use dt_base::OutOfMemory;
 use json_tree::Tree;

@@ -8,7 +8,7 @@ ghost use Rattle.std.specs.BTreeMap.{get_by};
 ghost use Rattle.std.specs.List.{position};
 ghost use Rattle.json_tree.specs.View.{view, members_view};
 ghost use Rattle.local_rules.specs.Levels.{has_id};
-ghost use Rattle.local_faults.specs.machinery.Named.{IsIndex, schemas_in};
+ghost use Rattle.local_faults.specs.Machinery.Named.{IsIndex, schemas_in};
 
 use crate::look::{elements_at, id_in};
 use dt_base::OutOfMemory;
@@ -36,7 +36,7 @@ impl<'a> Model for Names<'a> {
     ghost coded = { coded_list m.the_row.coded };
 
     ghost use Rattle.json_tree.specs.View.{members_view};
-    ghost use Rattle.local_faults.specs.machinery.Named.{IsIndex, schemas_in};
+    ghost use Rattle.local_faults.specs.Machinery.Named.{IsIndex, schemas_in};
 
     ghost view = { λ s. s.members.now };
 

@@ -6,7 +6,7 @@ ghost use Rattle.json_tree.specs.Values.{text, object};
 ghost use Rattle.json_tree.specs.View.{view, members_view};
 ghost use Rattle.local_rules.specs.Members.{value_at, value_in};
 ghost use Rattle.local_rules.specs.Levels.{parts_by};
-ghost use Rattle.local_faults.specs.machinery.Measured.{AreMeasured, IsMeasure, Measures, MeasuresParts};
+ghost use Rattle.local_faults.specs.Machinery.Measured.{AreMeasured, IsMeasure, Measures, MeasuresParts};
 ghost use Rattle.local_rules.specs.declared.role.Element.TheVariants as element;
 
 use crate::index::Names;

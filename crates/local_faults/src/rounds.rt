@@ -2,8 +2,8 @@
 
 ghost use Rattle.std.specs.Prelude.{◌≡◌, ◌<◌, ◌↔◌, ℕ, suc, false, map, length, IsTrue, IfOk, slice_set};
 ghost use Rattle.json_tree.specs.View.{view, members_view};
-ghost use Rattle.local_faults.specs.machinery.Named.{schemas_in};
-ghost use Rattle.local_faults.specs.machinery.Measured.{AreMeasured};
+ghost use Rattle.local_faults.specs.Machinery.Named.{schemas_in};
+ghost use Rattle.local_faults.specs.Machinery.Measured.{AreMeasured};
 
 use crate::index::Names;
 use crate::measures::{Measure, measure_of};

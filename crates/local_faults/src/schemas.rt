@@ -5,8 +5,8 @@ ghost use Rattle.json_tree.specs.View.{view, members_view};
 ghost use Rattle.local_rules.specs.Breaches.{BreaksBySchemas, IsFirstOf};
 ghost use Rattle.local_rules.specs.Levels.{IsOuter, UnknownSchema};
 ghost use Rattle.local_rules.specs.Identifiers.{OfText};
-ghost use Rattle.local_faults.specs.machinery.Named.{IsUnknownName};
-ghost use Rattle.local_faults.specs.machinery.Measured.{AreMeasured};
+ghost use Rattle.local_faults.specs.Machinery.Named.{IsUnknownName};
+ghost use Rattle.local_faults.specs.Machinery.Measured.{AreMeasured};
 ghost use Rattle.local_rules.specs.declared.role.Role.TheVariants as role_of;
 ghost use Rattle.local_rules.specs.declared.role.SchemaUse.TheVariants as place;
 
@@ -42,7 +42,7 @@ impl<'a> Model for NamedSchemas<'a> {
     ghost coded = { coded_list m.the_row.coded };
 
     ghost use Rattle.json_tree.specs.View.{members_view};
-    ghost use Rattle.local_faults.specs.machinery.Measured.{AreMeasured};
+    ghost use Rattle.local_faults.specs.Machinery.Measured.{AreMeasured};
 
     ghost view = { λ s. s.names };
 

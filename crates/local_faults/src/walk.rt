@@ -4,7 +4,7 @@ ghost use Rattle.std.specs.Prelude.{◌≡◌, [], ◌∷◌, ◌++◌, IfOk};
 ghost use Rattle.json_tree.specs.Values.{array, object};
 ghost use Rattle.json_tree.specs.View.{view, elements_view, members_view};
 ghost use Rattle.local_rules.specs.Breaches.{IsBroken};
-ghost use Rattle.local_faults.specs.machinery.Walks.{FindsFirst, Walks, WalksClear, WalksPart};
+ghost use Rattle.local_faults.specs.Machinery.Walks.{FindsFirst, Walks, WalksClear, WalksPart};
 
 use crate::ids::judge;
 use dt_base::OutOfMemory;

@@ -12,7 +12,7 @@ use Rattle.json_tree.specs.Values.{Json}
 use Rattle.json_tree.specs.View.{view}
 use Rattle.json_tree.specs.declared.tree.Tree.{Tree}
 use Rattle.local_rules.specs.Repeats.{holds_some, is_among, same_value}
-use Rattle.local_rules.specs.machinery.Repeated.{HasSeen, compared, is_seen, repeats_by, value_by}
+use Rattle.local_rules.specs.Machinery.Repeated.{HasSeen, compared, is_seen, repeats_by, value_by}
 use Rattle.local_rules.specs.declared.repeated.ComparisonKey.{ComparisonKey}
 use Rattle.local_rules.specs.declared.repeated.ComparisonKey.TheVariants as comparison_key
 use Rattle.local_rules.specs.declared.repeated.Comparison.{Comparison}

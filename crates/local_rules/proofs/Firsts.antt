@@ -7,7 +7,7 @@ use Rattle.local_rules.specs.Texts.{IsTextOf}
 use Rattle.local_rules.specs.Identifiers.{IdUse, IsBadId, IsReservedId, id_use, no_id}
 use Rattle.local_rules.specs.Codes.{rule_number}
 use Rattle.local_rules.specs.Breaches.{BreaksAlone, IsFirstOf}
-use Rattle.local_rules.specs.machinery.Firsts.{IsFirstAmong, earlier, further_rules, id_rules}
+use Rattle.local_rules.specs.Machinery.Firsts.{IsFirstAmong, earlier, further_rules, id_rules}
 use Rattle.local_rules.specs.declared.rule.LocalRule.{LocalRule}
 use Rattle.local_rules.specs.declared.rule.LocalRule.TheVariants as rule
 use Rattle.local_rules.specs.declared.role.Localized.{Localized}

@@ -6,8 +6,8 @@ use Rattle.std.specs.List.{list_any, take-map}
 use Rattle.json_tree.specs.Values.{Json, number, text}
 use Rattle.local_rules.specs.Members.{text_in, value_in}
 use Rattle.local_rules.specs.Repeats.{is_among, holds_some, name_in, repeats, repeats_name, repeats_text, repeats_value, same_value}
-use Rattle.local_rules.specs.machinery.Repeated.{comparable, comparison_of, repeats_by, value_comparison_of}
-use Rattle.local_rules.specs.machinery.Marks.{entry_repeats, entry_repeats_value}
+use Rattle.local_rules.specs.Machinery.Repeated.{comparable, comparison_of, repeats_by, value_comparison_of}
+use Rattle.local_rules.specs.Machinery.Marks.{entry_repeats, entry_repeats_value}
 use Rattle.local_rules.specs.declared.repeated.Comparison.{Comparison}
 use Rattle.local_rules.specs.declared.repeated.Comparison.TheVariants as comparison
 use Rattle.local_rules.specs.declared.role.Role.{Role}

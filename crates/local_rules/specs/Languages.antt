@@ -4,7 +4,7 @@ use Rattle.std.specs.List.{list_all, slice_split}
 use Rattle.std.specs.Char.{is_ascii_alphabetic, is_ascii_alphanumeric}
 use Rattle.json_decimal.specs.Number.{Number}
 use Rattle.json_tree.specs.Values.{Json, object, Members}
-use Rattle.json_tree.specs.Faults.{member_at}
+use Rattle.json_tree.specs.Places.{member_at}
 use Rattle.local_rules.specs.Roles.{HasRole}
 use Rattle.local_rules.specs.declared.role.Localized.{Localized}
 use Rattle.local_rules.specs.declared.role.Role.TheVariants as role

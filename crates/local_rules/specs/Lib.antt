@@ -12,4 +12,4 @@ pub mod Repeats
 pub mod Languages
 pub mod Levels
 pub mod Breaches
-pub mod machinery
+pub mod Machinery

@@ -3,7 +3,7 @@
 ghost use Rattle.std.specs.Prelude.{◌≡◌, ◌↔◌, IsTrue};
 ghost use Rattle.json_tree.specs.View.{view};
 ghost use Rattle.local_rules.specs.Breaches.{BreaksAlone};
-ghost use Rattle.local_rules.specs.machinery.Firsts.{IdBreaks, IdBreaksAt, IsFirstAmong, further_rules, id_rules, schema_id_use};
+ghost use Rattle.local_rules.specs.Machinery.Firsts.{IdBreaks, IdBreaksAt, IsFirstAmong, further_rules, id_rules, schema_id_use};
 ghost use Rattle.local_rules.specs.Identifiers.{HasForm, of_element, of_interface};
 
 use crate::lists::has_too_many_parents;

@@ -5,8 +5,8 @@ ghost use Rattle.std.specs.Prelude.{◌≡◌, ◌<◌, map, length, false, IfOk
 ghost use Rattle.std.specs.Option.{option_map};
 ghost use Rattle.json_tree.specs.View.{view, members_view};
 ghost use Rattle.local_rules.specs.Roles.{element_member, entry_role};
-ghost use Rattle.local_rules.specs.machinery.Marks.{entry_mark, entry_repeats, entry_repeats_value, entry_rule, interface_role, mark_rule, member_mark, member_of_entry, member_rule, name_rule, value_rule};
-ghost use Rattle.local_rules.specs.machinery.Repeated.{AreRepeatsOfMany, AreRepeats, repeats_by, comparison_of, value_comparison_of};
+ghost use Rattle.local_rules.specs.Machinery.Marks.{entry_mark, entry_repeats, entry_repeats_value, entry_rule, interface_role, mark_rule, member_mark, member_of_entry, member_rule, name_rule, value_rule};
+ghost use Rattle.local_rules.specs.Machinery.Repeated.{AreRepeatsOfMany, AreRepeats, repeats_by, comparison_of, value_comparison_of};
 ghost use Rattle.local_rules.specs.declared.repeated.Comparison.TheVariants as comparison;
 
 use crate::languages::is_language;

@@ -3,8 +3,8 @@
 ghost use Rattle.std.specs.Prelude.{◌≡◌, ◌⊎◌};
 ghost use Rattle.json_tree.specs.View.{view};
 ghost use Rattle.local_rules.specs.Breaches.{BreaksAlone, IsFirstOf};
-ghost use Rattle.local_rules.specs.machinery.Firsts.{IsFirstAmong, further_rules};
-ghost use Rattle.local_rules.specs.machinery.Marks.{BreaksMark};
+ghost use Rattle.local_rules.specs.Machinery.Firsts.{IsFirstAmong, further_rules};
+ghost use Rattle.local_rules.specs.Machinery.Marks.{BreaksMark};
 
 use crate::identifiers::{
     element_id_rule, interface_id_rule, parents_rule, schema_id_rule,

@@ -6,7 +6,7 @@ ghost use Rattle.std.specs.List.{list_any};
 ghost use Rattle.json_decimal.specs.Decimals.{number_of};
 ghost use Rattle.json_tree.specs.Values.{text};
 ghost use Rattle.json_tree.specs.View.{view, members_view};
-ghost use Rattle.local_rules.specs.machinery.Repeated.{AreRepeats, HasSeen, comparable, compared, number_by, repeats_by, value_by};
+ghost use Rattle.local_rules.specs.Machinery.Repeated.{AreRepeats, HasSeen, comparable, compared, number_by, repeats_by, value_by};
 ghost use Rattle.local_rules.specs.Repeats.{holds_some, name_in, same_value};
 
 use crate::members::{members_in, text_at, text_in, value_in};

@@ -2,7 +2,7 @@
 
 ghost use Rattle.std.specs.Prelude.{◌≡◌};
 ghost use Rattle.local_rules.specs.Codes.{rule_code, rule_number};
-ghost use Rattle.local_rules.specs.machinery.Firsts.{earlier};
+ghost use Rattle.local_rules.specs.Machinery.Firsts.{earlier};
 
 /// A rule that a place of one document can break, in the order in which rules are named at one place. What each
 /// forbids is said by the definition of its name in specs/ and in docs/profile.md.

@@ -6,7 +6,7 @@ ghost use Rattle.json_tree.specs.Values.{text};
 ghost use Rattle.json_tree.specs.View.{view};
 ghost use Rattle.local_rules.specs.Identifiers.{OfText};
 ghost use Rattle.local_rules.specs.Breaches.{BreaksAlone};
-ghost use Rattle.local_rules.specs.machinery.Firsts.{IsFirstAmong, further_rules};
+ghost use Rattle.local_rules.specs.Machinery.Firsts.{IsFirstAmong, further_rules};
 ghost use Rattle.local_rules.specs.Texts.{BadCommandType, BadUnit, LongComment, scalar_values};
 ghost use Rattle.local_rules.specs.Types.{IsName};
 

@@ -4,7 +4,7 @@ use Rattle.std.specs.Prelude.{Contains}
 use Rattle.std.proofs.lemmas.Bool.{true_from_ne_false}
 use Rattle.json_decimal.specs.Number.{Number}
 use Rattle.json_tree.specs.Values.{Json, array, object, Elements, Members}
-use Rattle.json_tree.specs.Faults.{IsPart, element_at, member_at}
+use Rattle.json_tree.specs.Places.{IsPart, element_at, member_at}
 use Rattle.local_rules.specs.Members.{list_of, value_at}
 use Rattle.local_rules.specs.Tables.{key_text, required}
 use Rattle.local_rules.specs.Roles.{element_member, element_of, entry_role, key_of, key_role, member_role, part_role, role_of_key}

@@ -4,7 +4,7 @@
 use Rattle.std.specs.Prelude.{◌≡◌, ◌≢◌, ℕ, ◌⊎◌, List, Bool, Option, Some, None, codes}
 use Rattle.json_decimal.specs.Number.{Number}
 use Rattle.json_tree.specs.Values.{Json, truth, text, array, object, Elements, Members}
-use Rattle.json_tree.specs.Faults.{element_at, member_at}
+use Rattle.json_tree.specs.Places.{element_at, member_at}
 use Rattle.dtmi_name.specs.Grammar.{Identifier}
 use Rattle.local_rules.specs.Members.{list_of, value_at}
 use Rattle.local_rules.specs.Roles.{HasRole, type_of}

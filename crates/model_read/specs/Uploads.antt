@@ -2,7 +2,7 @@
 use Rattle.std.specs.Prelude.{◌≡◌, ℕ, suc, ◌<◌, ◌↔◌, List, [], ◌∷◌, Option, Some, None, IsTrue, codes}
 use Rattle.json_decimal.specs.Number.{Number}
 use Rattle.json_tree.specs.Values.{Json, null, truth, number, text, array, object, Elements, no_elements, element, Members}
-use Rattle.json_tree.specs.Faults.{member_at}
+use Rattle.json_tree.specs.Places.{member_at}
 use Rattle.json_tree.specs.Pointers.{IsPointerOf}
 use Rattle.dtdl_terms.specs.declared.uploaded.Uploaded.{Uploaded}
 use Rattle.local_rules.specs.Members.{value_at}

@@ -3,7 +3,7 @@
 ghost use Rattle.std.specs.Prelude.{◌≡◌, ◌∷◌, [], ℕ, List, IfOk};
 ghost use Rattle.json_tree.specs.Values.{Json, array, object};
 ghost use Rattle.json_tree.specs.View.{view, members_view, elements_view};
-ghost use Rattle.json_tree.specs.Faults.{StandsAt};
+ghost use Rattle.json_tree.specs.Places.{StandsAt};
 ghost use Rattle.local_rules.specs.Breaches.{IsBreach};
 ghost use Rattle.local_rules.specs.declared.rule.LocalRule.{LocalRule};
 ghost use Rattle.model_read.specs.Ends.{IsRightEnd};

@@ -1,6 +1,6 @@
 use Rattle.std.proofs.Common.{map, take}
 use Rattle.json_tree.specs.View.{view}
-use Rattle.local_faults.specs.machinery.Named.{IsIndex}
+use Rattle.local_faults.specs.Machinery.Named.{IsIndex}
 use Rattle.local_faults.proofs.index.index_of.Given as goal
 
 -- each `@id` so far leads to the first entry that has it

@@ -8,7 +8,7 @@ use Rattle.json_tree.specs.declared.tree.Tree.{Tree}
 use Rattle.local_rules.specs.Members.{value_in}
 use Rattle.local_rules.specs.Levels.{parts_by}
 use Rattle.local_rules.specs.declared.role.Element.{Element}
-use Rattle.local_faults.specs.machinery.Measured.{ArePartsMeasured}
+use Rattle.local_faults.specs.Machinery.Measured.{ArePartsMeasured}
 use Rattle.local_faults.proofs.Sizes.{item_smaller, part_smaller, payload_smaller, fields_no_larger}
 use Rattle.local_faults.proofs.Indexed.{fields_more, fields_all}
 use Rattle.local_faults.proofs.LevelSteps.{joined_parts, object_measure}

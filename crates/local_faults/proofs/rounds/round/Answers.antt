@@ -1,9 +1,9 @@
 use Rattle.std.proofs.Common.{◌≡◌, ◌<◌, length, sym, ap, ◌∙◌, arith, refl, suc, subst}
 use Rattle.std.proofs.lemmas.List.{length-map}
 use Rattle.json_tree.specs.Values.{Json}
-use Rattle.local_faults.specs.machinery.Measured.{IsMeasure}
+use Rattle.local_faults.specs.Machinery.Measured.{IsMeasure}
 use Rattle.json_tree.specs.View.{view, members_view}
-use Rattle.local_faults.specs.machinery.Named.{schemas_in}
+use Rattle.local_faults.specs.Machinery.Named.{schemas_in}
 use Rattle.local_faults.proofs.Tabled.{mixed_first, mixed_right, mixed_more, mixed_last, entry_object}
 use Rattle.local_faults.proofs.rounds.round.Goals as goal
 

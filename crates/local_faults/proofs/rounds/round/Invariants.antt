@@ -1,6 +1,6 @@
 use Rattle.std.proofs.Common.{◌≡◌, ℕ, false}
 use Rattle.json_tree.specs.View.{members_view}
-use Rattle.local_faults.specs.machinery.Measured.{AreMeasured}
+use Rattle.local_faults.specs.Machinery.Measured.{AreMeasured}
 use Rattle.local_faults.proofs.Tabled.{AreMixed}
 use Rattle.local_faults.proofs.rounds.round.Given as goal
 

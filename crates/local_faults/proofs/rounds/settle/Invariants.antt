@@ -1,5 +1,5 @@
 use Rattle.json_tree.specs.View.{members_view}
-use Rattle.local_faults.specs.machinery.Measured.{AreMeasured}
+use Rattle.local_faults.specs.Machinery.Measured.{AreMeasured}
 use Rattle.local_faults.proofs.rounds.settle.Given as goal
 
 -- the table is right as far as the rounds are many

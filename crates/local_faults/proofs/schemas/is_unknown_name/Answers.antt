@@ -2,7 +2,7 @@ use Rattle.std.proofs.Common.{◌≡◌, sym, ◌∙◌, Some, None}
 use Rattle.json_tree.specs.Values.{object}
 use Rattle.json_tree.specs.View.{members_view}
 use Rattle.local_rules.specs.Levels.{has_id}
-use Rattle.local_faults.specs.machinery.Named.{schemas_in}
+use Rattle.local_faults.specs.Machinery.Named.{schemas_in}
 use Rattle.local_faults.proofs.Tabled.{named_at, found_none}
 use Rattle.local_faults.proofs.schemas.is_unknown_name.Goals as goal
 

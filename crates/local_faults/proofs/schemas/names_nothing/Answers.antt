@@ -1,5 +1,5 @@
 use Rattle.json_tree.specs.View.{view, members_view}
-use Rattle.local_faults.specs.machinery.Named.{IsUnknownName}
+use Rattle.local_faults.specs.Machinery.Named.{IsUnknownName}
 use Rattle.local_faults.proofs.Judged.{of_text, by_text, no_text}
 use Rattle.local_faults.proofs.schemas.names_nothing.Goals as goal
 

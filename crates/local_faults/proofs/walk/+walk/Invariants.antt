@@ -1,6 +1,6 @@
 use Rattle.json_tree.specs.Values.{array, object}
 use Rattle.json_tree.specs.View.{elements_view, members_view}
-use Rattle.local_faults.specs.machinery.Walks.{IsWalkedTo}
+use Rattle.local_faults.specs.Machinery.Walks.{IsWalkedTo}
 use Rattle.local_faults.proofs.walk.+walk.Given as goal
 
 abbrev pub invariant-first_in_members-loop-at : goal.invariant-first_in_members-loop-at

@@ -2,7 +2,7 @@ use Rattle.std.proofs.Common.{◌∙◌, ap, subst}
 use Rattle.std.specs.Result.{IfOk}
 use Rattle.json_tree.specs.View.{view, members_view}
 use Rattle.local_rules.specs.declared.marks.MarkedRole.{MarkedRole}
-use Rattle.local_faults.specs.machinery.Walks.{Walks}
+use Rattle.local_faults.specs.Machinery.Walks.{Walks}
 use Rattle.local_faults.proofs.Documents.{whole}
 use Rattle.local_faults.proofs.walk.first_in_interface.Goals as goal
 

@@ -1,7 +1,7 @@
 use Rattle.std.proofs.Common.{List, inl, inr, refl, sym, subst}
 use Rattle.json_tree.specs.View.{view}
 use Rattle.local_rules.specs.Breaches.{BreaksAlone}
-use Rattle.local_rules.specs.machinery.Firsts.{IsFirstAmong}
+use Rattle.local_rules.specs.Machinery.Firsts.{IsFirstAmong}
 use Rattle.local_rules.specs.declared.rule.LocalRule.{LocalRule}
 use Rattle.local_rules.specs.declared.role.Role.TheVariants as role
 use Rattle.local_rules.specs.declared.rule.LocalRule.TheVariants as rule

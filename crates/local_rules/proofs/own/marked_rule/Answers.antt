@@ -1,7 +1,7 @@
 use Rattle.std.proofs.Common.{◌⊎◌, Option, sym, subst}
 use Rattle.json_tree.specs.View.{view}
 use Rattle.local_rules.specs.Breaches.{BreaksAlone, IsFirstOf}
-use Rattle.local_rules.specs.machinery.Marks.{BreaksMark}
+use Rattle.local_rules.specs.Machinery.Marks.{BreaksMark}
 use Rattle.local_rules.specs.declared.rule.LocalRule.{LocalRule}
 use Rattle.local_rules.proofs.Firsts.{first_either, first_known}
 use Rattle.local_rules.proofs.own.marked_rule.Goals as goal

@@ -1,7 +1,7 @@
 use Rattle.std.proofs.Common.{◌≡◌, map, drop}
 use Rattle.std.specs.List.{list_any}
 use Rattle.json_tree.specs.View.{view}
-use Rattle.local_rules.specs.machinery.Repeated.{compared, value_by}
+use Rattle.local_rules.specs.Machinery.Repeated.{compared, value_by}
 use Rattle.local_rules.specs.Repeats.{holds_some, same_value}
 use Rattle.local_rules.proofs.repeated.any_has_key.Given as goal
 

@@ -1,7 +1,7 @@
 use Rattle.std.proofs.Common.{refl, sym, subst}
 use Rattle.json_tree.specs.Values.{Json}
 use Rattle.json_tree.specs.View.{view}
-use Rattle.json_tree.specs.Faults.{IsPart}
+use Rattle.json_tree.specs.Places.{IsPart}
 use Rattle.model_read.specs.Shapes.{IsSoundInterface}
 use Rattle.json_tree.proofs.Parts.{item_part}
 use Rattle.model_read.proofs.Placed.{uploads_step}
