@@ -1,5 +1,5 @@
 use Rattle.json_tree.proofs.Printed.{item_of_tree, member_of_tree}
-use Rattle.json_read.proofs.laws.+of_tree.Goals as goal
+use Rattle.json_tree.proofs.laws.+of_tree.Goals as goal
 
 pub of_items-loop-item-preserved : goal.of_items-loop-item-preserved
 of_items-loop-item-preserved t c =

@@ -1,7 +1,7 @@
 use Rattle.std.proofs.Common.{take}
 use Rattle.json_tree.specs.Machinery.Pieces.{AreOfTrees, MembersAreOfTrees}
 use Rattle.json_tree.specs.View.{elements_view, members_view}
-use Rattle.json_read.proofs.laws.+of_tree.Given as goal
+use Rattle.json_tree.proofs.laws.+of_tree.Given as goal
 
 -- what was walked over
 abbrev pub invariant-of_items-loop-item : goal.invariant-of_items-loop-item

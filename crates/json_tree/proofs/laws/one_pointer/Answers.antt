@@ -1,5 +1,5 @@
 use Rattle.json_tree.proofs.OnePointer.{one_pointer}
-use Rattle.json_read.proofs.laws.one_pointer.Goals as goal
+use Rattle.json_tree.proofs.laws.one_pointer.Goals as goal
 
 pub returns-clause-value : goal.returns-clause-value
 returns-clause-value c = one_pointer
