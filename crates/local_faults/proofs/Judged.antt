@@ -13,7 +13,7 @@ use Rattle.local_rules.specs.declared.rule.LocalRule.{LocalRule}
 use Rattle.local_rules.specs.declared.rule.LocalRule.TheVariants as rule
 use Rattle.local_rules.specs.declared.role.Role.{Role}
 use Rattle.local_rules.specs.declared.role.Role.TheVariants as role
-use Rattle.local_rules.specs.declared.role.SchemaUse.TheVariants as place
+use Rattle.local_rules.specs.declared.role.SchemaUse.TheVariants as schema_use
 use Rattle.local_faults.specs.Machinery.Measured.{IsMeasure}
 use Rattle.local_faults.specs.declared.measures.Measure.{Measure}
 use Rattle.local_faults.proofs.Climbs.{level_down, short_way}
@@ -103,7 +103,7 @@ module _ (ms : Members Number) (r : Role) (v : Json) where
   pub deep_by : (m : Measure) → IsMeasure ms 6 v m → IsOuter r → 6 ≤ m.level → TooDeep ms r v
   deep_by m h outer most = (outer, level_down ms 6 m.level v most h.deep)
 
-  pub array_by : (m : Measure) → IsMeasure ms 6 v m → r ≡ role.Schema place.Property → m.reaches ≡ true → ArrayInProperty ms r v
+  pub array_by : (m : Measure) → IsMeasure ms 6 v m → r ≡ role.Schema schema_use.Property → m.reaches ≡ true → ArrayInProperty ms r v
   array_by m h is on = (is, h.array on)
 
   pub free_by : (m : Measure) → IsMeasure ms 6 v m → m.level < 6 → m.reaches ≡ false → ArrayInProperty ms r v → ⊥

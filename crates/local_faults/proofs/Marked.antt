@@ -14,7 +14,7 @@ use Rattle.local_rules.specs.declared.marks.Mark.{Mark}
 use Rattle.local_rules.specs.declared.marks.Mark.TheVariants as marks
 use Rattle.local_rules.specs.declared.marks.MarkedRole.{MarkedRole}
 use Rattle.local_rules.specs.declared.role.Localized.{Localized}
-use Rattle.local_rules.specs.declared.role.ValueKind.{ValueKind}
+use Rattle.local_rules.specs.declared.role.ValueSchema.{ValueSchema}
 use Rattle.local_rules.specs.declared.role.Role.{Role}
 use Rattle.local_rules.specs.declared.role.Role.TheVariants as role
 use Rattle.local_rules.specs.declared.rule.LocalRule.{LocalRule}
@@ -205,7 +205,7 @@ name_found : (q : MarkedRole) (list : Role) (a b : Bool) (broken : LocalRule) �
 name_found q list a b broken is name on found =
     ap (mark_rule q.role) (sym is) ∙ (ap (λ (r : Role). member_rule r list a b) name ∙ (ap (λ (t : Bool). member_rule role.Name list t b) on ∙ found))
 
-value_found : (q : MarkedRole) (list : Role) (a b : Bool) (broken : LocalRule) → marks.Member list a b ≡ q.mark → (k : ValueKind) → q.role ≡ role.EnumValue k → b ≡ true
+value_found : (q : MarkedRole) (list : Role) (a b : Bool) (broken : LocalRule) → marks.Member list a b ≡ q.mark → (k : ValueSchema) → q.role ≡ role.EnumValue k → b ≡ true
     → value_rule list ≡ Some broken → mark_rule q.role q.mark ≡ Some broken
 value_found q list a b broken is k value on found =
     ap (mark_rule q.role) (sym is) ∙ (ap (λ (r : Role). member_rule r list a b) value ∙ (ap (λ (t : Bool). member_rule (role.EnumValue k) list a t) on ∙ found))
@@ -272,7 +272,7 @@ module _ (v : Json) where
   name_breaks place q w other b broken h is name found = absurd cc
 
   value_breaks : (place : List ℕ) (q : MarkedRole) (w : Json) (list : Role) (a : Bool) (broken : LocalRule) → HasMarkedRole interface_role v place q w
-      → q.mark ≡ marks.Member list a true → (k : ValueKind) → q.role ≡ role.EnumValue k → value_rule list ≡ Some broken → BreaksByPlace v place broken q.role
+      → q.mark ≡ marks.Member list a true → (k : ValueSchema) → q.role ≡ role.EnumValue k → value_rule list ≡ Some broken → BreaksByPlace v place broken q.role
   value_breaks place q w (role.EnumValues j) a broken h is k value found =
       let one : rule.DuplicateEnumValue ≡ broken = cc in
       subst (λ (x : LocalRule). BreaksByPlace v place x q.role) one

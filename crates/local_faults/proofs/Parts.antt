@@ -35,7 +35,7 @@ pub member_is_marked : (r : MarkedRole) (ms : Members Number) (i : ℕ) (key : L
 member_is_marked r ms i key part e word s p element same found =
     let Found : Option Element → List ℕ → Option MarkedRole = λ o k. option_map (λ (q : Role). record { role = q; mark = member_mark r.role r.mark k }) (element_member r.role ms o k) in
     ap (λ (o : Option (List ℕ × Json)). option_map (λ (q : Role). record { role = q; mark = option_map_or (λ m. member_mark r.role r.mark m.0) o marks.Plain })
-        (option_and_then (λ m. element_member r.role ms (element_of r.role ms) m.0) o)) p
+    (option_and_then (λ m. element_member r.role ms (element_of r.role ms) m.0) o)) p
     ∙ sym (found ∙ (ap (λ (o : Option Element). Found o word) element ∙ ap (λ (k : List ℕ). Found (element_of r.role ms) k) same))
 
 pub entry_is_marked : (r : MarkedRole) (items : List Tree) (i : ℕ) (s : Option MarkedRole) (q : Role) (others : List Tree) → q ≡ r.role → others ≡ items

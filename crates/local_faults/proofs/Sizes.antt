@@ -5,8 +5,8 @@ use Rattle.json_decimal.specs.Number.{Number}
 use Rattle.json_tree.specs.Values.{Value, Json, null, truth, number, text, array, object, Elements, no_elements, element, Members, no_members, member, elements_of}
 use Rattle.json_tree.specs.View.{view, elements_view}
 use Rattle.json_tree.specs.declared.tree.Tree.{Tree}
-use Rattle.local_rules.specs.Members.{list_of, value_at, value_in, elements_in}
-use Rattle.local_rules.specs.Levels.{elements_at, elements_under}
+use Rattle.local_rules.specs.Members.{list_of, value_at, value_in, entries_in}
+use Rattle.local_rules.specs.Levels.{entries_at, entries_under}
 
 abbrev mutual
   pub size : {N : Type 0} → Value N → ℕ
@@ -79,20 +79,20 @@ elements_of-list_of : {N : Type 0} (vs : Elements N) → elements_of (list_of vs
 elements_of-list_of no_elements = refl
 elements_of-list_of (element v vs) = ap (λ us. element v us) (elements_of-list_of vs)
 
-elements_in-no_larger : (v : Json) → size (array (elements_of (elements_in v))) ≤ size v
-elements_in-no_larger null = omega arith
-elements_in-no_larger (truth b) = omega arith
-elements_in-no_larger (number n) = omega arith
-elements_in-no_larger (text bytes) = omega arith
-elements_in-no_larger (array vs) = rw (elements_of-list_of vs) (omega arith)
-elements_in-no_larger (object ms) = omega arith
+entries_in-no_larger : (v : Json) → size (array (elements_of (entries_in v))) ≤ size v
+entries_in-no_larger null = omega arith
+entries_in-no_larger (truth b) = omega arith
+entries_in-no_larger (number n) = omega arith
+entries_in-no_larger (text bytes) = omega arith
+entries_in-no_larger (array vs) = rw (elements_of-list_of vs) (omega arith)
+entries_in-no_larger (object ms) = omega arith
 
-elements_under-no_larger : (n : ℕ) (o : Option Json) → 1 ≤ n → option_size o < n → size (array (elements_of (elements_under o))) ≤ n
-elements_under-no_larger n None one h = omega arith
-elements_under-no_larger n (Some v) one h = let g = elements_in-no_larger v in omega (arith, g, h)
+entries_under-no_larger : (n : ℕ) (o : Option Json) → 1 ≤ n → option_size o < n → size (array (elements_of (entries_under o))) ≤ n
+entries_under-no_larger n None one h = omega arith
+entries_under-no_larger n (Some v) one h = let g = entries_in-no_larger v in omega (arith, g, h)
 
-elements_at-no_larger : (key : List ℕ) (v : Json) → size (array (elements_of (elements_at key v))) ≤ size v
-elements_at-no_larger key v = elements_under-no_larger (size v) (value_in key v) (size_positive v) (value_in-smaller key v)
+entries_at-no_larger : (key : List ℕ) (v : Json) → size (array (elements_of (entries_at key v))) ≤ size v
+entries_at-no_larger key v = entries_under-no_larger (size v) (value_in key v) (size_positive v) (value_in-smaller key v)
 
-pub fields_no_larger : (vs : List Json) (key : List ℕ) (v : Json) → vs ≡ elements_at key v → size (array (elements_of vs)) ≤ size v
-fields_no_larger vs key v is = let P : List Json → Type 0 = λ ws. size (array (elements_of ws)) ≤ size v in subst P (sym is) (elements_at-no_larger key v)
+pub fields_no_larger : (vs : List Json) (key : List ℕ) (v : Json) → vs ≡ entries_at key v → size (array (elements_of vs)) ≤ size v
+fields_no_larger vs key v is = let P : List Json → Type 0 = λ ws. size (array (elements_of ws)) ≤ size v in subst P (sym is) (entries_at-no_larger key v)

@@ -5,10 +5,10 @@ ghost use Rattle.std.specs.Option.{option_map};
 ghost use Rattle.json_tree.specs.View.{view, members_view};
 ghost use Rattle.local_faults.specs.Machinery.Walks.{Adds, Judges, JudgesId, id_in};
 
+use crate::schemas::NamedSchemas;
 use dt_base::OutOfMemory;
 use json_tree::Tree;
 use local_rules::{LocalRule, MarkedRole, Role, earlier, marked_rule, text_in};
-use crate::schemas::NamedSchemas;
 use std::collections::BTreeSet;
 
 /// The text that a value is as an `@id`.

@@ -10,7 +10,7 @@ ghost use Rattle.json_tree.specs.View.{view, members_view};
 ghost use Rattle.local_rules.specs.Levels.{has_id};
 ghost use Rattle.local_faults.specs.Machinery.Named.{IsIndex, schemas_in};
 
-use crate::look::{elements_at, id_in};
+use crate::look::{entries_at, id_in};
 use dt_base::OutOfMemory;
 use json_tree::{Member, Tree};
 use std::alloc::Global;
@@ -90,7 +90,7 @@ impl<'a> Names<'a> {
     pub fn of(alloc: Global, members: &'a [Member]) -> Result<Names<'a>, OutOfMemory>
         ensures { IfOk result (λ names. names ≡ members.now) }
     {
-        let index = index_of(alloc, elements_at(members, "schemas"))?;
+        let index = index_of(alloc, entries_at(members, "schemas"))?;
         Ok(Names { members, index })
     }
 
@@ -98,11 +98,11 @@ impl<'a> Names<'a> {
     pub fn entries(&self) -> &'a [Tree]
         ensures { map view result.now ≡ schemas_in (members_view self.now) }
     {
-        elements_at(self.members, "schemas")
+        entries_at(self.members, "schemas")
     }
 
     /// The place of the first entry of `schemas` with this `@id`.
-    pub fn place_of(&self, id: &str) -> Option<usize>
+    pub fn position_of_id(&self, id: &str) -> Option<usize>
         ensures { result ≡ position (has_id id.now) (schemas_in (members_view self.now)) }
     {
         self.index.get(id).copied()

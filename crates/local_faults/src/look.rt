@@ -4,11 +4,11 @@ ghost use Rattle.std.specs.Prelude.{◌≡◌, ◌↔◌, IsTrue, map};
 ghost use Rattle.std.specs.Option.{option_map};
 ghost use Rattle.json_tree.specs.Values.{object};
 ghost use Rattle.json_tree.specs.View.{view, members_view};
-ghost use Rattle.local_rules.specs.Levels.{IsPrimitive, elements_at, id_in};
+ghost use Rattle.local_rules.specs.Levels.{IsPrimitive, entries_at, id_in};
 
 use dtdl_terms::primitive_named;
 use json_tree::{Member, Tree};
-use local_rules::{elements_in, text_in, value_at, value_in};
+use local_rules::{entries_in, text_in, value_at, value_in};
 
 /// The text `@id` of a value.
 pub fn id_in(tree: &Tree) -> Option<&str>
@@ -21,11 +21,11 @@ pub fn id_in(tree: &Tree) -> Option<&str>
 }
 
 /// The elements of the list under a key.
-pub fn elements_at<'a>(members: &'a [Member], key: &str) -> &'a [Tree]
-    ensures { map view result.now ≡ elements_at key.now (object (members_view members.now)) }
+pub fn entries_at<'a>(members: &'a [Member], key: &str) -> &'a [Tree]
+    ensures { map view result.now ≡ entries_at key.now (object (members_view members.now)) }
 {
     match value_at(members, key) {
-        Some(list) => elements_in(list),
+        Some(list) => entries_in(list),
         None => &[],
     }
 }

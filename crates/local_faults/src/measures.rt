@@ -10,7 +10,7 @@ ghost use Rattle.local_faults.specs.Machinery.Measured.{AreMeasured, IsMeasure, 
 ghost use Rattle.local_rules.specs.declared.role.Element.TheVariants as element;
 
 use crate::index::Names;
-use crate::look::{elements_at, is_primitive};
+use crate::look::{entries_at, is_primitive};
 use json_tree::{Member, Tree};
 use local_rules::{Element, Position, type_of, value_at, value_in};
 
@@ -76,7 +76,7 @@ fn measure_of_text(names: &Names, table: &[Measure], name: &str) -> Measure
     if is_primitive(name) {
         return Measure::least();
     }
-    match names.place_of(name) {
+    match names.position_of_id(name) {
         Some(at) => measure_at(table, at),
         None => Measure::least(),
     }
@@ -139,7 +139,7 @@ fn measure_of_parts(names: &Names, table: &[Measure], kind: Element, members: &[
             let value = measure_of_part(names, table, payload_schema(members, "mapValue"));
             key.joined(value)
         }
-        Element::Object => measure_of_fields(names, table, elements_at(members, "fields")),
+        Element::Object => measure_of_fields(names, table, entries_at(members, "fields")),
         _ => Measure::least(),
     }
 }

@@ -8,7 +8,7 @@ ghost use Rattle.local_rules.specs.Identifiers.{OfText};
 ghost use Rattle.local_faults.specs.Machinery.Named.{IsUnknownName};
 ghost use Rattle.local_faults.specs.Machinery.Measured.{AreMeasured};
 ghost use Rattle.local_rules.specs.declared.role.Role.TheVariants as role_of;
-ghost use Rattle.local_rules.specs.declared.role.SchemaUse.TheVariants as place;
+ghost use Rattle.local_rules.specs.declared.role.SchemaUse.TheVariants as schema_use;
 
 use crate::index::Names;
 use crate::look::is_primitive;
@@ -67,7 +67,7 @@ fn is_outer(role: Role) -> bool
 
 /// Whether a schema with this role is that of a property.
 fn is_of_property(role: Role) -> bool
-    ensures { IsTrue result ↔ (role ≡ role_of.Schema place.Property) }
+    ensures { IsTrue result ↔ (role ≡ role_of.Schema schema_use.Property) }
 {
     match role {
         Role::Schema {
@@ -146,7 +146,7 @@ fn is_unknown_name(names: &Names, name: &str) -> bool
     if is_primitive(name) {
         return false;
     }
-    match names.place_of(name) {
+    match names.position_of_id(name) {
         Some(_) => false,
         None => true,
     }

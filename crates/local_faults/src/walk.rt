@@ -3,14 +3,13 @@
 ghost use Rattle.std.specs.Prelude.{◌≡◌, [], ◌∷◌, ◌++◌, IfOk};
 ghost use Rattle.json_tree.specs.Values.{array, object};
 ghost use Rattle.json_tree.specs.View.{view, elements_view, members_view};
-ghost use Rattle.local_rules.specs.Breaches.{IsBroken};
-ghost use Rattle.local_faults.specs.Machinery.Walks.{FindsFirst, Walks, WalksClear, WalksPart};
+ghost use Rattle.local_faults.specs.Machinery.Walks.{Walks, WalksClear, WalksPart};
 
 use crate::ids::judge;
+use crate::schemas::NamedSchemas;
 use dt_base::OutOfMemory;
 use json_tree::{Member, Tree};
-use local_rules::{EntryMarks, LocalRule, MarkedRole, element_of, members_in};
-use crate::schemas::NamedSchemas;
+use local_rules::{EntryMarks, LocalRule, MarkedRole, element_of};
 use std::alloc::Global;
 use std::collections::BTreeSet;
 
@@ -31,18 +30,9 @@ impl Found {
     }
 }
 
-/// The first breach in an interface.
-pub fn first_in_interface(alloc: Global, tree: &Tree) -> Result<Option<Found>, OutOfMemory>
-    ensures { IfOk result (FindsFirst (IsBroken (view tree.now))) }
-{
-    let schemas = NamedSchemas::of(alloc, members_in(tree))?;
-    let mut ids = BTreeSet::new(alloc);
-    first_in(tree, alloc, &schemas, MarkedRole::of_interface(), &mut ids)
-}
-
 /// The first breach in a value that stands in a marked role, where the set has the `@id`s before it.
 #[cycle(walk)]
-fn first_in<'a>(
+pub fn first_in<'a>(
     tree: &'a Tree,
     alloc: Global,
     schemas: &NamedSchemas<'a>,

@@ -13,8 +13,8 @@ use Rattle.local_rules.specs.declared.rule.LocalRule.TheVariants as rule
 use Rattle.local_rules.specs.declared.role.Localized.{Localized}
 use Rattle.local_rules.specs.declared.role.Localized.TheVariants as localized
 use Rattle.local_rules.specs.declared.role.PayloadUse.{PayloadUse}
-use Rattle.local_rules.specs.declared.role.ValueKind.{ValueKind}
-use Rattle.local_rules.specs.declared.role.SchemaUse.TheVariants as place
+use Rattle.local_rules.specs.declared.role.ValueSchema.{ValueSchema}
+use Rattle.local_rules.specs.declared.role.SchemaUse.TheVariants as schema_use
 use Rattle.local_rules.specs.declared.role.Role.{Role}
 use Rattle.local_rules.specs.declared.role.Role.TheVariants as role
 use Rattle.local_rules.proofs.Among.{Among, among_before}
@@ -87,7 +87,7 @@ at_role r q v found same h = subst (λ (p : Role). IsFirstAmong (λ one. BreaksA
 abbrev pub IsObjectRole : Role → Type 0
 IsObjectRole r = (r ≡ role.Interface) ⊎ ((r ≡ role.Content) ⊎ ((r ≡ role.RelationshipProperty)
     ⊎ (((part : PayloadUse) × (r ≡ role.Payload part)) ⊎ ((r ≡ role.Field)
-    ⊎ (((k : ValueKind) × (r ≡ role.EnumEntry k)) ⊎ (r ≡ role.NamedSchema))))))
+    ⊎ (((k : ValueSchema) × (r ≡ role.EnumEntry k)) ⊎ (r ≡ role.NamedSchema))))))
 
 pub object_rules : (r : Role) → IsObjectRole r → further_rules r ≡ rule.MissingKey ∷ []
 object_rules r (inl is) = ap further_rules is
@@ -177,7 +177,7 @@ only rule.TooManyFields r v h = at rule.TooManyFields role.Fields r h.0 (inl ref
 only rule.TooManyEnumValues r v h = at rule.TooManyEnumValues (role.EnumValues h.0) r h.1 (inl refl)
 only rule.BadValueSchema r v h = at rule.BadValueSchema role.ValueSchema r h.0 (inl refl)
 only rule.BadEnumValue r v h = at rule.BadEnumValue (role.EnumValue h.0) r h.1 (inl refl)
-only rule.BadMapKey r v h = at rule.BadMapKey (role.Schema place.MapKey) r h.0 (inr (inr (inr (inr (inr (inl refl))))))
+only rule.BadMapKey r v h = at rule.BadMapKey (role.Schema schema_use.MapKey) r h.0 (inr (inr (inr (inr (inr (inl refl))))))
 only rule.BadMultiplicity r v (inl h) = at rule.BadMultiplicity role.MinMultiplicity r h.0 (inl refl)
 only rule.BadMultiplicity r v (inr h) = at rule.BadMultiplicity role.MaxMultiplicity r h.0 (inl refl)
 only rule.BadCommandType r v h = at rule.BadCommandType role.CommandType r h.0 (inl refl)

@@ -7,7 +7,7 @@ use Rattle.json_decimal.specs.Number.{Number}
 use Rattle.json_tree.specs.Values.{Json, number, text, array, Elements}
 use Rattle.local_rules.specs.Members.{list_of, value_in, text_in}
 use Rattle.local_rules.specs.Roles.{HasRole}
-use Rattle.local_rules.specs.declared.role.ValueKind.{ValueKind}
+use Rattle.local_rules.specs.declared.role.ValueSchema.{ValueSchema}
 use Rattle.local_rules.specs.declared.role.Role.{Role}
 use Rattle.local_rules.specs.declared.role.Role.TheVariants as role
 
@@ -77,8 +77,8 @@ DuplicateField interface place r = (r ≡ role.Name) × IsInEntry interface role
 
 -- The name of an enum entry equals an earlier one's.
 abbrev pub DuplicateEnumName : Json → List ℕ → Role → Type 0
-DuplicateEnumName interface place r = (r ≡ role.Name) × ((k : ValueKind) × IsInEntry interface (role.EnumValues k) repeats_name place)
+DuplicateEnumName interface place r = (r ≡ role.Name) × ((k : ValueSchema) × IsInEntry interface (role.EnumValues k) repeats_name place)
 
 -- The value of an enum entry equals an earlier one's, as a number or as a text.
 abbrev pub DuplicateEnumValue : Json → List ℕ → Role → Type 0
-DuplicateEnumValue interface place r = ((j : ValueKind) × (r ≡ role.EnumValue j)) × ((k : ValueKind) × IsInEntry interface (role.EnumValues k) repeats_value place)
+DuplicateEnumValue interface place r = ((j : ValueSchema) × (r ≡ role.EnumValue j)) × ((k : ValueSchema) × IsInEntry interface (role.EnumValues k) repeats_value place)

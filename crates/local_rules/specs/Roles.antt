@@ -13,9 +13,9 @@ use Rattle.local_rules.specs.declared.role.Position.{Position}
 use Rattle.local_rules.specs.declared.role.Position.TheVariants as position
 use Rattle.local_rules.specs.declared.role.PayloadUse.{PayloadUse}
 use Rattle.local_rules.specs.declared.role.PayloadUse.TheVariants as payload
-use Rattle.local_rules.specs.declared.role.SchemaUse.TheVariants as place
-use Rattle.local_rules.specs.declared.role.ValueKind.{ValueKind}
-use Rattle.local_rules.specs.declared.role.ValueKind.TheVariants as kind
+use Rattle.local_rules.specs.declared.role.SchemaUse.TheVariants as schema_use
+use Rattle.local_rules.specs.declared.role.ValueSchema.{ValueSchema}
+use Rattle.local_rules.specs.declared.role.ValueSchema.TheVariants as value_schemas
 use Rattle.local_rules.specs.declared.role.Localized.TheVariants as localized
 use Rattle.local_rules.specs.declared.role.Role.{Role}
 use Rattle.local_rules.specs.declared.role.Role.TheVariants as role
@@ -80,32 +80,32 @@ abbrev pub key_of : Element → List ℕ → Option Key
 key_of e bytes = find (λ k. bytes_eq (key_text k) bytes) (keys_of e)
 
 -- What `valueSchema` asks of the values of an enum.
-abbrev pub kind_named : Option (List ℕ) → ValueKind
-kind_named None = kind.Neither
-kind_named (Some bytes) = if bytes_eq bytes (codes "integer") then kind.Integer else if bytes_eq bytes (codes "string") then kind.Word else kind.Neither
+abbrev pub schema_of_values_named : Option (List ℕ) → ValueSchema
+schema_of_values_named None = value_schemas.Neither
+schema_of_values_named (Some bytes) = if bytes_eq bytes (codes "integer") then value_schemas.Integer else if bytes_eq bytes (codes "string") then value_schemas.String else value_schemas.Neither
 
-abbrev pub value_kind : Members Number → ValueKind
-value_kind ms = kind_named (option_and_then text_in (value_at (codes "valueSchema") ms))
+abbrev pub schema_of_values : Members Number → ValueSchema
+schema_of_values ms = schema_of_values_named (option_and_then text_in (value_at (codes "valueSchema") ms))
 
 abbrev pub enum_value_role : Role → Role
 enum_value_role (role.EnumEntry k) = role.EnumValue k
-enum_value_role other = role.EnumValue kind.Neither
+enum_value_role other = role.EnumValue value_schemas.Neither
 
 abbrev pub content_schema_role : Element → Role
 content_schema_role element.Component = role.InterfaceReference
-content_schema_role element.Property = role.Schema place.Property
-content_schema_role other = role.Schema place.Outer
+content_schema_role element.Property = role.Schema schema_use.Property
+content_schema_role other = role.Schema schema_use.Outer
 
 abbrev pub payload_schema_role : PayloadUse → Role
-payload_schema_role payload.Command = role.Schema place.Outer
-payload_schema_role payload.MapKey = role.Schema place.MapKey
-payload_schema_role payload.MapValue = role.Schema place.Inner
+payload_schema_role payload.Command = role.Schema schema_use.Outer
+payload_schema_role payload.MapKey = role.Schema schema_use.MapKey
+payload_schema_role payload.MapValue = role.Schema schema_use.Inner
 
 abbrev pub schema_role : Role → Element → Role
 schema_role role.Content e = content_schema_role e
-schema_role role.RelationshipProperty e = role.Schema place.Property
+schema_role role.RelationshipProperty e = role.Schema schema_use.Property
 schema_role (role.Payload part) e = payload_schema_role part
-schema_role other e = role.Schema place.Inner
+schema_role other e = role.Schema schema_use.Inner
 
 abbrev pub id_role : Element → Role
 id_role element.Interface = role.InterfaceId
@@ -121,9 +121,9 @@ key_role r e ms key.CommandType = role.CommandType
 key_role r e ms key.Contents = role.Contents
 key_role r e ms key.Description = role.Localized localized.Description
 key_role r e ms key.DisplayName = role.Localized localized.DisplayName
-key_role r e ms key.ElementSchema = role.Schema place.Inner
+key_role r e ms key.ElementSchema = role.Schema schema_use.Inner
 key_role r e ms key.EnumValue = enum_value_role r
-key_role r e ms key.EnumValues = role.EnumValues (value_kind ms)
+key_role r e ms key.EnumValues = role.EnumValues (schema_of_values ms)
 key_role r e ms key.Extends = role.Extends
 key_role r e ms key.Fields = role.Fields
 key_role r e ms key.MapKey = role.Payload payload.MapKey

@@ -208,11 +208,17 @@ fn value_comparison_of(list: Role) -> Option<Comparison>
 }
 
 /// Which of many entries repeat an earlier one, where they are compared; of few nothing is found out yet.
-fn marks_of(alloc: Global, comparison: Option<Comparison>, entries: &[Tree]) -> Result<Vec<bool>, OutOfMemory>
+fn marks_of(
+    alloc: Global,
+    comparison: Option<Comparison>,
+    entries: &[Tree],
+) -> Result<Vec<bool>, OutOfMemory>
     ensures { IfOk result (λ marks. AreRepeatsOfMany comparison (map view entries.now) marks.items) }
 {
     match comparison {
-        Some(comparison) if entries.len() > FEW_ENTRIES => repeats_of_many(alloc, comparison, entries),
+        Some(comparison) if entries.len() > FEW_ENTRIES => repeats_of_many(
+            alloc, comparison, entries,
+        ),
         _ => Ok(Vec::new(alloc)),
     }
 }

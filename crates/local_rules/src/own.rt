@@ -6,15 +6,14 @@ ghost use Rattle.local_rules.specs.Breaches.{BreaksAlone, IsFirstOf};
 ghost use Rattle.local_rules.specs.Machinery.Firsts.{IsFirstAmong, further_rules};
 ghost use Rattle.local_rules.specs.Machinery.Marks.{BreaksMark};
 
-use crate::identifiers::{
-    element_id_rule, interface_id_rule, parents_rule, schema_id_rule,
-};
+use crate::identifiers::{element_id_rule, interface_id_rule, parents_rule, schema_id_rule};
 use crate::kinds::{is_of_kind, kind_of, lacks_key};
 use crate::lists::{has_too_many_contents, has_too_many_enum_values, has_too_many_fields};
-use crate::quantities::{
-    is_bad_map_key, is_bad_max_multiplicity, is_bad_min_multiplicity, is_bad_value_schema, is_none_of,
-};
 use crate::marks::MarkedRole;
+use crate::quantities::{
+    is_bad_map_key, is_bad_max_multiplicity, is_bad_min_multiplicity, is_bad_value_schema,
+    is_none_of,
+};
 use crate::role::{Role, SchemaUse};
 use crate::rule::{LocalRule, earlier};
 use crate::texts::{
@@ -85,9 +84,15 @@ fn further_rule(role: Role, tree: &Tree) -> Option<LocalRule>
         Role::CommandType => is_bad_command_type(tree).then_some(LocalRule::BadCommandType),
         Role::Unit => is_bad_unit(tree).then_some(LocalRule::BadUnit),
         Role::ValueSchema => is_bad_value_schema(tree).then_some(LocalRule::BadValueSchema),
-        Role::MinMultiplicity => is_bad_min_multiplicity(tree).then_some(LocalRule::BadMultiplicity),
-        Role::MaxMultiplicity => is_bad_max_multiplicity(tree).then_some(LocalRule::BadMultiplicity),
-        Role::EnumValue { kind } => is_none_of(kind, tree).then_some(LocalRule::BadEnumValue),
+        Role::MinMultiplicity => is_bad_min_multiplicity(tree).then_some(
+            LocalRule::BadMultiplicity,
+        ),
+        Role::MaxMultiplicity => is_bad_max_multiplicity(tree).then_some(
+            LocalRule::BadMultiplicity,
+        ),
+        Role::EnumValue { value_schema } => is_none_of(value_schema, tree).then_some(
+            LocalRule::BadEnumValue,
+        ),
         Role::Unknown => Some(LocalRule::UnknownKey),
         Role::Schemas | Role::Properties | Role::ListedText | Role::Writable => None,
     }

@@ -4,9 +4,9 @@ ghost use Rattle.std.specs.Prelude.{◌≡◌, ◌↔◌, IsTrue, codes};
 ghost use Rattle.json_decimal.specs.Decimals.{number_of};
 ghost use Rattle.json_tree.specs.Values.{number as number_value, text};
 ghost use Rattle.json_tree.specs.View.{view};
-ghost use Rattle.local_rules.specs.Quantities.{BadMapKey, BadMultiplicity, BadValueSchema, IsInteger, IsMultiplicity, IsNoneOf, IsWord};
+ghost use Rattle.local_rules.specs.Quantities.{BadMapKey, BadMultiplicity, BadValueSchema, IsInteger, IsMultiplicity, IsNoneOf, IsString};
 
-use crate::role::{Role, SchemaUse, ValueKind};
+use crate::role::{Role, SchemaUse, ValueSchema};
 use crate::texts::is_text;
 use json_decimal::Decimal;
 use json_tree::Tree;
@@ -42,7 +42,7 @@ fn is_small(number: &Decimal) -> bool
 /// Whether a value is a text.
 #[tactic(auto, using(crate::proofs::Views::views))]
 fn is_string(tree: &Tree) -> bool
-    ensures { IsTrue result ↔ IsWord (view tree.now) }
+    ensures { IsTrue result ↔ IsString (view tree.now) }
 {
     match tree {
         Tree::Text(_) => true,
@@ -51,13 +51,13 @@ fn is_string(tree: &Tree) -> bool
 }
 
 /// Whether an enum value is not of the kind that its `valueSchema` asks for.
-pub fn is_none_of(kind: ValueKind, tree: &Tree) -> bool
-    ensures { IsTrue result ↔ IsNoneOf kind (view tree.now) }
+pub fn is_none_of(value_schema: ValueSchema, tree: &Tree) -> bool
+    ensures { IsTrue result ↔ IsNoneOf value_schema (view tree.now) }
 {
-    match kind {
-        ValueKind::Integer => !is_integer(tree),
-        ValueKind::Word => !is_string(tree),
-        ValueKind::Neither => false,
+    match value_schema {
+        ValueSchema::Integer => !is_integer(tree),
+        ValueSchema::String => !is_string(tree),
+        ValueSchema::Neither => false,
     }
 }
 

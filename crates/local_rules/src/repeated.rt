@@ -134,7 +134,10 @@ pub(crate) fn repeats_one(comparison: Comparison, entries: &[Tree], at: usize) -
 }
 
 /// Puts what an entry is compared by among what was seen, and answers whether it was there.
-fn was_seen<'a>(seen: &mut BTreeSet<ComparisonKey<'a>>, key: Option<ComparisonKey<'a>>) -> Result<bool, OutOfMemory>
+fn was_seen<'a>(
+    seen: &mut BTreeSet<ComparisonKey<'a>>,
+    key: Option<ComparisonKey<'a>>,
+) -> Result<bool, OutOfMemory>
     ensures { IfOk result (λ b. HasSeen seen.old seen.new b key.entry) }
 {
     match key {

@@ -60,9 +60,9 @@ pub enum SchemaUse {
 
 /// What the `valueSchema` of an enum asks of its values.
 #[derive(Clone, Copy, Debug, PartialEq, Eq)]
-pub enum ValueKind {
+pub enum ValueSchema {
     Integer,
-    Word,
+    String,
     /// There is no `valueSchema`, or it is neither `integer` nor `string`.
     Neither,
 }
@@ -83,40 +83,26 @@ pub enum Role {
     Content,
     /// An entry of a relationship's `properties`.
     RelationshipProperty,
-    Payload {
-        part: PayloadUse,
-    },
+    Payload { part: PayloadUse },
     /// An entry of an object schema's `fields`.
     Field,
     /// An entry of `enumValues`.
-    EnumEntry {
-        kind: ValueKind,
-    },
+    EnumEntry { value_schema: ValueSchema },
     /// An entry of an interface's `schemas`.
     NamedSchema,
-    Schema {
-        part: SchemaUse,
-    },
+    Schema { part: SchemaUse },
     Contents,
     Schemas,
     Properties,
     Fields,
-    EnumValues {
-        kind: ValueKind,
-    },
+    EnumValues { value_schema: ValueSchema },
     Context,
-    Type {
-        position: Position,
-    },
+    Type { position: Position },
     Extends,
     /// `displayName` or `description`.
-    Localized {
-        text: Localized,
-    },
+    Localized { text: Localized },
     /// A member of one of these.
-    LocalizedText {
-        text: Localized,
-    },
+    LocalizedText { text: Localized },
     /// An entry of a list that is the value of `@type` or `@context`.
     ListedText,
     /// An entry of `extends`.
@@ -135,9 +121,7 @@ pub enum Role {
     Writable,
     MinMultiplicity,
     MaxMultiplicity,
-    EnumValue {
-        kind: ValueKind,
-    },
+    EnumValue { value_schema: ValueSchema },
     /// A member whose key is none of its object's.
     Unknown,
 }

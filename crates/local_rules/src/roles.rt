@@ -3,11 +3,11 @@
 ghost use Rattle.std.specs.Prelude.{◌≡◌, map, filter_map};
 ghost use Rattle.std.specs.Option.{option_map};
 ghost use Rattle.json_tree.specs.View.{view, members_view};
-ghost use Rattle.local_rules.specs.Roles.{content_schema_role, element_member, element_of, entry_role, enum_value_role, id_role, key_of, key_role, kind_named, named_by, only, payload_schema_role, position_of, role_of_key, schema_role, type_alone, type_in, type_of, untyped_role, value_kind};
+ghost use Rattle.local_rules.specs.Roles.{content_schema_role, element_member, element_of, entry_role, enum_value_role, id_role, key_of, key_role, schema_of_values_named, named_by, only, payload_schema_role, position_of, role_of_key, schema_role, type_alone, type_in, type_of, untyped_role, schema_of_values};
 
 use crate::key::Key;
 use crate::members::{text_at, text_in, value_at};
-use crate::role::{Element, Localized, PayloadUse, Position, Role, SchemaUse, ValueKind};
+use crate::role::{Element, Localized, PayloadUse, Position, Role, SchemaUse, ValueSchema};
 use crate::tables::{element_named, key_of};
 use json_tree::{Member, Tree};
 
@@ -91,21 +91,21 @@ pub fn position_of(role: Role) -> Position
 }
 
 /// What the text of `valueSchema` asks of the values of an enum.
-fn kind_named(text: Option<&str>) -> ValueKind
-    ensures { result ≡ kind_named (option_map (λ t. t.now) text.entry) }
+fn schema_of_values_named(text: Option<&str>) -> ValueSchema
+    ensures { result ≡ schema_of_values_named (option_map (λ t. t.now) text.entry) }
 {
     match text {
-        Some("integer") => ValueKind::Integer,
-        Some("string") => ValueKind::Word,
-        _ => ValueKind::Neither,
+        Some("integer") => ValueSchema::Integer,
+        Some("string") => ValueSchema::String,
+        _ => ValueSchema::Neither,
     }
 }
 
 /// What the `valueSchema` of an enum asks of its values.
-fn value_kind(members: &[Member]) -> ValueKind
-    ensures { result ≡ value_kind (members_view members.now) }
+fn schema_of_values(members: &[Member]) -> ValueSchema
+    ensures { result ≡ schema_of_values (members_view members.now) }
 {
-    kind_named(text_at(members, "valueSchema"))
+    schema_of_values_named(text_at(members, "valueSchema"))
 }
 
 /// The role of the `enumValue` of an element in this role.
@@ -113,9 +113,9 @@ fn enum_value_role(role: Role) -> Role
     ensures { result ≡ enum_value_role role }
 {
     match role {
-        Role::EnumEntry { kind } => Role::EnumValue { kind },
+        Role::EnumEntry { value_schema } => Role::EnumValue { value_schema },
         _ => Role::EnumValue {
-            kind: ValueKind::Neither,
+            value_schema: ValueSchema::Neither,
         },
     }
 }
@@ -197,7 +197,7 @@ pub fn key_role(role: Role, element: Element, members: &[Member], key: Key) -> R
         },
         Key::EnumValue => enum_value_role(role),
         Key::EnumValues => Role::EnumValues {
-            kind: value_kind(members),
+            value_schema: schema_of_values(members),
         },
         Key::Extends => Role::Extends,
         Key::Fields => Role::Fields,
@@ -282,7 +282,7 @@ pub fn entry_role(list: Role) -> Option<Role>
         Role::Schemas => Some(Role::NamedSchema),
         Role::Properties => Some(Role::RelationshipProperty),
         Role::Fields => Some(Role::Field),
-        Role::EnumValues { kind } => Some(Role::EnumEntry { kind }),
+        Role::EnumValues { value_schema } => Some(Role::EnumEntry { value_schema }),
         Role::Context | Role::Type { .. } => Some(Role::ListedText),
         Role::Extends => Some(Role::Parent),
         _ => None,

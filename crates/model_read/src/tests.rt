@@ -147,7 +147,7 @@ fn compares_entries_and_measures_schemas(rt: HostRuntime) -> Result<(), Fail> {
 /// The entries of the list under a key.
 fn entries_under<'a>(members: &'a [Member], key: &str) -> &'a [Tree] {
     match local_rules::value_at(members, key) {
-        Some(value) => local_rules::elements_in(value),
+        Some(value) => local_rules::entries_in(value),
         None => &[],
     }
 }

@@ -7,11 +7,11 @@ use Rattle.std.specs.Cmp.Lexicographic.{slice_cmp}
 use Rattle.std.specs.BTreeMap.{BTreeMap, get_by}
 use Rattle.json_decimal.specs.Number.{Number}
 use Rattle.json_tree.specs.Values.{Json, object, Members}
-use Rattle.local_rules.specs.Levels.{IsPrimitive, elements_at, has_id, schema_named}
+use Rattle.local_rules.specs.Levels.{IsPrimitive, entries_at, has_id, schema_named}
 
 -- The entries of `schemas`.
 abbrev pub schemas_in : Members Number → List Json
-schemas_in ms = elements_at (codes "schemas") (object ms)
+schemas_in ms = entries_at (codes "schemas") (object ms)
 
 -- Each `@id` leads to the first entry that has it.
 abbrev pub IsIndex : List Json → BTreeMap (Bor (List ℕ)) ℕ → Type 0

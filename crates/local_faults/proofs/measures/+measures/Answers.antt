@@ -76,7 +76,7 @@ measure_of_parts-measure_of_part-value-requires t c =
 
 pub measure_of_parts-measure_of_fields-requires : goal.measure_of_parts-measure_of_fields-requires
 measure_of_parts-measure_of_fields-requires t c =
-    let less = fields_no_larger (map view c.elements_at.result.now) (codes "fields") (object (members_view c.args.members.now)) c.elements_at.ensures in
+    let less = fields_no_larger (map view c.entries_at.result.now) (codes "fields") (object (members_view c.args.members.now)) c.entries_at.ensures in
     (omega (arith, c.decreases, less), tt)
 
 pub measure_of_parts-returns-in-Map : goal.measure_of_parts-returns-in-Map

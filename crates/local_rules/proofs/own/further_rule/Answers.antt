@@ -36,7 +36,7 @@ returns-in-ElementId c = at_role c.args.role role.ElementId (view c.args.tree.no
 pub returns-in-EnumValues : goal.returns-in-EnumValues
 returns-in-EnumValues c =
     let v = view c.args.tree.now in
-    let k = c.in-EnumValues.kind in
+    let k = c.in-EnumValues.value_schema in
     let decided = c.has_too_many_enum_values.ensures in
     at_role c.args.role (role.EnumValues k) v c.then_some-in-EnumValues.result c.in-EnumValues.is
     (first_one (λ one. BreaksAlone one (role.EnumValues k) v) rule.TooManyEnumValues c.has_too_many_enum_values.result c.then_some-in-EnumValues.result (λ is. (k, refl, decided.0 is), λ h. decided.1 h.2)

@@ -4,7 +4,7 @@ use Rattle.json_tree.specs.View.{view, members_view}
 use Rattle.local_rules.specs.declared.marks.MarkedRole.{MarkedRole}
 use Rattle.local_faults.specs.Machinery.Walks.{Walks}
 use Rattle.local_faults.proofs.Documents.{whole}
-use Rattle.local_faults.proofs.walk.first_in_interface.Goals as goal
+use Rattle.local_faults.proofs.document.first_in_interface.Goals as goal
 
 pub returns : goal.returns
 returns c =
