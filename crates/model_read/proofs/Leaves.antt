@@ -7,7 +7,7 @@ use Rattle.json_tree.specs.Values.{Json, truth, text, array, object, Elements}
 use Rattle.local_rules.specs.Members.{list_of}
 use Rattle.local_rules.specs.Identifiers.{HasForm, IdUse, IsBadId, IsReservedId, of_interface, of_element, no_id, id_use}
 use Rattle.local_rules.specs.Kinds.{kind_of, is_of_kind}
-use Rattle.local_rules.specs.Quantities.{IsWord}
+use Rattle.local_rules.specs.Quantities.{IsString}
 use Rattle.local_rules.specs.Roles.{is_language, type_in}
 use Rattle.local_rules.specs.Types.{MayHaveBeside, NamesNothing, further}
 use Rattle.local_rules.specs.declared.role.Element.{Element}
@@ -20,15 +20,15 @@ use Rattle.local_rules.specs.declared.role.Position.{Position}
 use Rattle.local_rules.specs.declared.role.Position.TheVariants as position
 use Rattle.local_rules.specs.declared.role.Role.{Role}
 use Rattle.local_rules.specs.declared.role.Role.TheVariants as role
-use Rattle.local_rules.specs.declared.role.ValueKind.{ValueKind}
-use Rattle.local_rules.specs.declared.role.ValueKind.TheVariants as value_kind
+use Rattle.local_rules.specs.declared.role.ValueSchema.{ValueSchema}
+use Rattle.local_rules.specs.declared.role.ValueSchema.TheVariants as value_schemas
 use Rattle.local_rules.specs.declared.rule.LocalRule.TheVariants as rule
 use Rattle.model_read.specs.Shapes.{CanBe, CanBeId, CanBeName, CanBeMultiplicity, CanBeEnumValue, CanBeValueSchema, CanBeTypes, IsParents, IsTruth, IsWords, IsSound}
 use Rattle.model_read.proofs.Sound.{here, of_kind, placed_sound, entry_sound}
 
 -- ---- kinds
 -- a value of the kind of texts is a text
-pub word : (v : Json) → is_of_kind kind.Text v ≡ true → IsWord v
+pub word : (v : Json) → is_of_kind kind.Text v ≡ true → IsString v
 word (text bytes) is = (bytes, refl)
 word other is = absurd (false≢true is)
 
@@ -92,7 +92,7 @@ name naming repeats other sound = absurd (false≢true (of_kind (role.Name namin
 pub unit : (v : Json) → IsSound role.Unit v → CanBeName v
 unit v sound = λ none. here role.Unit v rule.BadUnit sound (refl, none)
 
-pub comment : (v : Json) → IsSound role.Comment v → IsWord v
+pub comment : (v : Json) → IsSound role.Comment v → IsString v
 comment v sound = word v (of_kind role.Comment v sound)
 
 pub localized : (which : Localized) (v : Json) → IsSound (role.Localized which) v → IsWords v
@@ -114,12 +114,12 @@ writable other sound = absurd (false≢true (of_kind role.Writable other sound))
 pub multiplicity : (v : Json) → IsSound role.MaxMultiplicity v → CanBeMultiplicity v
 multiplicity v sound = λ none. here role.MaxMultiplicity v rule.BadMultiplicity sound (inr (refl, none))
 
-pub enum_value : (k : ValueKind) (same_value : Bool) (v : Json) → k ≢ value_kind.Neither → IsSound (role.EnumValue k same_value) v → CanBeEnumValue v
-enum_value value_kind.Integer same_value v is sound = λ none.
-    here (role.EnumValue value_kind.Integer same_value) v rule.BadEnumValue sound (value_kind.Integer, same_value, refl, λ good. none (inl good))
-enum_value value_kind.Word same_value v is sound = λ none.
-    here (role.EnumValue value_kind.Word same_value) v rule.BadEnumValue sound (value_kind.Word, same_value, refl, λ good. none (inr good))
-enum_value value_kind.Neither same_value v is sound = absurd (is refl)
+pub enum_value : (k : ValueSchema) (same_value : Bool) (v : Json) → k ≢ value_schemas.Neither → IsSound (role.EnumValue k same_value) v → CanBeEnumValue v
+enum_value value_schemas.Integer same_value v is sound = λ none.
+    here (role.EnumValue value_schemas.Integer same_value) v rule.BadEnumValue sound (value_schemas.Integer, same_value, refl, λ good. none (inl good))
+enum_value value_schemas.String same_value v is sound = λ none.
+    here (role.EnumValue value_schemas.String same_value) v rule.BadEnumValue sound (value_schemas.String, same_value, refl, λ good. none (inr good))
+enum_value value_schemas.Neither same_value v is sound = absurd (is refl)
 
 pub value_schema : (v : Json) → IsSound role.ValueSchema v → CanBeValueSchema v
 value_schema v sound = λ none. here role.ValueSchema v rule.BadValueSchema sound (refl, λ integer. none (inr integer), λ string. none (inl string))

@@ -4,11 +4,11 @@ use Rattle.json_decimal.specs.Number.{Number}
 use Rattle.json_tree.specs.Values.{Json, null, truth, number, text, array, object, Members}
 use Rattle.local_rules.specs.Members.{list_of, text_in, value_at}
 use Rattle.local_rules.specs.Tables.{key_text, required, types_of}
-use Rattle.local_rules.specs.Roles.{element_member, element_of, entry_role, key_of, key_role, kind_named, position_of, repeats_name, repeats_value, schema_role, type_in, type_of, untyped_role, value_kind}
+use Rattle.local_rules.specs.Roles.{element_member, element_of, entry_role, key_of, key_role, schema_of_values_named, position_of, repeats_name, repeats_value, schema_role, type_in, type_of, untyped_role, schema_of_values}
 use Rattle.local_rules.specs.Kinds.{LacksKeyOf, is_of_kind, kind_of, needed_keys}
 use Rattle.local_rules.specs.Types.{NamesNothing}
 use Rattle.local_rules.specs.Levels.{IsPrimitive}
-use Rattle.local_rules.specs.Quantities.{IsWord}
+use Rattle.local_rules.specs.Quantities.{IsString}
 use Rattle.local_rules.specs.declared.key.Key.{Key}
 use Rattle.local_rules.specs.declared.key.Key.TheVariants as key
 use Rattle.local_rules.specs.declared.role.Element.{Element}
@@ -21,8 +21,8 @@ use Rattle.local_rules.specs.declared.role.Position.{Position}
 use Rattle.local_rules.specs.declared.role.Position.TheVariants as position
 use Rattle.local_rules.specs.declared.role.Role.{Role}
 use Rattle.local_rules.specs.declared.role.Role.TheVariants as role
-use Rattle.local_rules.specs.declared.role.SchemaUse.TheVariants as place
-use Rattle.local_rules.specs.declared.role.ValueKind.TheVariants as value_kinds
+use Rattle.local_rules.specs.declared.role.SchemaUse.TheVariants as schema_use
+use Rattle.local_rules.specs.declared.role.ValueSchema.TheVariants as value_schemas
 use Rattle.local_rules.specs.declared.rule.LocalRule.TheVariants as rule
 use Rattle.local_rules.proofs.Among.{Among}
 use Rattle.local_rules.proofs.Typed.{type_of_among}
@@ -80,7 +80,7 @@ module _ (r : Role) (ms : Members Number) (sound : IsSound r (object ms)) where
   common_shape element.Interface is other = absurd (other refl)
   common_shape e is other = record {
     id = may_have e key.Id CanBeId is refl leaves.element_id;
-    comment = may_have e key.Comment IsWord is refl leaves.comment;
+    comment = may_have e key.Comment IsString is refl leaves.comment;
     description = may_have e key.Description IsWords is refl (leaves.localized localized.Description);
     display_name = may_have e key.DisplayName IsWords is refl (leaves.localized localized.DisplayName);
   }
@@ -104,18 +104,18 @@ module _ (r : Role) (ms : Members Number) (sound : IsSound r (object ms)) where
   array_shape : element_of r ms ≡ Some element.Array → ArrayShape ms
   array_shape is = record {
     common = common_shape element.Array is (λ other. absurd cc);
-    element = has element.Array key.ElementSchema IsSoundSchema is refl (1, lit≤ tt, refl) (λ v s. inr (place.Inner, s));
+    element = has element.Array key.ElementSchema IsSoundSchema is refl (1, lit≤ tt, refl) (λ v s. inr (schema_use.Inner, s));
   }
 
   -- the `valueSchema` of an enum asks for one kind of values
-  kind_at : (v : Json) → value_at (codes "valueSchema") ms ≡ Some v → IsSound role.ValueSchema v → value_kind ms ≢ value_kinds.Neither
+  kind_at : (v : Json) → value_at (codes "valueSchema") ms ≡ Some v → IsSound role.ValueSchema v → schema_of_values ms ≢ value_schemas.Neither
   kind_at v at schema neither = leaves.value_schema v schema (λ is. elim is [
-    | inl word ↦ (let given = ap (λ o. kind_named (option_and_then text_in o)) (at ∙ ap (λ w. Some w) word) in cc)
-    | inr integer ↦ (let given = ap (λ o. kind_named (option_and_then text_in o)) (at ∙ ap (λ w. Some w) integer) in cc)
+    | inl word ↦ (let given = ap (λ o. schema_of_values_named (option_and_then text_in o)) (at ∙ ap (λ w. Some w) word) in cc)
+    | inr integer ↦ (let given = ap (λ o. schema_of_values_named (option_and_then text_in o)) (at ∙ ap (λ w. Some w) integer) in cc)
   ])
 
-  asks_kind : element_of r ms ≡ Some element.Enumeration → value_kind ms ≢ value_kinds.Neither
-  asks_kind is = elim (value_at (codes "valueSchema") ms) as (λ o. value_at (codes "valueSchema") ms ≡ o → value_kind ms ≢ value_kinds.Neither) [
+  asks_kind : element_of r ms ≡ Some element.Enumeration → schema_of_values ms ≢ value_schemas.Neither
+  asks_kind is = elim (value_at (codes "valueSchema") ms) as (λ o. value_at (codes "valueSchema") ms ≡ o → schema_of_values ms ≢ value_schemas.Neither) [
     | None ↦ λ none. absurd (has_key r ms element.Enumeration key.ValueSchema is (2, lit≤ tt, refl) sound none)
     | Some v ↦ λ at. kind_at v at (member_sound r ms element.Enumeration key.ValueSchema (codes "valueSchema") v is refl at sound)
   ] refl
@@ -125,10 +125,10 @@ module _ (r : Role) (ms : Members Number) (sound : IsSound r (object ms)) where
     common = common_shape element.Enumeration is (λ other. absurd cc);
     value_schema = has element.Enumeration key.ValueSchema CanBeValueSchema is refl (2, lit≤ tt, refl) leaves.value_schema;
     values = has element.Enumeration key.EnumValues (IsListOf IsSoundEnumEntry) is refl (1, lit≤ tt, refl)
-        (is_list (role.EnumValues (value_kind ms)) IsSoundEnumEntry refl (λ vs i. (
-          role.EnumEntry (value_kind ms) (repeats_name vs i) (repeats_value vs i),
+        (is_list (role.EnumValues (schema_of_values ms)) IsSoundEnumEntry refl (λ vs i. (
+          role.EnumEntry (schema_of_values ms) (repeats_name vs i) (repeats_value vs i),
           refl,
-          λ w s. (value_kind ms, repeats_name vs i, repeats_value vs i, asks_kind is, s),
+          λ w s. (schema_of_values ms, repeats_name vs i, repeats_value vs i, asks_kind is, s),
         )));
   }
 
@@ -180,15 +180,15 @@ module _ (r : Role) (ms : Members Number) (sound : IsSound r (object ms)) where
   }
 
 -- ---- schemas
-pub schema_kind : (v : Json) → IsSoundSchema v → IsWord v ⊎ IsObject v
+pub schema_kind : (v : Json) → IsSoundSchema v → IsString v ⊎ IsObject v
 schema_kind v (inl sound) = inr (is_object role.NamedSchema v refl sound)
 schema_kind (text bytes) (inr sound) = inl (bytes, refl)
 schema_kind (object ms) (inr sound) = inr (ms, refl)
 schema_kind other (inr sound) = let is = of_kind (role.Schema sound.0) other sound.1 in absurd cc
 
 -- so no other value is a schema
-no_other : (v w : Json) → v ≡ w → (IsWord w ⊎ IsObject w → ⊥) → IsSoundSchema v → ⊥
-no_other v w is other sound = other (subst (λ (u : Json). IsWord u ⊎ IsObject u) is (schema_kind v sound))
+no_other : (v w : Json) → v ≡ w → (IsString w ⊎ IsObject w → ⊥) → IsSoundSchema v → ⊥
+no_other v w is other sound = other (subst (λ (u : Json). IsString u ⊎ IsObject u) is (schema_kind v sound))
 
 pub no_schema : (t : Tree) → (t ≡ variants.Null) ⊎ ((b : Bool) × (t ≡ variants.Bool b)) ⊎ ((d : Decimal) × (t ≡ variants.Number d)) ⊎ ((ts : List Tree) × (t ≡ variants.List ts))
     → IsSoundSchema (view t) → ⊥
@@ -214,12 +214,12 @@ payload_object v (inr sound) = is_object (role.Field sound.0) v refl sound.1
 
 pub payload_shape : (ms : Members Number) → IsSoundPayload (object ms) → PayloadShape ms
 payload_shape ms (inl (payload.Command, sound)) =
-    payload_by (role.Payload payload.Command) ms sound refl (leaves.name naming.Alone false) (λ v s. inr (place.Outer, s))
+    payload_by (role.Payload payload.Command) ms sound refl (leaves.name naming.Alone false) (λ v s. inr (schema_use.Outer, s))
 payload_shape ms (inl (payload.MapKey, sound)) =
-    payload_by (role.Payload payload.MapKey) ms sound refl (leaves.name naming.Alone false) (λ v s. inr (place.MapKey, s))
+    payload_by (role.Payload payload.MapKey) ms sound refl (leaves.name naming.Alone false) (λ v s. inr (schema_use.MapKey, s))
 payload_shape ms (inl (payload.MapValue, sound)) =
-    payload_by (role.Payload payload.MapValue) ms sound refl (leaves.name naming.Alone false) (λ v s. inr (place.Inner, s))
-payload_shape ms (inr (repeats, sound)) = payload_by (role.Field repeats) ms sound refl (leaves.name naming.Field repeats) (λ v s. inr (place.Inner, s))
+    payload_by (role.Payload payload.MapValue) ms sound refl (leaves.name naming.Alone false) (λ v s. inr (schema_use.Inner, s))
+payload_shape ms (inr (repeats, sound)) = payload_by (role.Field repeats) ms sound refl (leaves.name naming.Field repeats) (λ v s. inr (schema_use.Inner, s))
 
 pub enum_entry_object : (v : Json) → IsSoundEnumEntry v → IsObject v
 enum_entry_object v (k, repeats, same_value, asks, sound) = is_object (role.EnumEntry k repeats same_value) v refl sound
@@ -242,13 +242,13 @@ module _ (repeats : Bool) (ms : Members Number) (sound : IsSound (role.Content r
   telemetry_shape is =
       let r = role.Content repeats in
       record {
-        schema = has r ms sound element.Telemetry key.Schema IsSoundSchema is refl (2, lit≤ tt, refl) (λ v s. inr (place.Outer, s));
+        schema = has r ms sound element.Telemetry key.Schema IsSoundSchema is refl (2, lit≤ tt, refl) (λ v s. inr (schema_use.Outer, s));
         semantic = may_have r ms sound element.Telemetry key.Type (CanBeTypes position.Content) is refl leaves.content_types;
         unit = may_have r ms sound element.Telemetry key.Unit CanBeName is refl leaves.unit;
       }
 
   content_property_shape : type_of position.Content ms ≡ Some element.Property → PropertyShape position.Content ms
-  content_property_shape is = property_by (role.Content repeats) ms sound position.Content is (λ v s. inr (place.Property, s)) leaves.content_types
+  content_property_shape is = property_by (role.Content repeats) ms sound position.Content is (λ v s. inr (schema_use.Property, s)) leaves.content_types
 
   command_shape : type_of position.Content ms ≡ Some element.Command → CommandShape ms
   command_shape is =
@@ -315,7 +315,7 @@ property_shape ms (repeats, sound) =
     record {
       name = has r ms sound element.Property key.Name CanBeName refl refl (1, lit≤ tt, refl) (leaves.name naming.Content repeats);
       common = common_shape r ms sound element.Property refl (λ other. absurd cc);
-      kind = property_by r ms sound position.Property refl (λ v s. inr (place.Property, s)) leaves.property_types;
+      kind = property_by r ms sound position.Property refl (λ v s. inr (schema_use.Property, s)) leaves.property_types;
     }
 
 -- ---- interfaces
@@ -328,7 +328,7 @@ interface_shape ms sound =
     let e = element.Interface in
     record {
       id = has r ms sound e key.Id CanBeId refl refl (1, lit≤ tt, refl) leaves.interface_id;
-      comment = may_have r ms sound e key.Comment IsWord refl refl leaves.comment;
+      comment = may_have r ms sound e key.Comment IsString refl refl leaves.comment;
       description = may_have r ms sound e key.Description IsWords refl refl (leaves.localized localized.Description);
       display_name = may_have r ms sound e key.DisplayName IsWords refl refl (leaves.localized localized.DisplayName);
       parents = may_have r ms sound e key.Extends IsParents refl refl leaves.parents;

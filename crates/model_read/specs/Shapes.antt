@@ -9,7 +9,7 @@ use Rattle.dtmi_name.specs.Grammar.{Identifier}
 use Rattle.local_rules.specs.Members.{list_of, value_at}
 use Rattle.local_rules.specs.Roles.{HasRole, type_of}
 use Rattle.local_rules.specs.Types.{IsName, MayHaveBeside, further}
-use Rattle.local_rules.specs.Quantities.{IsInteger, IsWord, IsMultiplicity}
+use Rattle.local_rules.specs.Quantities.{IsInteger, IsString, IsMultiplicity}
 use Rattle.local_rules.specs.Levels.{IsPrimitive}
 use Rattle.local_rules.specs.Choices.{BreaksAlone}
 use Rattle.local_rules.specs.declared.rule.LocalRule.{LocalRule}
@@ -21,8 +21,8 @@ use Rattle.local_rules.specs.declared.role.Position.TheVariants as position
 use Rattle.local_rules.specs.declared.role.Role.{Role}
 use Rattle.local_rules.specs.declared.role.Role.TheVariants as role
 use Rattle.local_rules.specs.declared.role.SchemaUse.{SchemaUse}
-use Rattle.local_rules.specs.declared.role.ValueKind.{ValueKind}
-use Rattle.local_rules.specs.declared.role.ValueKind.TheVariants as kind
+use Rattle.local_rules.specs.declared.role.ValueSchema.{ValueSchema}
+use Rattle.local_rules.specs.declared.role.ValueSchema.TheVariants as value_schemas
 use Rattle.model_read.specs.Declarations.{IsIdentifier}
 
 -- It is not so that it is none.
@@ -49,7 +49,7 @@ abbrev pub CanBeMultiplicity : Json → Type 0
 CanBeMultiplicity v = CanBe (IsMultiplicity v)
 
 abbrev pub CanBeEnumValue : Json → Type 0
-CanBeEnumValue v = CanBe (IsInteger v ⊎ IsWord v)
+CanBeEnumValue v = CanBe (IsInteger v ⊎ IsString v)
 
 abbrev pub CanBeValueSchema : Json → Type 0
 CanBeValueSchema v = CanBe ((v ≡ text (codes "string")) ⊎ (v ≡ text (codes "integer")))
@@ -70,10 +70,10 @@ Has P key ms = (value_at key ms ≢ None) × MayHave P key ms
 
 -- A text, or an object of texts.
 abbrev pub AreWords : Members Number → Type 0
-AreWords ms = (i : ℕ) (key : List ℕ) (v : Json) → member_at ms i ≡ Some (key, v) → IsWord v
+AreWords ms = (i : ℕ) (key : List ℕ) (v : Json) → member_at ms i ≡ Some (key, v) → IsString v
 
 abbrev pub IsWords : Json → Type 0
-IsWords v = IsWord v ⊎ ((ms : Members Number) × (v ≡ object ms) × AreWords ms)
+IsWords v = IsString v ⊎ ((ms : Members Number) × (v ≡ object ms) × AreWords ms)
 
 -- A list `@type` has at most one entry beside the type, which is a name.
 abbrev pub CanBeTypes : Position → Json → Type 0
@@ -102,7 +102,7 @@ abbrev pub IsSoundPayload : Json → Type 0
 IsSoundPayload v = ((part : PayloadUse) × IsSound (role.Payload part) v) ⊎ ((repeats : Bool) × IsSound (role.Field repeats) v)
 
 abbrev pub IsSoundEnumEntry : Json → Type 0
-IsSoundEnumEntry v = (k : ValueKind) × (repeats same_value : Bool) × (k ≢ kind.Neither) × IsSound (role.EnumEntry k repeats same_value) v
+IsSoundEnumEntry v = (k : ValueSchema) × (repeats same_value : Bool) × (k ≢ value_schemas.Neither) × IsSound (role.EnumEntry k repeats same_value) v
 
 abbrev pub IsSoundContent : Json → Type 0
 IsSoundContent v = (repeats : Bool) × IsSound (role.Content repeats) v
@@ -116,7 +116,7 @@ IsSoundInterface v = IsSound role.Interface v
 -- ---- the shapes of elements, by their members
 pub record CommonShape (ms : Members Number) : Type 0 where
   pub id : MayHave CanBeId (codes "@id") ms
-  pub comment : MayHave IsWord (codes "comment") ms
+  pub comment : MayHave IsString (codes "comment") ms
   pub description : MayHave IsWords (codes "description") ms
   pub display_name : MayHave IsWords (codes "displayName") ms
 
@@ -202,7 +202,7 @@ pub record RelationshipPropertyShape (ms : Members Number) : Type 0 where
 
 pub record InterfaceShape (ms : Members Number) : Type 0 where
   pub id : Has CanBeId (codes "@id") ms
-  pub comment : MayHave IsWord (codes "comment") ms
+  pub comment : MayHave IsString (codes "comment") ms
   pub description : MayHave IsWords (codes "description") ms
   pub display_name : MayHave IsWords (codes "displayName") ms
   pub parents : MayHave IsParents (codes "extends") ms

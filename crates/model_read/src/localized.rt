@@ -3,7 +3,7 @@
 ghost use Rattle.std.specs.Prelude.{◌≡◌, [], ◌∷◌, Some, IfOk, codes};
 ghost use Rattle.json_tree.specs.View.{view, members_view};
 ghost use Rattle.local_rules.specs.Members.{value_at};
-ghost use Rattle.local_rules.specs.Quantities.{IsWord};
+ghost use Rattle.local_rules.specs.Quantities.{IsString};
 ghost use Rattle.model_read.specs.Declarations.{AreEntries, IsLocalizedBy, HasLocalized};
 ghost use Rattle.model_read.specs.Shapes.{AreWords, IsWords, MayHave};
 
@@ -16,7 +16,7 @@ use std::alloc::Global;
 
 /// The text of one language.
 fn entry_of(alloc: Global, member: &Member) -> Result<Entry, OutOfMemory>
-    requires { IsWord (view member.now.value) }
+    requires { IsString (view member.now.value) }
     ensures { IfOk result (λ e. AreEntries (members_view (member.now ∷ [])) (e ∷ [])) }
 {
     let language = member.key.copy(alloc)?;

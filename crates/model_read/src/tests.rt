@@ -129,7 +129,7 @@ const NINE_COMMANDS: &str =
 fn compares_entries_and_measures_schemas(rt: HostRuntime) -> Result<(), Fail> {
     let tree = json_read::read(rt.alloc(), NINE_COMMANDS.as_bytes())?;
     let members = local_rules::members_in(&tree);
-    let schemas = schema_levels::NamedSchemas::of(rt.alloc(), members)?;
+    let schemas = local_faults::NamedSchemas::of(rt.alloc(), members)?;
     for entry in entries_under(members, "schemas") {
         assert_eq!(rt;
             schemas.rule(Role::NamedSchema, entry),
@@ -147,7 +147,7 @@ fn compares_entries_and_measures_schemas(rt: HostRuntime) -> Result<(), Fail> {
 /// The entries of the list under a key.
 fn entries_under<'a>(members: &'a [Member], key: &str) -> &'a [Tree] {
     match local_rules::value_at(members, key) {
-        Some(value) => local_rules::elements_in(value),
+        Some(value) => local_rules::entries_in(value),
         None => &[],
     }
 }
