@@ -1,5 +1,6 @@
 -- The words and the bytes of the input have one answer.
-use Rattle.std.proofs.Common.{◌≡◌, ◌⊎◌, ℕ, ◌<◌, ◌≤◌, List, [], ◌∷◌, ◌++◌, Option, Some, None, String, length, refl, sym, ap, ap₂, ◌∙◌, subst, inl, inr, arith}
+use Rattle.std.proofs.Common.{◌≡◌, ◌⊎◌, ℕ, ◌<◌, ◌≤◌, List, [], ◌∷◌, String, length, get_or, refl, sym, ap, ap₂, ◌∙◌, subst, inl, inr, arith}
+use Rattle.std.specs.Prelude.{codes}
 use Rattle.std.specs.declared.alloc.Global.{Global}
 use Rattle.json_tree.specs.Values.{Json, Raw}
 use Rattle.json_tree.specs.Grammar.{Spells}
@@ -31,14 +32,14 @@ one_print commands.Check v line text (a, p) (b, q) = p ∙ sym q
 one_print commands.Canon v line text (i, d, p) (j, e, q) = p ∙ ap canonical_text (interface_unique v i j d e) ∙ sym q
 
 built : (command : Command) (v : Json) (line : List ℕ) → Prints command v line → IsNotBuilt command v → ⊥
-built commands.Check v line (a, p) no = no a
-built commands.Canon v line (i, d, p) no = no i d
+built commands.Check v line (a, p) unbuilt = unbuilt a
+built commands.Canon v line (i, d, p) unbuilt = unbuilt i d
 
 one_unbroken : (command : Command) (v : Json) (s t : Status) (line text : List ℕ) → AnswersUnbroken command v s line → AnswersUnbroken command v t text → Same s t line text
 one_unbroken command v s t line text (inl (p, x)) (inl (q, y)) = (p ∙ sym q, one_print command v line text x y)
-one_unbroken command v s t line text (inl (p, x)) (inr (q, no, y)) = absurd (built command v line x no)
-one_unbroken command v s t line text (inr (p, no, x)) (inl (q, y)) = absurd (built command v text y no)
-one_unbroken command v s t line text (inr (p, no, x)) (inr (q, not, y)) = (p ∙ sym q, x ∙ sym y)
+one_unbroken command v s t line text (inl (p, x)) (inr (q, unbuilt, y)) = absurd (built command v line x unbuilt)
+one_unbroken command v s t line text (inr (p, unbuilt, x)) (inl (q, y)) = absurd (built command v text y unbuilt)
+one_unbroken command v s t line text (inr (p, unbuilt, x)) (inr (q, unmade, y)) = (p ∙ sym q, x ∙ sym y)
 
 -- ---- a value
 one_breach_line : (v : Json) (line text : List ℕ) → IsBreachLine v line → IsBreachLine v text → line ≡ text
@@ -63,8 +64,8 @@ one_place_line bytes place code line text (raw, pointer, is, leads, x) (other, p
 one_fault_line : (bytes : List ℕ) (fault : JsonFault) (line text : List ℕ) → IsFaultLine bytes fault line → IsFaultLine bytes fault text → line ≡ text
 one_fault_line bytes (faults.Byte at) line text x y = x ∙ sym y
 one_fault_line bytes (faults.Ends at) line text x y = x ∙ sym y
-one_fault_line bytes (faults.Duplicate place) line text x y = one_place_line bytes place _ line text x y
-one_fault_line bytes (faults.Range place) line text x y = one_place_line bytes place _ line text x y
+one_fault_line bytes (faults.Duplicate place) line text x y = one_place_line bytes place (codes "Duplicate") line text x y
+one_fault_line bytes (faults.Range place) line text x y = one_place_line bytes place (codes "Range") line text x y
 one_fault_line bytes faults.OutOfMemory line text x y = absurd x
 
 named : (bytes : List ℕ) (fault : JsonFault) (line : List ℕ) → IsFaultLine bytes fault line → fault ≡ faults.OutOfMemory → ⊥
@@ -90,20 +91,26 @@ one_document number command bytes s t line text (inr (v, spelled, x)) (inr (w, s
 one_command : OneNumber → (command : Command) (bytes : List ℕ) (s t : Status) (line text : List ℕ) → AnswersCommand command bytes s line → AnswersCommand command bytes t text
     → Same s t line text
 one_command number command bytes s t line text (inl (p, more, x)) (inl (q, longer, y)) = (p ∙ sym q, x ∙ sym y)
-one_command number command bytes s t line text (inl (p, more, x)) (inr (within, y)) = omega (arith, more, within)
-one_command number command bytes s t line text (inr (within, x)) (inl (q, more, y)) = omega (arith, more, within)
+one_command number command bytes s t line text (inl (p, more, x)) (inr (within, y)) = absurd (omega (arith, more, within))
+one_command number command bytes s t line text (inr (within, x)) (inl (q, more, y)) = absurd (omega (arith, more, within))
 one_command number command bytes s t line text (inr (within, x)) (inr (bound, y)) = one_document number command bytes s t line text x y
 
 -- ---- the words
+-- they differ in their second letters
+other_words : {words : List (List ℕ)} → words ≡ codes "check" ∷ [] → words ≡ codes "canon" ∷ [] → ⊥
+other_words is has =
+    let e : 104 ≡ 97 = ap (λ (ws : List (List ℕ)). get_or (get_or ws 0 []) 1 0) (sym is ∙ has) in
+    omega (arith, e)
+
 same_command : (words : List (String Global)) (command other : Command) → IsCommand words command → IsCommand words other → command ≡ other
 same_command words commands.Check commands.Check is has = refl
 same_command words commands.Canon commands.Canon is has = refl
-same_command words commands.Check commands.Canon is has = let e = sym is ∙ has in absurd cc
-same_command words commands.Canon commands.Check is has = let e = sym is ∙ has in absurd cc
+same_command words commands.Check commands.Canon is has = absurd (other_words is has)
+same_command words commands.Canon commands.Check is has = absurd (other_words has is)
 
 pub one_answer : OneNumber → (words : List (String Global)) (bytes : List ℕ) (s t : Status) (line text : List ℕ) → Answers words bytes s line → Answers words bytes t text
     → (s ≡ t) × (line ≡ text)
-one_answer number words bytes s t line text (inl (p, none, x)) (inl (q, no, y)) = (p ∙ sym q, x ∙ sym y)
+one_answer number words bytes s t line text (inl (p, none, x)) (inl (q, nothing, y)) = (p ∙ sym q, x ∙ sym y)
 one_answer number words bytes s t line text (inl (p, none, x)) (inr (command, is, y)) = absurd (none (command, is))
 one_answer number words bytes s t line text (inr (command, is, x)) (inl (q, none, y)) = absurd (none (command, is))
 one_answer number words bytes s t line text (inr (command, is, x)) (inr (other, has, y)) =

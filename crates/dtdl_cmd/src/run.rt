@@ -68,7 +68,11 @@ fn answer_with(alloc: Global, status: Status, line: &[u8]) -> Result<Answer, Out
 }
 
 /// The answer of a command to the input.
-fn answer_to_input<S: Source>(alloc: Global, command: Command, input: &mut S) -> Result<Answer, NoAnswer>
+fn answer_to_input<S: Source>(
+    alloc: Global,
+    command: Command,
+    input: &mut S,
+) -> Result<Answer, NoAnswer>
     ensures given { IfOk result (λ answer. (bytes : List ℕ) × AnswersCommand command bytes answer.status answer.line
         × Held (record { before = S.left input.old; after = S.left input.new; faults_before = S.faults input.old; faults_after = S.faults input.new }) bytes) }
     ensures cause { result ≡ Err NoAnswer.ReadFault → Rose (S.faults input.old) (S.faults input.new) }

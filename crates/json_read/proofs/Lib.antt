@@ -11,7 +11,7 @@ mod Says
 mod Readings
 mod Slices
 mod NumberSpans
-mod OneValue
+pub mod OneValue
 mod Duplicates
 mod Repeats
 mod Held
@@ -23,5 +23,5 @@ mod TextSpans
 mod EscapeSpans
 mod ValueSpans
 pub mod Pointed
-mod Spelled
-mod OneFault
+pub mod Spelled
+pub mod OneFault

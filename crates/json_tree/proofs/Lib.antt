@@ -12,4 +12,4 @@ mod SortedParts
 mod Indices
 mod Evaluated
 mod Stepped
-mod OnePointer
+pub mod OnePointer
