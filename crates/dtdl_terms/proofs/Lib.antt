@@ -1,2 +1,4 @@
 pub mod TermViews
 pub mod OneTerm
+pub mod SameElements
+pub mod SameDeclarations
