@@ -2,3 +2,4 @@ pub mod TermViews
 pub mod OneTerm
 pub mod SameElements
 pub mod SameDeclarations
+pub mod ByName

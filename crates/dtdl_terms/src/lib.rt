@@ -19,7 +19,7 @@ pub use common::{Common, Entry, Localized};
 pub use content::{Content, ContentKind};
 pub use enumeration::{EnumEntry, EnumValue};
 pub use interface::Interface;
-pub use laws::{same_as_itself, same_both_ways, same_throughout};
+pub use laws::{same_as_itself, same_both_ways, same_throughout, same_under_a_name};
 pub use limit::Limit;
 pub use primitive::{Primitive, primitive_named};
 pub use schema::{Payload, Schema};
