@@ -1,7 +1,7 @@
 pub mod Grown
 pub mod Placed
 pub mod Seen
-pub mod Sound
+pub mod Valid
 pub mod Leaves
 pub mod Shaped
 pub mod Whole

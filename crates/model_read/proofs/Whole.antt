@@ -31,7 +31,7 @@ use Rattle.local_rules.proofs.Keyed.{position_of_key}
 use Rattle.local_rules.proofs.Named.{found_under, id_is}
 use Rattle.local_rules.proofs.Wanted.{lacks_first}
 use Rattle.local_faults.proofs.Rules.{alone_breaks}
-use Rattle.model_read.specs.Shapes.{CanBeId, EachIs, IsSound, IsSoundInterface, NamesSchema}
+use Rattle.model_read.specs.machinery.Shapes.{CanBeId, EachIs, IsValid, IsValidInterface, NamesSchema}
 use Rattle.model_read.proofs.Leaves.{element_id, interface_id}
 use Rattle.model_read.proofs.Seen.{seen_list, seen_members}
 
@@ -55,16 +55,16 @@ none_under_key r s other part key at stands none = absurd cc
 
 -- ---- the `@id` of an entry of `schemas` can be an identifier
 -- a text has no parts
-text_sound : (r : Role) (bytes : List ℕ) → ((part : SchemaUse) → r ≡ role.Schema part → ⊥) → BreaksNone r (text bytes) → IsSound r (text bytes)
-text_sound r bytes plain none = record { alone = none; named = named }
+text_valid : (r : Role) (bytes : List ℕ) → ((part : SchemaUse) → r ≡ role.Schema part → ⊥) → BreaksNone r (text bytes) → IsValid r (text bytes)
+text_valid r bytes plain none = record { alone = none; named = named }
   where
     named : (place : List ℕ) (q : Role) (w : Json) → HasRole r (text bytes) place q w → NamesSchema q w
     named [] q w there = λ part other is. absurd (plain part (there.0 ∙ is))
     named (i ∷ place) q w there = absurd there.2
 
 id_can_be : (e : Element) (bytes : List ℕ) → BreaksNone (id_role e) (text bytes) → CanBeId (text bytes)
-id_can_be element_kind.Interface bytes none = interface_id (text bytes) (text_sound role.InterfaceId bytes (λ part is. cc) none)
-id_can_be other bytes none = element_id (text bytes) (text_sound role.ElementId bytes (λ part is. cc) none)
+id_can_be element_kind.Interface bytes none = interface_id (text bytes) (text_valid role.InterfaceId bytes (λ part is. cc) none)
+id_can_be other bytes none = element_id (text bytes) (text_valid role.ElementId bytes (λ part is. cc) none)
 
 id_known : (e : Element) → key_of e (codes "@id") ≡ Some key.Id
 id_known element_kind.Interface = refl
@@ -107,7 +107,7 @@ named_can_be v bytes (Some entry) found some none =
     entry_can_be entry bytes (id_is bytes (value_in (codes "@id") entry) same) in_entry
 
 -- ---- interfaces and documents
-pub interface : (v : Json) → ((place : List ℕ) (broken : LocalRule) → IsBroken v place broken → ⊥) → IsSoundInterface v
+pub interface : (v : Json) → ((place : List ℕ) (broken : LocalRule) → IsBroken v place broken → ⊥) → IsValidInterface v
 interface v none = record { alone = alone; named = named }
   where
     alone : BreaksNone role.Interface v
@@ -125,12 +125,12 @@ abbrev pub BreaksNothing : Json → Type 0
 BreaksNothing v = (place : List ℕ) (broken : LocalRule) → IsBreach v place broken → ⊥
 
 -- which is an interface
-pub one_interface : (t : Tree) (ms slice : List Member) → t ≡ variants.Members ms → slice ≡ ms → BreaksNothing (view t) → IsSoundInterface (object (members_view slice))
+pub one_interface : (t : Tree) (ms slice : List Member) → t ≡ variants.Members ms → slice ≡ ms → BreaksNothing (view t) → IsValidInterface (object (members_view slice))
 one_interface t ms slice is same none =
     interface (object (members_view slice)) (subst BreaksNothing (seen_members t ms slice is same) none)
 
 -- or a list of interfaces
-pub each_interface : (t : Tree) (ts slice : List Tree) → t ≡ variants.List ts → slice ≡ ts → BreaksNothing (view t) → EachIs IsSoundInterface (elements_view slice)
+pub each_interface : (t : Tree) (ts slice : List Tree) → t ≡ variants.List ts → slice ≡ ts → BreaksNothing (view t) → EachIs IsValidInterface (elements_view slice)
 each_interface t ts slice is same none = λ i v at.
     interface v (λ place broken breaks. subst BreaksNothing (seen_list t ts slice is same) none (i ∷ place) broken (v, at, breaks))
 
