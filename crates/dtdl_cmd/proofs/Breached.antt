@@ -1,7 +1,7 @@
 -- At the place of a breach stands a value.
 use Rattle.std.proofs.Common.{◌≡◌, ℕ, List, [], ◌∷◌, refl, sym, subst}
 use Rattle.json_tree.specs.Values.{Json, null, truth, number, text, array, object}
-use Rattle.json_tree.specs.Faults.{StandsAt}
+use Rattle.json_tree.specs.Places.{StandsAt}
 use Rattle.local_rules.specs.Roles.{HasRole}
 use Rattle.local_rules.specs.Breaches.{IsBreach}
 use Rattle.local_rules.specs.declared.role.Role.{Role}

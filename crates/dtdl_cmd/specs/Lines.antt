@@ -3,12 +3,12 @@ use Rattle.std.specs.Prelude.{◌≡◌, ℕ, ◌⊎◌, List, [], ◌∷◌, �
 use Rattle.std.specs.Fmt.{decimal}
 use Rattle.json_tree.specs.Values.{Json, Raw, text}
 use Rattle.json_tree.specs.Grammar.{IsText, Spells}
-use Rattle.json_tree.specs.Faults.{IsFault}
+use Rattle.json_read.specs.Faults.{IsFault}
 use Rattle.json_tree.specs.Pointers.{IsPointerOf}
 use Rattle.json_tree.specs.Printing.{printed}
-use Rattle.json_tree.specs.declared.fault.Place.{Place}
-use Rattle.json_tree.specs.declared.fault.JsonFault.{JsonFault}
-use Rattle.json_tree.specs.declared.fault.JsonFault.TheVariants as faults
+use Rattle.json_tree.specs.declared.places.Place.{Place}
+use Rattle.json_read.specs.declared.fault.JsonFault.{JsonFault}
+use Rattle.json_read.specs.declared.fault.JsonFault.TheVariants as faults
 use Rattle.local_rules.specs.Codes.{rule_code}
 use Rattle.local_rules.specs.Breaches.{IsFirstBreach}
 use Rattle.local_rules.specs.declared.rule.LocalRule.{LocalRule}

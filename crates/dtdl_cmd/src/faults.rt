@@ -3,13 +3,15 @@
 ghost use Rattle.std.specs.Prelude.{◌≡◌, IfOk, string_bytes};
 ghost use Rattle.json_tree.specs.Values.{Raw};
 ghost use Rattle.json_tree.specs.Grammar.{IsText};
-ghost use Rattle.json_tree.specs.Faults.{IsFault, StandsAt};
+ghost use Rattle.json_tree.specs.Places.{StandsAt};
+ghost use Rattle.json_read.specs.Faults.{IsFault};
 ghost use Rattle.json_tree.specs.View.{view};
 ghost use Rattle.local_rules.specs.Breaches.{IsFirstBreach};
 ghost use Rattle.dtdl_cmd.specs.Lines.{IsBreachLine, IsFaultLine, IsPlaceLine, pointer_line};
 
 use dt_base::{List, OutOfMemory, Text};
-use json_tree::{JsonFault, Place, Tree, pointer_in, pointer_of, print};
+use json_read::{JsonFault, pointer_in};
+use json_tree::{Place, Tree, pointer_of, print};
 use local_faults::Breach;
 use std::alloc::Global;
 

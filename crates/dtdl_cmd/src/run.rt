@@ -5,7 +5,7 @@ ghost use Rattle.std.specs.Io.KnownBytes.{Appends, Consumes, Keeps};
 ghost use Rattle.dt_base.specs.Faults.{Rose};
 ghost use Rattle.dtdl_cmd.specs.Runs.{AnswersBytes, AnswersSource, AnswersValue, Ends, IsCommand, Says, TextOf, Told};
 ghost use Rattle.json_tree.specs.View.{view};
-ghost use Rattle.json_tree.specs.Faults.{IsFault};
+ghost use Rattle.json_read.specs.Faults.{IsFault};
 ghost use Rattle.local_rules.specs.Breaches.{IsFirstBreach};
 ghost use Rattle.dtdl_cmd.specs.declared.command.Command.{Command};
 
@@ -17,7 +17,8 @@ use crate::interface::interface_of;
 use crate::refusal::Refusal;
 use crate::status::Status;
 use dt_base::{List, ReadEnd, Shelf, Sink, Source, read_all, write_all};
-use json_tree::{JsonFault, Tree};
+use json_read::JsonFault;
+use json_tree::Tree;
 use local_faults::{Breach, first_breach};
 use std::alloc::Global;
 use thiserror::Error;
@@ -66,7 +67,7 @@ fn answer<S: Source>(alloc: Global, command: Command, input: &mut S) -> Result<L
 fn answer_of_bytes(alloc: Global, command: Command, bytes: List<u8>) -> Result<List<u8>, CommandEnd>
     ensures { AnswersBytes command bytes result }
 {
-    match json_tree::read(alloc, bytes.as_slice()) {
+    match json_read::read(alloc, bytes.as_slice()) {
         Ok(tree) => {
             drop(bytes);
             answer_of_tree(alloc, command, &tree)

@@ -21,9 +21,9 @@ use Rattle.std.proofs.lemmas.List.Sums.{position_or_len_is}
 use Rattle.std.proofs.lemmas.Bool.{cond-true, lt-ltb}
 use Rattle.std.proofs.Math.ListN.{get_or-append}
 use Rattle.std.proofs.Math.Seq.{take-append_seam, get_or-append_seam}
-use Rattle.dtmi_name.specs.declared.place.Place.TheVariants.{WantD, Version}
+use Rattle.dtmi_name.specs.declared.walk.State.TheVariants.{WantD, Version}
 use Rattle.dtmi_name.specs.Grammar.{Identifier, is_name_byte, is_reserved, IsSegment, HasDtmiForm, OwnDtmiText, IsStored, dtmi_text, identifier_at}
-use Rattle.dtmi_name.specs.Machine.{run}
+use Rattle.dtmi_name.specs.Machinery.Walking.{run}
 use Rattle.dtmi_name.proofs.Spelling.{run-form, form-from_run}
 use Rattle.dtmi_name.proofs.Segments.{is_name_byte-ne58, is_name_byte-ne59}
 

@@ -5,13 +5,13 @@ use Rattle.std.specs.Char.{is_ascii_alphabetic, is_ascii_digit}
 use Rattle.std.specs.Option.{option_and_then}
 use Rattle.std.proofs.Math.Bool.{or_assoc}
 use Rattle.std.proofs.lemmas.Bool.{eqb-true, eq-eqb, ne_eqb, or_right, or_cases, false≢true}
-use Rattle.dtmi_name.specs.declared.place.Place.{Place}
-use Rattle.dtmi_name.specs.declared.place.Place.TheVariants.{NameStart, NameWord, NameUnderscore, WantD, WantT, WantM, WantI, WantColon, SegmentStart, SegmentWord, SegmentUnderscore, VersionStart, Version}
-use Rattle.dtmi_name.specs.declared.place.Outcome.TheVariants as outcome
+use Rattle.dtmi_name.specs.declared.walk.State.{State}
+use Rattle.dtmi_name.specs.declared.walk.State.TheVariants.{NameStart, NameWord, NameUnderscore, WantD, WantT, WantM, WantI, WantColon, SegmentStart, SegmentWord, SegmentUnderscore, VersionStart, Version}
+use Rattle.dtmi_name.specs.declared.walk.Outcome.TheVariants as outcome
 use Rattle.dtmi_name.specs.declared.fault.NameFault.TheVariants.{BadByte, BadVersion}
 use Rattle.dtmi_name.specs.Grammar.{IsDtmi}
 use Rattle.dtmi_name.specs.Faults.{RefusesDtmi}
-use Rattle.dtmi_name.specs.Machine.{step, run, Tells, is_past_path, wrong_at}
+use Rattle.dtmi_name.specs.Machinery.Walking.{step, run, Tells, is_past_path, wrong_at}
 use Rattle.dtmi_name.proofs.Segments.{is_name_byte-ne59}
 use Rattle.dtmi_name.proofs.Reading.{when_every, inside_every, word_every, first_wrong, reads_dtmis}
 
@@ -25,7 +25,7 @@ alphabetic-ne59 c h = ne_eqb c 59 (λ e. false≢true (subst (λ (k : ℕ). is_a
 other-ne59 : (c k : ℕ) → (c == k) ≡ true → (k == 59) ≡ false → (c == 59) ≡ false
 other-ne59 c k h f = ap (λ n. n == 59) (eqb-true c k h) ∙ f
 
-past-step : (p : Place) (c : ℕ) → MatchOption (step p c) ⊤ (λ q. is_past_path q ≡ (is_past_path p || (c == 59)))
+past-step : (p : State) (c : ℕ) → MatchOption (step p c) ⊤ (λ q. is_past_path q ≡ (is_past_path p || (c == 59)))
 past-step NameStart c = when_every (is_ascii_alphabetic c) NameWord (λ q. is_past_path q ≡ (c == 59)) (λ h. sym (alphabetic-ne59 c h))
 past-step NameWord c = inside_every c NameWord NameUnderscore (λ q. is_past_path q ≡ (c == 59)) (λ h. (sym (is_name_byte-ne59 c h), sym (is_name_byte-ne59 c h)))
 past-step NameUnderscore c = inside_every c NameWord NameUnderscore (λ q. is_past_path q ≡ (c == 59)) (λ h. (sym (is_name_byte-ne59 c h), sym (is_name_byte-ne59 c h)))
@@ -46,13 +46,13 @@ or_false : (b : Bool) → b ≡ (b || false)
 or_false true = refl
 or_false false = refl
 
-past_then : (p q : Place) (c : ℕ) (cs : List ℕ) (o : Option Place) → MatchOption o ⊤ (λ t. is_past_path t ≡ (is_past_path p || (c == 59)))
-    → ((t : Place) → run t cs ≡ Some q → is_past_path q ≡ (is_past_path t || seen cs))
+past_then : (p q : State) (c : ℕ) (cs : List ℕ) (o : Option State) → MatchOption o ⊤ (λ t. is_past_path t ≡ (is_past_path p || (c == 59)))
+    → ((t : State) → run t cs ≡ Some q → is_past_path q ≡ (is_past_path t || seen cs))
     → option_and_then (λ t. run t cs) o ≡ Some q → is_past_path q ≡ (is_past_path p || ((c == 59) || seen cs))
 past_then p q c cs None m f e = cc
 past_then p q c cs (Some t) m f e = f t e ∙ ap (λ b. b || seen cs) m ∙ or_assoc (is_past_path p) (c == 59) (seen cs)
 
-past-run : (p q : Place) (bytes : List ℕ) → run p bytes ≡ Some q → is_past_path q ≡ (is_past_path p || seen bytes)
+past-run : (p q : State) (bytes : List ℕ) → run p bytes ≡ Some q → is_past_path q ≡ (is_past_path p || seen bytes)
 unfolding seen
 past-run p q [] e = let same : p ≡ q = cc in ap is_past_path (sym same) ∙ or_false (is_past_path p)
 past-run p q (c ∷ cs) e = past_then p q c cs (step p c) (past-step p c) (λ t. past-run t q cs) e
@@ -73,7 +73,7 @@ seen_at [] k h e = absurd (omega arith)
 seen_at (c ∷ cs) zero h e = ap (λ b. b || seen cs) (eq-eqb c 59 e)
 seen_at (c ∷ cs) (suc k) h e = or_right (c == 59) (seen cs) (seen_at cs k (omega arith) e)
 
-fault_at : (bytes : List ℕ) (at : ℕ) (p : Place) (b : Bool) → b ≡ is_past_path p → length bytes ≤ 2048 → Tells WantD 2048 bytes (outcome.Wrong at p)
+fault_at : (bytes : List ℕ) (at : ℕ) (p : State) (b : Bool) → b ≡ is_past_path p → length bytes ≤ 2048 → Tells WantD 2048 bytes (outcome.Wrong at p)
     → RefusesDtmi bytes (cond b BadVersion (BadByte at))
 fault_at bytes at p true e short t = (
   short,
@@ -89,5 +89,5 @@ fault_at bytes at p false e short t = (
   λ h. false≢true (e ∙ past-run WantD p (take at bytes) t.1 ∙ seen_at (take at bytes) h.0 h.1 h.2),
 )
 
-pub refused : (bytes : List ℕ) (at : ℕ) (p : Place) → length bytes ≤ 2048 → Tells WantD 2048 bytes (outcome.Wrong at p) → RefusesDtmi bytes (wrong_at at p)
+pub refused : (bytes : List ℕ) (at : ℕ) (p : State) → length bytes ≤ 2048 → Tells WantD 2048 bytes (outcome.Wrong at p) → RefusesDtmi bytes (wrong_at at p)
 refused bytes at p short t = fault_at bytes at p (is_past_path p) refl short t

@@ -6,10 +6,10 @@ use Rattle.std.specs.Int.{is_in_range}
 use Rattle.std.specs.Option.{option_and_then}
 use Rattle.std.proofs.lemmas.List.Elements.{All-nil, All-cons, All-head, All-tail}
 use Rattle.std.proofs.lemmas.Bool.{or_left, ne_eqb, false≢true, cond-false}
-use Rattle.dtmi_name.specs.declared.place.Place.{Place}
-use Rattle.dtmi_name.specs.declared.place.Place.TheVariants.{NameStart, NameWord, NameUnderscore, SegmentStart, SegmentWord, SegmentUnderscore}
+use Rattle.dtmi_name.specs.declared.walk.State.{State}
+use Rattle.dtmi_name.specs.declared.walk.State.TheVariants.{NameStart, NameWord, NameUnderscore, SegmentStart, SegmentWord, SegmentUnderscore}
 use Rattle.dtmi_name.specs.Grammar.{is_name_byte, IsSegment}
-use Rattle.dtmi_name.specs.Machine.{when, inside, step, run}
+use Rattle.dtmi_name.specs.Machinery.Walking.{when, inside, step, run}
 
 or_more : (d a z : Bool) → (a || z) ≡ true → ((d || a) || z) ≡ true
 or_more true a z h = refl
@@ -70,17 +70,17 @@ segment-from_tail c cs a t =
 IsSegment-nil : IsSegment [] → ⊥
 IsSegment-nil s = false≢true s.first
 
-pub when-true : (b : Bool) (p : Place) → b ≡ true → when b p ≡ Some p
+pub when-true : (b : Bool) (p : State) → b ≡ true → when b p ≡ Some p
 when-true true p e = refl
 when-true false p e = cc
 
-inside-some : (a b : Bool) (word underscore : Place) → (a || b) ≡ true → cond a (Some word) (when b underscore) ≡ Some (cond a word underscore)
+inside-some : (a b : Bool) (word underscore : State) → (a || b) ≡ true → cond a (Some word) (when b underscore) ≡ Some (cond a word underscore)
 inside-some true b w u e = refl
 inside-some false true w u e = refl
 inside-some false false w u e = cc
 
 -- ---- a name
-abbrev name_at : Bool → Place
+abbrev name_at : Bool → State
 name_at may = cond may NameWord NameUnderscore
 
 step-name_at : (may : Bool) (c : ℕ) → step (name_at may) c ≡ inside c NameWord NameUnderscore
@@ -125,7 +125,7 @@ segment-from_run (c ∷ cs) e =
     let g = start_goes (is_ascii_alphabetic c) cs e in segment-from_tail c cs g.0 (tail-from_run true cs g.1)
 
 -- ---- a segment of a DTMI
-abbrev pub segment_at : Bool → Place
+abbrev pub segment_at : Bool → State
 segment_at may = cond may SegmentWord SegmentUnderscore
 
 step-segment_at : (may : Bool) (c : ℕ) → is_name_byte c ≡ true → step (segment_at may) c ≡ Some (segment_at (is_ascii_alphanumeric c))

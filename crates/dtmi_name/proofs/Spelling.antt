@@ -8,10 +8,10 @@ use Rattle.std.specs.Option.{option_and_then}
 use Rattle.std.proofs.lemmas.Fmt.{decimal_digit, decimal_step, decimal_by_steps}
 use Rattle.std.proofs.lemmas.List.Elements.{All-nil, All-cons, All-head, All-tail}
 use Rattle.std.proofs.lemmas.Bool.{and_parts, and_from, le-leb, lt-ltb, leb-true, ltb-true, eqb-true}
-use Rattle.dtmi_name.specs.declared.place.Place.{Place}
-use Rattle.dtmi_name.specs.declared.place.Place.TheVariants.{NameStart, NameWord, NameUnderscore, WantD, WantT, WantM, WantI, WantColon, SegmentStart, SegmentWord, SegmentUnderscore, VersionStart, Version}
+use Rattle.dtmi_name.specs.declared.walk.State.{State}
+use Rattle.dtmi_name.specs.declared.walk.State.TheVariants.{NameStart, NameWord, NameUnderscore, WantD, WantT, WantM, WantI, WantColon, SegmentStart, SegmentWord, SegmentUnderscore, VersionStart, Version}
 use Rattle.dtmi_name.specs.Grammar.{Identifier, is_name_byte, IsSegment, HasDtmiForm}
-use Rattle.dtmi_name.specs.Machine.{when, inside, step, run}
+use Rattle.dtmi_name.specs.Machinery.Walking.{when, inside, step, run}
 use Rattle.dtmi_name.proofs.Runs.{run-append}
 use Rattle.dtmi_name.proofs.Segments.{Tail, run-segment, segment-from_tail, when-true}
 
@@ -73,7 +73,7 @@ record TailLeft (may : Bool) (v : ℕ) (bytes : List ℕ) : Type 0 where
   small : v ≤ 999999999
 
 -- what is left of a text with the version v at a place
-abbrev Left : ℕ → Place → List ℕ → Type 0
+abbrev Left : ℕ → State → List ℕ → Type 0
 Left v NameStart bytes = ⊤
 Left v NameWord bytes = ⊤
 Left v NameUnderscore bytes = ⊤
@@ -88,7 +88,7 @@ Left v SegmentUnderscore bytes = TailLeft false v bytes
 Left v VersionStart bytes = (bytes ≡ decimal v) × (1 ≤ v) × (v ≤ 999999999)
 Left v (Version n) bytes = 1 ≤ n → n ≤ 999999999 → (decimal n ++ bytes ≡ decimal v) × (1 ≤ v) × (v ≤ 999999999)
 
-when-live : (b : Bool) (q : Place) (P : Place → Type 0) → MatchOption (when b q) ⊥ P → (b ≡ true) × P q
+when-live : (b : Bool) (q : State) (P : State → Type 0) → MatchOption (when b q) ⊥ P → (b ≡ true) × P q
 when-live true q P m = (refl, m)
 when-live false q P m = absurd m
 
@@ -173,7 +173,7 @@ digit-back v n c cs low high room m some small =
     decimal_step (n * 10 + (c - 48)) (omega arith) (omega arith) ∙ ap (λ t. decimal t ++ ((48 + (n * 10 + (c - 48)) % 10) ∷ [])) tens ∙ ap (λ o. decimal n ++ (o ∷ [])) ones in
     (sym (append_assoc (decimal n) (c ∷ []) cs) ∙ ap (λ ds. ds ++ cs) (sym step) ∙ r.0, r.1, r.2)
 
-back : (v : ℕ) (p : Place) (c : ℕ) (cs : List ℕ) → MatchOption (step p c) ⊥ (λ q. Left v q cs) → Left v p (c ∷ cs)
+back : (v : ℕ) (p : State) (c : ℕ) (cs : List ℕ) → MatchOption (step p c) ⊥ (λ q. Left v q cs) → Left v p (c ∷ cs)
 back v NameStart c cs m = tt
 back v NameWord c cs m = tt
 back v NameUnderscore c cs m = tt
@@ -211,7 +211,7 @@ version_end v n e low high =
     let same : n ≡ v = cc in
     (append-nil (decimal n) ∙ ap decimal same, omega arith, omega arith)
 
-end : (v : ℕ) (p : Place) → Some p ≡ Some (Version v) → Left v p []
+end : (v : ℕ) (p : State) → Some p ≡ Some (Version v) → Left v p []
 end v NameStart e = tt
 end v NameWord e = tt
 end v NameUnderscore e = tt
@@ -226,12 +226,12 @@ end v SegmentUnderscore e = cc
 end v VersionStart e = cc
 end v (Version n) e = version_end v n e
 
-live : (v : ℕ) (o : Option Place) (cs : List ℕ) → ((q : Place) → run q cs ≡ Some (Version v) → Left v q cs)
+live : (v : ℕ) (o : Option State) (cs : List ℕ) → ((q : State) → run q cs ≡ Some (Version v) → Left v q cs)
     → option_and_then (λ q. run q cs) o ≡ Some (Version v) → MatchOption o ⊥ (λ q. Left v q cs)
 live v None cs f e = cc
 live v (Some q) cs f e = f q e
 
-left-from_run : (v : ℕ) (p : Place) (bytes : List ℕ) → run p bytes ≡ Some (Version v) → Left v p bytes
+left-from_run : (v : ℕ) (p : State) (bytes : List ℕ) → run p bytes ≡ Some (Version v) → Left v p bytes
 left-from_run v p [] e = end v p e
 left-from_run v p (c ∷ cs) e = back v p c cs (live v (step p c) cs (λ q. left-from_run v q cs) e)
 

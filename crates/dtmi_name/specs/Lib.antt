@@ -1,3 +1,5 @@
+-- What public contracts cite.
 pub mod Grammar
 pub mod Faults
-pub mod Machine
+-- What proofs alone rest on: no public contract speaks of it.
+pub mod Machinery

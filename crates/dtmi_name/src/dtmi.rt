@@ -7,10 +7,10 @@ ghost use Rattle.std.specs.Cmp.Lexicographic.{slice_cmp};
 ghost use Rattle.std.specs.String.{string_bytes};
 ghost use Rattle.dtmi_name.specs.Grammar.{Identifier, HasDtmiForm, OwnDtmiText, IsStored, dtmi_text, is_reserved};
 ghost use Rattle.dtmi_name.specs.Faults.{RefusesDtmi};
-ghost use Rattle.dtmi_name.specs.Machine.{run, wrong_at, Tells};
+ghost use Rattle.dtmi_name.specs.Machinery.Walking.{run, wrong_at, Tells};
 
 use crate::fault::NameFault;
-use crate::place::{Outcome, Place, ends, version_of, walk};
+use crate::walk::{Outcome, State, ends, version_of, walk};
 use std::alloc::{AllocError, Global};
 use std::cmp::Ordering;
 use std::marker::Model;
@@ -126,8 +126,8 @@ pub fn has_dtmi_form(text: &str) -> bool
 {
     let bytes = text.as_bytes();
     // With so much room no byte is wrong for the bound's sake.
-    match walk(Place::WantD, bytes.len() + MOST_BYTES, bytes) {
-        Outcome::Whole(place) => ends(place),
+    match walk(State::WantD, bytes.len() + MOST_BYTES, bytes) {
+        Outcome::Whole(state) => ends(state),
         Outcome::Wrong { .. } => false,
     }
 }
@@ -156,20 +156,20 @@ fn check(bytes: &[u8]) -> Result<Form, NameFault>
     if bytes.len() > MOST_BYTES {
         return Err(NameFault::TooLong);
     }
-    match walk(Place::WantD, MOST_BYTES, bytes) {
-        Outcome::Whole(place) => finished(bytes, place),
-        Outcome::Wrong { at, place } => Err(wrong(at, place)),
+    match walk(State::WantD, MOST_BYTES, bytes) {
+        Outcome::Whole(state) => finished(bytes, state),
+        Outcome::Wrong { at, state } => Err(wrong(at, state)),
     }
 }
 
 /// Refuses what is only the beginning of DTMIs.
-fn finished(bytes: &[u8], place: Place) -> Result<Form, NameFault>
+fn finished(bytes: &[u8], state: State) -> Result<Form, NameFault>
     requires some { 0 < length bytes.now }
     requires short { length bytes.now ≤ 2048 }
-    requires walked { Tells Place.WantD 2048 bytes.now (Outcome.Whole place) }
+    requires walked { Tells State.WantD 2048 bytes.now (Outcome.Whole state) }
     ensures { MatchResult result (λ form. IsStored bytes.now form.path_end form.version) (RefusesDtmi bytes.now) }
 {
-    match version_of(place) {
+    match version_of(state) {
         Some(version) => own_form(bytes, version),
         None => Err(NameFault::Ends),
     }
@@ -177,7 +177,7 @@ fn finished(bytes: &[u8], place: Place) -> Result<Form, NameFault>
 
 /// Refuses what is reserved.
 fn own_form(bytes: &[u8], version: u32) -> Result<Form, NameFault>
-    requires walked { run Place.WantD bytes.now ≡ Some (Place.Version version) }
+    requires walked { run State.WantD bytes.now ≡ Some (State.Version version) }
     requires short { length bytes.now ≤ 2048 }
     ensures { MatchResult result (λ form. IsStored bytes.now form.path_end form.version) (RefusesDtmi bytes.now) }
 {
@@ -205,12 +205,12 @@ fn is_reserved(bytes: &[u8]) -> bool
 }
 
 /// The fault of a wrong byte, which is the version's where the `;` is behind.
-fn wrong(at: usize, place: Place) -> NameFault
+fn wrong(at: usize, state: State) -> NameFault
     requires { at < 2048 }
-    ensures { result ≡ wrong_at at place }
+    ensures { result ≡ wrong_at at state }
 {
-    match place {
-        Place::VersionStart | Place::Version(_) => NameFault::BadVersion,
+    match state {
+        State::VersionStart | State::Version(_) => NameFault::BadVersion,
         _ => NameFault::BadByte { at: at as u32 },
     }
 }

@@ -17,7 +17,7 @@ pub enum NameFault {
     /// No such text begins with the bytes up to and with the one at `at`, and `at` is the least such.
     #[error("the byte at {at} is wrong")]
     BadByte {
-        /// The place of the byte, counted from 0.
+        /// The position of the byte, counted from 0.
         at: u32,
     },
     /// The text is the beginning of such texts and none itself.

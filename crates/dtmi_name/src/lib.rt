@@ -5,7 +5,7 @@
 mod dtmi;
 mod fault;
 mod name;
-mod place;
+mod walk;
 
 pub use dtmi::{Dtmi, has_dtmi_form, is_reserved_id, order, same_path};
 pub use fault::NameFault;

@@ -3,10 +3,10 @@
 ghost use Rattle.std.specs.Prelude.{◌≡◌, ◌↔◌, ◌<◌, length, IfOk, IsTrue, MatchResult};
 ghost use Rattle.dtmi_name.specs.Grammar.{NameText};
 ghost use Rattle.dtmi_name.specs.Faults.{RefusesName};
-ghost use Rattle.dtmi_name.specs.Machine.{Tells};
+ghost use Rattle.dtmi_name.specs.Machinery.Walking.{Tells};
 
 use crate::fault::NameFault;
-use crate::place::{Outcome, Place, ends, walk};
+use crate::walk::{Outcome, State, ends, walk};
 use std::alloc::{AllocError, Global};
 use std::marker::Model;
 
@@ -74,8 +74,8 @@ pub fn is_name(text: &str) -> bool
     if text.len() > MOST_BYTES {
         return false;
     }
-    match walk(Place::NameStart, MOST_BYTES, text.as_bytes()) {
-        Outcome::Whole(place) => ends(place),
+    match walk(State::NameStart, MOST_BYTES, text.as_bytes()) {
+        Outcome::Whole(state) => ends(state),
         Outcome::Wrong { .. } => false,
     }
 }
@@ -90,19 +90,19 @@ fn check(bytes: &[u8]) -> Result<(), NameFault>
     if bytes.len() > MOST_BYTES {
         return Err(NameFault::TooLong);
     }
-    match walk(Place::NameStart, MOST_BYTES, bytes) {
-        Outcome::Whole(place) => finished(bytes, place),
+    match walk(State::NameStart, MOST_BYTES, bytes) {
+        Outcome::Whole(state) => finished(bytes, state),
         Outcome::Wrong { at, .. } => Err(NameFault::BadByte { at: at as u32 }),
     }
 }
 
 /// Refuses what is only the beginning of names.
-fn finished(bytes: &[u8], place: Place) -> Result<(), NameFault>
+fn finished(bytes: &[u8], state: State) -> Result<(), NameFault>
     requires some { 0 < length bytes.now }
-    requires walked { Tells Place.NameStart 64 bytes.now (Outcome.Whole place) }
+    requires walked { Tells State.NameStart 64 bytes.now (Outcome.Whole state) }
     ensures { MatchResult result (λ _. NameText bytes.now) (RefusesName bytes.now) }
 {
-    if ends(place) {
+    if ends(state) {
         Ok(())
     } else {
         Err(NameFault::Ends)

@@ -2,8 +2,8 @@
 use Rattle.std.proofs.Common.{◌≡◌, ◌≢◌, ℕ, ◌+◌, ◌*◌, ◌-◌, ◌<◌, ◌≤◌, Bool, true, false, ◌⊎◌, inl, inr, List, [], ◌∷◌, ◌++◌, length, slice_index, refl, ap, sym, ◌∙◌, subst, arith, if◌then◌else◌, ◌==◌, Option, Some, None, IfSome, MatchOption, ℤ, pos, ◌-ℤ◌, ne_eqb, ap₂}
 use Rattle.std.proofs.lemmas.Bool.Decides.{eqb_tells}
 use Rattle.json_decimal.specs.Literal.{Literal, Exponent, IsLiteral, IsDigit, AreDigits, IsInteger, IsExponent, spelling, minus_bytes, fraction_bytes, exponent_bytes, exponent_value, sign_bytes, signed_exponent, value_after, scale}
-use Rattle.json_decimal.specs.Digits.{is_digit, run, after, StartsNoDigit, fraction_at, rest_at, HasNoFraction, unsigned, starts_with_minus}
-use Rattle.json_decimal.specs.Reading.{IsSignedPower, IsExponentOf, IsTail, IsScanned}
+use Rattle.json_decimal.specs.Machinery.Digits.{is_digit, run, after, StartsNoDigit, fraction_at, rest_at, HasNoFraction, unsigned, starts_with_minus}
+use Rattle.json_decimal.specs.Machinery.Reading.{IsSignedPower, IsExponentOf, IsTail, IsScanned}
 use Rattle.json_decimal.proofs.Runs.{run-append, after-append, run_after, run-AreDigits, digit_cases, run-digit}
 
 -- ---- the exponent

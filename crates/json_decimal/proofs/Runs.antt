@@ -2,7 +2,7 @@
 use Rattle.std.proofs.Common.{◌≡◌, ℕ, ◌≤◌, true, false, ◌⊎◌, inl, inr, ap₂, ◌&&◌, nat_le, append-nil, length-append, ◌==◌, eqb-true, List, [], ◌∷◌, ◌++◌, length, refl, ap, sym, ◌∙◌, arith, if◌then◌else◌}
 use Rattle.std.proofs.lemmas.Bool.Decides.{nat_tests, leb_tells}
 use Rattle.json_decimal.specs.Literal.{IsDigit, AreDigits, IsPower}
-use Rattle.json_decimal.specs.Digits.{is_digit, run, after, StartsNoDigit}
+use Rattle.json_decimal.specs.Machinery.Digits.{is_digit, run, after, StartsNoDigit}
 
 pub digit_test : (b : ℕ) → IsDigit b → is_digit b ≡ true
 digit_test b h = grind (arith, nat_tests)

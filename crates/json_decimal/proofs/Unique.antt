@@ -5,8 +5,8 @@ use Rattle.std.proofs.lemmas.Bool.{cases_order, cases_eq}
 use Rattle.std.proofs.Math.Nat.{mul-div_cancel}
 use Rattle.json_decimal.specs.Number.{Number, KeepsValue, IsNormalForm}
 use Rattle.json_decimal.specs.Literal.{Literal, Exponent, Sign, no_sign, plus, minus, IsLiteral, IsDigit, AreDigits, IsPower, IsExponent, IsLiteralOf, StandsFor, spelling, exponent_bytes, exponent_value, sign_bytes, signed_exponent, value_after, digits_value, scale}
-use Rattle.json_decimal.specs.Digits.{run, after, fraction_at, rest_at, unsigned, starts_with_minus}
-use Rattle.json_decimal.specs.Reading.{IsScanned}
+use Rattle.json_decimal.specs.Machinery.Digits.{run, after, fraction_at, rest_at, unsigned, starts_with_minus}
+use Rattle.json_decimal.specs.Machinery.Reading.{IsScanned}
 use Rattle.json_decimal.proofs.Powers.{ten_positive, ten_suc}
 use Rattle.json_decimal.proofs.Parts.{tail_bytes, minus-spelled, integer-spelled, tail-spelled, fraction-spelled, rest-spelled}
 

@@ -5,7 +5,8 @@ use Rattle.std.specs.Result.{result_ok}
 use Rattle.std.proofs.Math.Nat.{mul-div_cancel}
 use Rattle.std.proofs.lemmas.Int.{ints, unsigned_abs-mul}
 use Rattle.json_decimal.specs.Number.{Number}
-use Rattle.json_decimal.specs.Comparing.{above, signed, IsWhole, IsSize}
+use Rattle.json_decimal.specs.Comparing.{above, signed, IsWhole}
+use Rattle.json_decimal.specs.Machinery.Sizes.{IsSize}
 use Rattle.json_decimal.proofs.Powers.{ten_grows, ten_positive, ten_suc}
 use Rattle.json_decimal.proofs.ReadsBack.{IsDecimal}
 use Rattle.json_decimal.proofs.Sizes.{above_from, below_from, ordered, lesser_first, lesser_second}

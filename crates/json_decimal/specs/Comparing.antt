@@ -30,7 +30,3 @@ order_of m n = let low = int_min m.exponent n.exponent in int_cmp (scaled low m)
 -- the number is the whole number z, where both are scaled to the lesser of its exponent and 0
 abbrev pub IsWhole : Number → ℤ → Type 0
 IsWhole n z = let low = int_min n.exponent (pos 0) in scaled low n ≡ z *ℤ pos (10 ^ above low (pos 0))
-
--- the number is n, but for its sign
-abbrev pub IsSize : Number → ℕ → Type 0
-IsSize x n = x.coefficient * 10 ^ above (pos 0) x.exponent ≡ n * 10 ^ above x.exponent (pos 0)

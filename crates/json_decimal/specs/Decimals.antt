@@ -19,7 +19,7 @@ Reads bytes (Err Range) = (n : Number) × IsLiteralOf bytes n × IsOutOfRange n
 Reads bytes (Err NotALiteral) = (l : Literal) → IsLiteral l → bytes ≡ spelling l → ⊥
 
 -- What the answer is where the bytes are a literal of n.
-abbrev pub Answers : Number → Result Decimal DecimalFault → Type 0
-Answers n (Ok d) = number_of d ≡ n
-Answers n (Err Range) = IsOutOfRange n
-Answers n (Err NotALiteral) = ⊥
+abbrev pub IsReadingOf : Number → Result Decimal DecimalFault → Type 0
+IsReadingOf n (Ok d) = number_of d ≡ n
+IsReadingOf n (Err Range) = IsOutOfRange n
+IsReadingOf n (Err NotALiteral) = ⊥

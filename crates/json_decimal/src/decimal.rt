@@ -6,8 +6,8 @@ ghost use Rattle.json_decimal.specs.Halves.{joined};
 /// as a whole number, below 10 ^ 38 and, unless zero, without trailing zeros.
 ///
 /// The coefficient stands in two halves, which keep a JSON tree small: one number of 128 bits would add 16 bytes to each
-/// of its values. The derived order is that of the fields, as sets need one; `order` is that of the numbers.
-#[derive(Clone, Copy, Debug, PartialEq, Eq, PartialOrd, Ord)]
+/// of its values. Decimals are equal where their numbers are; `order` is the order of the numbers.
+#[derive(Clone, Copy, Debug, PartialEq, Eq)]
 pub struct Decimal {
     /// The coefficient without its lower 64 bits.
     pub high: u64,

@@ -1,7 +1,7 @@
 //! Digits: runs of them in a text, and the zeros at the end of a number.
 ghost use Rattle.std.specs.Prelude.{◌≡◌, ◌≢◌, ◌+◌, ◌*◌, ◌%◌, ◌^◌, ◌<◌, ◌≤◌, pos, ◌<ℤ◌, [], ◌∷◌, length, MatchOption, IfSome, decimal};
 ghost use Rattle.json_decimal.specs.Literal.{IsPower, value_after};
-ghost use Rattle.json_decimal.specs.Digits.{run, after, StartsNoDigit};
+ghost use Rattle.json_decimal.specs.Machinery.Digits.{run, after, StartsNoDigit};
 
 /// How many digits may stand before the exponent mark.
 pub(crate) const MOST_DIGITS: u32 = 38;

@@ -6,7 +6,8 @@ ghost use Rattle.std.specs.declared.cmp.Ordering.TheVariants.{Equal};
 ghost use Rattle.json_decimal.specs.declared.decimal.Decimal.{Decimal};
 ghost use Rattle.json_decimal.specs.Decimals.{number_of};
 ghost use Rattle.json_decimal.specs.Number.{zero_number};
-ghost use Rattle.json_decimal.specs.Comparing.{order_of, IsWhole, IsSize, above};
+ghost use Rattle.json_decimal.specs.Comparing.{order_of, IsWhole, above};
+ghost use Rattle.json_decimal.specs.Machinery.Sizes.{IsSize};
 
 use crate::decimal::Decimal;
 use crate::digits::digit_count;
@@ -61,7 +62,7 @@ impl Decimal {
     }
 }
 
-/// Decimals that are the same number are equal in each field.
+/// Decimals that compare as equal are one number, in one form.
 pub fn one_decimal()
     ensures { (a b : Decimal) → order_of (number_of a) (number_of b) ≡ Equal → number_of a ≡ number_of b }
 {}

@@ -2,7 +2,7 @@
 ghost use Rattle.std.specs.Prelude.{◌≡◌, ◌^◌, ◌<◌, pos, neg_ℤ, ◌<ℤ◌, MatchOption, List, ℕ};
 ghost use Rattle.json_decimal.specs.Number.{Number, IsNormalForm, IsOutOfRange};
 ghost use Rattle.json_decimal.specs.Literal.{Literal, IsLiteral, IsLiteralOf, StandsFor, spelling};
-ghost use Rattle.json_decimal.specs.Decimals.{number_of, Reads, Answers};
+ghost use Rattle.json_decimal.specs.Decimals.{number_of, Reads, IsReadingOf};
 
 use crate::DecimalFault;
 use crate::decimal::Decimal;
@@ -21,7 +21,7 @@ impl Decimal {
         // What the answer says of the bytes.
         ensures reads { Reads literal.now result }
         // Which answer a literal gets.
-        ensures exact { (n : Number) → IsLiteralOf literal.now n → Answers n result }
+        ensures exact { (n : Number) → IsLiteralOf literal.now n → IsReadingOf n result }
     {
         let Some(scanned) = scan(literal) else {
             return Err(DecimalFault::NotALiteral);

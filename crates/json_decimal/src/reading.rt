@@ -1,8 +1,8 @@
 //! The parts of a literal, read from the front: a sign, integer digits, a fraction and an exponent.
 ghost use Rattle.std.specs.Prelude.{◌≡◌, ◌+◌, ◌<◌, ◌≤◌, ◌^◌, pos, neg_ℤ, ◌<ℤ◌, ◌++◌, length, MatchOption, IfSome, ℕ, ℤ};
 ghost use Rattle.json_decimal.specs.Literal.{Literal, IsLiteral, IsInteger, AreDigits, value_after, spelling, fraction_bytes};
-ghost use Rattle.json_decimal.specs.Digits.{run, after, fraction_at, rest_at, HasNoFraction, unsigned, starts_with_minus};
-ghost use Rattle.json_decimal.specs.Reading.{IsSignedPower, IsExponentOf, IsTail, IsScanned};
+ghost use Rattle.json_decimal.specs.Machinery.Digits.{run, after, fraction_at, rest_at, HasNoFraction, unsigned, starts_with_minus};
+ghost use Rattle.json_decimal.specs.Machinery.Reading.{IsSignedPower, IsExponentOf, IsTail, IsScanned};
 
 use crate::digits::{Run, digits_at, front, power_of};
 

@@ -1,7 +1,6 @@
 //! Examples from outside: literals with their canonical text, faults, the order and whole numbers.
 use super::*;
 use std::cmp::Ordering;
-use std::collections::BTreeSet;
 use std::test::Fail;
 
 #[test]
@@ -168,10 +167,9 @@ fn holds_the_coefficient_in_halves(rt: HostRuntime) -> Result<(), Fail> {
 }
 
 #[test]
-fn stands_in_sets_once(rt: HostRuntime) -> Result<(), Fail> {
-    let mut set = BTreeSet::new(rt.alloc());
-    assert!(rt; set.insert(Decimal::read(b"21.50")?)?);
-    assert!(rt; set.insert(Decimal::read(b"-21.50")?)?);
-    assert!(rt; !set.insert(Decimal::read(b"2150e-2")?)?);
+fn is_equal_where_the_numbers_are(rt: HostRuntime) -> Result<(), Fail> {
+    let decimal = Decimal::read(b"21.50")?;
+    assert!(rt; decimal == Decimal::read(b"2150e-2")?);
+    assert!(rt; decimal != Decimal::read(b"-21.50")?);
     Ok(())
 }

@@ -9,7 +9,8 @@ use Rattle.std.specs.Str.{all_scalars}
 use Rattle.std.specs.Prelude.{encode_utf8_all}
 use Rattle.std.specs.List.{AllByRecursion}
 use Rattle.json_tree.specs.Grammar.{AreWithin, tail, IsMultibyte, IsShort, IsHexDigit, AreHexDigits, IsUnit, IsCharacter, IsCharacters}
-use Rattle.json_tree.specs.Printing.{hex_digit, code_escape, escaped_byte, escaped, IsPlain}
+use Rattle.json_tree.specs.Printing.{hex_digit, code_escape, escaped_byte, escaped}
+use Rattle.json_tree.specs.Machinery.Pieces.{IsPlain}
 use Rattle.json_tree.proofs.Choices.{choose, is_byte, no_byte}
 use Rattle.json_tree.proofs.Escaped.{escaped_append, escaped_plain}
 

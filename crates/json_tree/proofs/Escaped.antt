@@ -3,7 +3,8 @@ use Rattle.std.proofs.Common.{◌≡◌, ℕ, zero, suc, ◌+◌, ◌-◌, ◌<�
 use Rattle.std.specs.List.{slice_range, AllByRecursion}
 use Rattle.std.proofs.Math.Seq.{take-suc}
 use Rattle.std.proofs.lemmas.List.{append-nil, get_or-drop, length-drop}
-use Rattle.json_tree.specs.Printing.{escaped_byte, escaped, IsPlain, IsEscaped}
+use Rattle.json_tree.specs.Printing.{escaped_byte, escaped}
+use Rattle.json_tree.specs.Machinery.Pieces.{IsPlain, IsEscaped}
 
 -- a byte that is escaped is ASCII
 pub escaped_ascii : (b : ℕ) → IsEscaped b → b < 128

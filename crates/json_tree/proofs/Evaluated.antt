@@ -3,7 +3,7 @@ use Rattle.std.proofs.Common.{false, ◌≡◌, ◌≢◌, ℕ, zero, suc, ◌<�
 use Rattle.std.specs.List.{slice_range, AllByRecursion}
 use Rattle.json_tree.specs.Values.{Json}
 use Rattle.json_tree.specs.Pointers.{token_byte, token_text, pointer_text, IsStep, PointsTo}
-use Rattle.json_tree.specs.Tokens.{IsNoSlash}
+use Rattle.json_tree.specs.Machinery.Tokens.{IsNoSlash}
 use Rattle.std.proofs.lemmas.Str.{IsCharBoundary-after_ascii}
 use Rattle.std.specs.Str.{IsCharBoundary, IsUtf8}
 use Rattle.std.proofs.lemmas.List.Folds.{drop_split}

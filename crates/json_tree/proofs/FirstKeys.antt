@@ -8,7 +8,7 @@ use Rattle.std.proofs.lemmas.Fmt.{digits_decimal}
 use Rattle.std.proofs.lemmas.Str.Parse.{digit_from_value, numerals_by_value, tells_digits}
 use Rattle.std.specs.Str.Parse.{AllDigits}
 use Rattle.json_tree.specs.Pointers.{token_byte, token_text}
-use Rattle.json_tree.specs.Tokens.{IsBare}
+use Rattle.json_tree.specs.Machinery.Tokens.{IsBare}
 use Rattle.json_tree.proofs.Escaped.{take_split}
 
 pub slash_ascii : (b : ℕ) → (b ≡ 126) ⊎ (b ≡ 47) → b < 128

@@ -1,30 +1,6 @@
-mod Choices
-mod Spaces
-mod Structure
-mod Numbers
-mod Escapes
-mod Texts
-mod Utf8
-mod Starts
-mod States
-mod Complete
-mod Says
-mod Readings
-mod Slices
-mod NumberSpans
-mod OneValue
-mod Views
+pub mod Choices
+pub mod Views
 pub mod Parts
-mod Duplicates
-mod Repeats
-mod Held
-mod Ranges
-mod Items
-mod Preorder
-mod Verdicts
-mod TextSpans
-mod EscapeSpans
-mod ValueSpans
 mod Escaped
 mod Printed
 mod Printable
@@ -32,9 +8,8 @@ mod Characters
 mod FirstKeys
 mod TreeItems
 mod Tied
-pub mod Pointed
 mod SortedParts
 mod Indices
 mod Evaluated
 mod Stepped
-mod Spelled
+mod OnePointer

@@ -1,7 +1,7 @@
 -- Parts of values, by their positions.
 use Rattle.std.proofs.Common.{◌≡◌, ℕ, zero, suc, ◌<◌, ◌⊎◌, inl, inr, List, [], ◌∷◌, ◌++◌, length, get_or, Some, refl, sym, ap, ◌∙◌, arith}
 use Rattle.json_tree.specs.Values.{Value, null, truth, number, text, array, object, elements_of, members_of}
-use Rattle.json_tree.specs.Faults.{element_at, member_at, IsPart, RepeatsKey}
+use Rattle.json_tree.specs.Places.{element_at, member_at, IsPart}
 use Rattle.json_tree.specs.declared.tree.Tree.{Tree}
 use Rattle.json_tree.specs.declared.tree.Member.{Member}
 use Rattle.json_tree.specs.View.{view, member_view, elements_view, members_view}
@@ -14,15 +14,6 @@ one_part (number n) i a b p q = absurd p
 one_part (text t) i a b p q = absurd p
 one_part {N} (array vs) i a b p q = let e : Some a ≡ Some b = sym p ∙ q in cc
 one_part {N} (object ms) i a b p q = let e : Some (p.0, a) ≡ Some (q.0, b) = sym p.1 ∙ q.1 in let f : (p.0, a) ≡ (q.0, b) = cc in ap (λ (m : List ℕ × Value N). m.1) f
-
--- a member whose key stands twice is a part
-pub repeat_part : {N : Type 0} (v : Value N) (i : ℕ) → RepeatsKey v i → (part : Value N) × IsPart v i part
-repeat_part null i r = absurd r
-repeat_part (truth t) i r = absurd r
-repeat_part (number n) i r = absurd r
-repeat_part (text t) i r = absurd r
-repeat_part (array vs) i r = absurd r
-repeat_part (object ms) i r = (r.1, (r.0, r.4))
 
 pub element_within : {N : Type 0} (vs : List (Value N)) (i : ℕ) (part : Value N) → element_at (elements_of vs) i ≡ Some part → i < length vs
 element_within [] i part e = absurd cc

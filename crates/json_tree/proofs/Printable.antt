@@ -5,7 +5,8 @@ use Rattle.json_decimal.specs.Number.{Number}
 use Rattle.json_decimal.specs.Printing.{text_of}
 use Rattle.json_tree.specs.Values.{Raw, Json, null, truth, number, text, array, object, Elements, no_elements, element, Members, no_members, member, HasDistinctKeys, ElementsHaveDistinctKeys, MembersHaveDistinctKeys, LacksKey, IsReadAs, ElementsAreReadAs, MembersAreReadAs}
 use Rattle.json_tree.specs.Grammar.{IsSpaces, IsCharacters, IsString, IsValue, IsElements, IsMoreElements, IsMembers, IsMoreMembers, Spells}
-use Rattle.json_tree.specs.Printing.{escaped, quoted, printed, printed_elements, printed_more_elements, printed_members, printed_more_members, NestsWithin, ElementsNestWithin, MembersNestWithin, IsSound, AreSound, MembersAreSound}
+use Rattle.json_tree.specs.Printing.{escaped, quoted, printed, printed_elements, printed_more_elements, printed_members, printed_more_members, NestsWithin, ElementsNestWithin, MembersNestWithin}
+use Rattle.json_tree.specs.Machinery.Pieces.{IsOfTree, AreOfTrees, MembersAreOfTrees}
 use Rattle.json_tree.proofs.Characters.{text_printed}
 
 -- each number as its text
@@ -38,7 +39,7 @@ string_printed content to h =
     let chars = h to in (chars.0, escaped content ++ 34 ∷ to, ap (λ e. 34 ∷ e) (append_assoc (escaped content) (34 ∷ []) to), chars.1)
 
 mutual
-  pub value_printed : (v : Json) (depth : ℕ) (to : List ℕ) → IsSound v → NestsWithin depth v → IsValue (spelled v) depth (printed v ++ to) to
+  pub value_printed : (v : Json) (depth : ℕ) (to : List ℕ) → IsOfTree v → NestsWithin depth v → IsValue (spelled v) depth (printed v ++ to) to
   value_printed null depth to h n = refl
   value_printed (truth b) depth to h n = refl
   value_printed (number x) depth to h n = ((h.0.literal, h.0.is, h.0.spelled), refl)
@@ -46,7 +47,7 @@ mutual
   value_printed (array vs) depth to h n = (n.0, printed_elements vs ++ to, n.1, refl, elements_printed vs n.0 to h n.2)
   value_printed (object ms) depth to h n = (n.0, printed_members ms ++ to, n.1, refl, members_printed ms n.0 to h n.2)
 
-  elements_printed : (vs : Elements Number) (depth : ℕ) (to : List ℕ) → AreSound vs → ElementsNestWithin depth vs
+  elements_printed : (vs : Elements Number) (depth : ℕ) (to : List ℕ) → AreOfTrees vs → ElementsNestWithin depth vs
       → IsElements (elements_spelled vs) depth (printed_elements vs ++ to) to
   elements_printed no_elements depth to h n = no_spaces (93 ∷ to)
   elements_printed (element v vs) depth to h n = (
@@ -57,7 +58,7 @@ mutual
     more_elements_printed vs depth to h.1 n.1,
   )
 
-  more_elements_printed : (vs : Elements Number) (depth : ℕ) (to : List ℕ) → AreSound vs → ElementsNestWithin depth vs
+  more_elements_printed : (vs : Elements Number) (depth : ℕ) (to : List ℕ) → AreOfTrees vs → ElementsNestWithin depth vs
       → IsMoreElements (elements_spelled vs) depth (printed_more_elements vs ++ to) to
   more_elements_printed no_elements depth to h n = no_spaces (93 ∷ to)
   more_elements_printed (element v vs) depth to h n = (
@@ -70,7 +71,7 @@ mutual
     more_elements_printed vs depth to h.1 n.1,
   )
 
-  members_printed : (ms : Members Number) (depth : ℕ) (to : List ℕ) → MembersAreSound ms → MembersNestWithin depth ms
+  members_printed : (ms : Members Number) (depth : ℕ) (to : List ℕ) → MembersAreOfTrees ms → MembersNestWithin depth ms
       → IsMembers (members_spelled ms) depth (printed_members ms ++ to) to
   members_printed no_members depth to h n = no_spaces (125 ∷ to)
   members_printed (member key v ms) depth to h n =
@@ -88,7 +89,7 @@ mutual
         more_members_printed ms depth to h.2 n.1,
       )
 
-  more_members_printed : (ms : Members Number) (depth : ℕ) (to : List ℕ) → MembersAreSound ms → MembersNestWithin depth ms
+  more_members_printed : (ms : Members Number) (depth : ℕ) (to : List ℕ) → MembersAreOfTrees ms → MembersNestWithin depth ms
       → IsMoreMembers (members_spelled ms) depth (printed_more_members ms ++ to) to
   more_members_printed no_members depth to h n = no_spaces (125 ∷ to)
   more_members_printed (member key v ms) depth to h n =
@@ -110,7 +111,7 @@ mutual
 
 -- reading the numbers gives the value back
 mutual
-  read_back : (v : Json) → IsSound v → IsReadAs (spelled v) v
+  read_back : (v : Json) → IsOfTree v → IsReadAs (spelled v) v
   read_back null h = refl
   read_back (truth b) h = refl
   read_back (number n) h = (n, h.0, h.1, refl)
@@ -118,11 +119,11 @@ mutual
   read_back (array vs) h = (vs, elements_read_back vs h, refl)
   read_back (object ms) h = (ms, members_read_back ms h, refl)
 
-  elements_read_back : (vs : Elements Number) → AreSound vs → ElementsAreReadAs (elements_spelled vs) vs
+  elements_read_back : (vs : Elements Number) → AreOfTrees vs → ElementsAreReadAs (elements_spelled vs) vs
   elements_read_back no_elements h = refl
   elements_read_back (element v vs) h = (v, vs, read_back v h.0, elements_read_back vs h.1, refl)
 
-  members_read_back : (ms : Members Number) → MembersAreSound ms → MembersAreReadAs (members_spelled ms) ms
+  members_read_back : (ms : Members Number) → MembersAreOfTrees ms → MembersAreReadAs (members_spelled ms) ms
   members_read_back no_members h = refl
   members_read_back (member key v ms) h = (v, ms, read_back v h.1, members_read_back ms h.2, refl)
 
@@ -148,7 +149,7 @@ mutual
   members_distinct no_members h = tt
   members_distinct (member key v ms) h = (lacks key ms h.0, distinct v h.1, members_distinct ms h.2)
 
-pub print_spells : (v : Json) → IsSound v → NestsWithin 64 v → HasDistinctKeys v → Spells (printed v) v
+pub print_spells : (v : Json) → IsOfTree v → NestsWithin 64 v → HasDistinctKeys v → Spells (printed v) v
 print_spells v sound nests keys = (
   spelled v,
   (printed v, [], no_spaces (printed v), subst (λ bytes. IsValue (spelled v) 64 bytes []) (append-nil (printed v)) (value_printed v 64 [] sound nests), no_spaces []),

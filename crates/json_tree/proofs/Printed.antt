@@ -3,7 +3,8 @@ use Rattle.std.proofs.Common.{◌≡◌, ℕ, zero, suc, ◌+◌, ◌<◌, List,
 use Rattle.json_decimal.specs.Number.{Number}
 use Rattle.json_tree.specs.Values.{Json, Elements, element, Members, member}
 use Rattle.json_tree.specs.View.{view, elements_view, members_view}
-use Rattle.json_tree.specs.Printing.{quoted, comma_before, printed, printed_elements, printed_more_elements, printed_members, printed_more_members, IsSound, AreSound, MembersAreSound}
+use Rattle.json_tree.specs.Printing.{quoted, printed, printed_elements, printed_more_elements, printed_members, printed_more_members}
+use Rattle.json_tree.specs.Machinery.Pieces.{comma_before, IsOfTree, AreOfTrees, MembersAreOfTrees}
 use Rattle.std.specs.Str.{IsUtf8}
 use Rattle.std.proofs.Math.Seq.{take-suc}
 use Rattle.json_tree.specs.declared.tree.Tree.{Tree}
@@ -65,21 +66,21 @@ member_printed out all members i m lt is h =
     ∙ ap (λ e. out ++ e) (sym split) ∙ h
 
 -- one more item that is sound
-elements_more : (xs : List Tree) (x : Tree) → AreSound (elements_view xs) → IsSound (view x) → AreSound (elements_view (xs ++ x ∷ []))
+elements_more : (xs : List Tree) (x : Tree) → AreOfTrees (elements_view xs) → IsOfTree (view x) → AreOfTrees (elements_view (xs ++ x ∷ []))
 elements_more [] x h p = (p, tt)
 elements_more (y ∷ xs) x h p = (h.0, elements_more xs x h.1 p)
 
-members_more : (xs : List Member) (x : Member) → MembersAreSound (members_view xs) → IsUtf8 x.key → IsSound (view x.value) → MembersAreSound (members_view (xs ++ x ∷ []))
+members_more : (xs : List Member) (x : Member) → MembersAreOfTrees (members_view xs) → IsUtf8 x.key → IsOfTree (view x.value) → MembersAreOfTrees (members_view (xs ++ x ∷ []))
 members_more [] x h k p = (k, p, tt)
 members_more (y ∷ xs) x h k p = (h.0, h.1, members_more xs x h.2 k p)
 
 take_item : {X : Type 0} (xs : List X) (i : ℕ) (x : X) → i < length xs → x ≡ get_or xs i x → take (i + 1) xs ≡ take i xs ++ x ∷ []
 take_item xs i x lt is = ap (λ n. take n xs) (add-one i) ∙ take-suc xs i x lt ∙ ap (λ y. take i xs ++ y ∷ []) (sym is)
 
-pub item_sound : (items : List Tree) (i : ℕ) (item : Tree) → i < length items → item ≡ get_or items i item
-    → AreSound (elements_view (take i items)) → IsSound (view item) → AreSound (elements_view (take (i + 1) items))
-item_sound items i item lt is all one = rw (take_item items i item lt is) (elements_more (take i items) item all one)
+pub item_of_tree : (items : List Tree) (i : ℕ) (item : Tree) → i < length items → item ≡ get_or items i item
+    → AreOfTrees (elements_view (take i items)) → IsOfTree (view item) → AreOfTrees (elements_view (take (i + 1) items))
+item_of_tree items i item lt is all one = rw (take_item items i item lt is) (elements_more (take i items) item all one)
 
-pub member_sound : (members : List Member) (i : ℕ) (m : Member) → i < length members → m ≡ get_or members i m
-    → MembersAreSound (members_view (take i members)) → IsUtf8 m.key → IsSound (view m.value) → MembersAreSound (members_view (take (i + 1) members))
-member_sound members i m lt is all key one = rw (take_item members i m lt is) (members_more (take i members) m all key one)
+pub member_of_tree : (members : List Member) (i : ℕ) (m : Member) → i < length members → m ≡ get_or members i m
+    → MembersAreOfTrees (members_view (take i members)) → IsUtf8 m.key → IsOfTree (view m.value) → MembersAreOfTrees (members_view (take (i + 1) members))
+member_of_tree members i m lt is all key one = rw (take_item members i m lt is) (members_more (take i members) m all key one)

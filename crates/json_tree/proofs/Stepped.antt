@@ -4,7 +4,7 @@ use Rattle.std.specs.Prelude.{MatchOption}
 use Rattle.std.proofs.lemmas.Fmt.{decimal_injective}
 use Rattle.json_tree.specs.Values.{Json, Value, array, object, Members, no_members, member}
 use Rattle.json_tree.specs.View.{view, elements_view, members_view}
-use Rattle.json_tree.specs.Faults.{element_at}
+use Rattle.json_tree.specs.Places.{element_at}
 use Rattle.json_tree.specs.Pointers.{token_byte, token_text, IsFirstOf, IsStep}
 use Rattle.json_tree.specs.declared.tree.Tree.{Tree}
 use Rattle.json_tree.specs.declared.tree.Tree as variants

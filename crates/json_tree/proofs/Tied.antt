@@ -1,7 +1,7 @@
 -- The pointer to a place leads to what stands there.
 use Rattle.std.proofs.Common.{◌≡◌, ℕ, zero, suc, List, [], ◌∷◌, Some, sym, ap, ◌∙◌, inl, inr, subst}
 use Rattle.json_tree.specs.Values.{Value, null, truth, number, text, array, object, Elements, no_elements, element, Members, no_members, member, LacksKey, HasDistinctKeys, ElementsHaveDistinctKeys, MembersHaveDistinctKeys}
-use Rattle.json_tree.specs.Faults.{element_at, member_at, IsPart, StandsAt}
+use Rattle.json_tree.specs.Places.{element_at, member_at, IsPart, StandsAt}
 use Rattle.json_tree.specs.Pointers.{IsFirstOf, IsStep, LeadsTo, PointsTo, HasToken, AreTokens, IsPointerOf}
 
 some_same : {A : Type 0} (x y : A) → Some x ≡ Some y → x ≡ y

@@ -4,7 +4,7 @@ use Rattle.std.proofs.Common.{Result, Ok, Err}
 use Rattle.std.specs.Prelude.{OnOk}
 use Rattle.json_tree.specs.Values.{Json, array, object}
 use Rattle.json_tree.specs.View.{view, elements_view, members_view}
-use Rattle.json_tree.specs.Faults.{element_at, member_at, IsPart, StandsAt}
+use Rattle.json_tree.specs.Places.{element_at, member_at, IsPart, StandsAt}
 use Rattle.json_tree.specs.Pointers.{token_text, pointer_text, HasToken, AreTokens}
 use Rattle.json_tree.specs.declared.tree.Tree.{Tree, the_lemmas}
 use Rattle.json_tree.specs.declared.tree.Tree as variants

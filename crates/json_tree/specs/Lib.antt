@@ -1,14 +1,10 @@
+-- What public contracts cite.
 pub mod Values
 pub mod View
-pub mod Grammar
-pub mod Faults
-pub mod Automaton
-pub mod Remains
-pub mod Steps
-pub mod Leads
-pub mod Ways
-pub mod Spans
-pub mod Printing
+pub mod Places
 pub mod Pointers
-pub mod Tokens
+pub mod Grammar
+pub mod Printing
 pub mod Sorting
+-- What proofs alone rest on: no public contract speaks of it.
+pub mod Machinery

@@ -1,7 +1,7 @@
 -- JSON Pointers (RFC 6901): the text of a place in a value, and the value to which a text leads.
 use Rattle.std.specs.Prelude.{◌≡◌, ℕ, ◌==◌, if◌then◌else◌, ◌⊎◌, List, [], ◌∷◌, ◌++◌, Some, codes, decimal}
 use Rattle.json_tree.specs.Values.{Value, array, object, Members, no_members, member}
-use Rattle.json_tree.specs.Faults.{element_at, member_at}
+use Rattle.json_tree.specs.Places.{element_at, member_at}
 
 -- A byte of a reference token (section 3): `~` as `~0` and `/` as `~1`.
 abbrev pub token_byte : ℕ → List ℕ

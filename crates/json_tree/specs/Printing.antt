@@ -1,11 +1,9 @@
 -- The text of a JSON value without white space, its members in their order.
-use Rattle.std.specs.Prelude.{◌≡◌, ℕ, zero, suc, ◌<◌, ◌⊎◌, ◌+◌, ◌/◌, ◌%◌, ◌==◌, nat_lt, if◌then◌else◌, List, [], ◌∷◌, ◌++◌, codes}
+use Rattle.std.specs.Prelude.{◌≡◌, ℕ, suc, ◌+◌, ◌/◌, ◌%◌, ◌==◌, nat_lt, if◌then◌else◌, List, [], ◌∷◌, ◌++◌, codes}
 use Rattle.json_decimal.specs.Printing.{text_of}
-use Rattle.json_tree.specs.Values.{IsInRange, Json, null, truth, number, text, array, object, Value, Elements, no_elements, element, Members, no_members, member}
+use Rattle.json_tree.specs.Values.{Json, null, truth, number, text, array, object, Value, Elements, no_elements, element, Members, no_members, member}
 use Rattle.json_decimal.specs.Number.{Number}
-use Rattle.json_decimal.specs.Literal.{IsLiteralOf}
 use Rattle.json_tree.specs.Grammar.{literal}
-use Rattle.std.specs.Str.{IsUtf8}
 
 -- A hexadecimal digit, in lower case.
 abbrev pub hex_digit : ℕ → ℕ
@@ -32,13 +30,6 @@ escaped_byte b =
 abbrev pub escaped : List ℕ → List ℕ
 escaped [] = []
 escaped (b ∷ bytes) = escaped_byte b ++ escaped bytes
-
--- A byte that is printed as it is, and one that is not.
-abbrev pub IsPlain : ℕ → Type 0
-IsPlain b = escaped_byte b ≡ b ∷ []
-
-abbrev pub IsEscaped : ℕ → Type 0
-IsEscaped b = (b < 32) ⊎ (b ≡ 34) ⊎ (b ≡ 92)
 
 -- A text between quotation marks.
 abbrev pub quoted : List ℕ → List ℕ
@@ -69,29 +60,6 @@ abbrev mutual
   pub printed_more_members : Members Number → List ℕ
   printed_more_members no_members = 125 ∷ []
   printed_more_members (member key v ms) = 44 ∷ (quoted key ++ 58 ∷ (printed v ++ printed_more_members ms))
-
--- What holds of the value of each tree: texts and keys are UTF-8, and each number is in range and reads back.
-abbrev mutual
-  pub IsSound : Json → Type 0
-  IsSound null = Unit {0}
-  IsSound (truth b) = Unit {0}
-  IsSound (number n) = IsLiteralOf (text_of n) n × IsInRange n
-  IsSound (text bytes) = IsUtf8 bytes
-  IsSound (array vs) = AreSound vs
-  IsSound (object ms) = MembersAreSound ms
-
-  pub AreSound : Elements Number → Type 0
-  AreSound no_elements = Unit {0}
-  AreSound (element v vs) = IsSound v × AreSound vs
-
-  pub MembersAreSound : Members Number → Type 0
-  MembersAreSound no_members = Unit {0}
-  MembersAreSound (member key v ms) = IsUtf8 key × IsSound v × MembersAreSound ms
-
--- What stands before the element or member at a position.
-abbrev pub comma_before : ℕ → List ℕ
-comma_before zero = []
-comma_before (suc n) = 44 ∷ []
 
 -- Arrays and objects nest at most so deep, where the outermost counts as 1.
 abbrev mutual

@@ -2,14 +2,14 @@
 
 ghost use Rattle.std.specs.Prelude.{◌≡◌, IfOk};
 
-use crate::fault::Place;
+use crate::places::Place;
 use crate::pointers::Pointer;
 use crate::tree::{Member, Tree};
 use dt_base::{List, OutOfMemory};
 use std::alloc::Global;
 
 impl Tree {
-    /// An equal tree.
+    /// An equal tree. Fails only for want of memory. The call goes down as deep as the tree nests.
     #[cycle(copies)]
     pub fn copy(&self, alloc: Global) -> Result<Tree, OutOfMemory>
         ensures { IfOk result (λ tree. tree ≡ self.now) }
@@ -35,7 +35,7 @@ impl Tree {
 }
 
 impl Member {
-    /// An equal member.
+    /// An equal member. Fails only for want of memory. The call goes down as deep as its value nests.
     #[cycle(copies)]
     pub fn copy(&self, alloc: Global) -> Result<Member, OutOfMemory>
         ensures { IfOk result (λ member. member ≡ self.now) }
@@ -69,7 +69,7 @@ fn copy_members(alloc: Global, members: &[Member]) -> Result<Vec<Member>, OutOfM
 }
 
 impl Place {
-    /// An equal place.
+    /// An equal place. Fails only for want of memory.
     pub fn copy(&self, alloc: Global) -> Result<Place, OutOfMemory>
         ensures { IfOk result (λ place. place ≡ self.now) }
     {
@@ -82,7 +82,7 @@ impl Place {
 }
 
 impl Pointer {
-    /// An equal pointer.
+    /// An equal pointer. Fails only for want of memory.
     pub fn copy(&self, alloc: Global) -> Result<Pointer, OutOfMemory>
         ensures { IfOk result (λ pointer. pointer ≡ self.now) }
     {

@@ -4,9 +4,9 @@ ghost use Rattle.std.specs.Prelude.{◌≡◌, ◌<◌, ◌≤◌, ◌^◌, ◌�
 ghost use Rattle.std.specs.List.{slice_range, AllByRecursion};
 ghost use Rattle.json_tree.specs.Values.{Json};
 ghost use Rattle.json_tree.specs.View.{view, elements_view, members_view};
-ghost use Rattle.json_tree.specs.Faults.{element_at};
+ghost use Rattle.json_tree.specs.Places.{element_at};
 ghost use Rattle.json_tree.specs.Pointers.{token_byte, token_text, IsFirstOf, IsStep, PointsTo};
-ghost use Rattle.json_tree.specs.Tokens.{IsNoSlash, HasIndexForm};
+ghost use Rattle.json_tree.specs.Machinery.Tokens.{IsNoSlash, HasIndexForm};
 
 use crate::pointers::is_bare;
 use crate::tree::{Member, Tree};
@@ -165,7 +165,8 @@ fn part_of<'a>(tree: &'a Tree, token: &str) -> Option<&'a Tree>
 }
 
 /// The value to which a JSON Pointer leads (RFC 6901, section 4), and none where it is malformed or leads to nothing.
-/// Of equal keys it takes the first, and `-` leads to nothing.
+/// Of equal keys it takes the first, and `-` leads to nothing. Takes no memory but the stack's: the call goes down as deep
+/// as the pointer leads.
 #[cycle(at)]
 pub fn at<'a>(tree: &'a Tree, pointer: &str) -> Option<&'a Tree>
     ensures { MatchOption result ((part : Json) → PointsTo (view tree.now) pointer.now part → ⊥)

@@ -1,25 +1,19 @@
-//! JSON texts (RFC 8259) as trees.
+//! JSON values (RFC 8259) as trees: their texts, places in them, and pointers to these.
 #![tactic(auto)]
 
 mod copies;
 mod evaluation;
-mod fault;
-mod keys;
 mod laws;
 mod places;
 mod pointers;
 mod printing;
-mod reading;
-mod scan;
 mod sorting;
-mod strings;
 mod tree;
 
 pub use evaluation::at;
-pub use fault::{JsonFault, Place};
-pub use laws::{one_printed, one_value};
+pub use laws::{one_pointer, reads_back};
+pub use places::Place;
 pub use pointers::{Pointer, pointer_of};
 pub use printing::{print, push_quoted};
-pub use reading::{pointer_in, read};
 pub use sorting::sorted;
 pub use tree::{Member, Tree};

@@ -4,11 +4,11 @@ ghost use Rattle.std.specs.Prelude.{◌≡◌, ◌<◌, ◌≤◌, ◌⊎◌, �
 ghost use Rattle.std.specs.List.{slice_range, AllByRecursion};
 ghost use Rattle.json_tree.specs.Values.{Json, HasDistinctKeys};
 ghost use Rattle.json_tree.specs.View.{view};
-ghost use Rattle.json_tree.specs.Faults.{IsPart, StandsAt};
+ghost use Rattle.json_tree.specs.Places.{IsPart, StandsAt};
 ghost use Rattle.json_tree.specs.Pointers.{token_byte, token_text, pointer_text, PointsTo, HasToken, AreTokens, IsPointerOf};
-ghost use Rattle.json_tree.specs.Tokens.{IsBare};
+ghost use Rattle.json_tree.specs.Machinery.Tokens.{IsBare};
 
-use crate::fault::Place;
+use crate::places::Place;
 use crate::tree::Tree;
 use dt_base::{OutOfMemory, Text};
 use std::alloc::{AllocError, Global};
@@ -122,7 +122,8 @@ fn text_of(alloc: Global, tree: &Tree, steps: &[u64]) -> Result<Text, OutOfMemor
     Ok(Text::from_string(out))
 }
 
-/// The pointer (RFC 6901) to a place in a tree: the keys and positions on the way to it.
+/// The pointer (RFC 6901) to a place in a tree: the keys and positions on the way to it. Fails only for want of memory.
+/// The call goes down as deep as the place lies.
 pub fn pointer_of(alloc: Global, tree: &Tree, place: &Place) -> Result<Pointer, OutOfMemory>
     requires { (part : Json) × StandsAt (view tree.now) place.now.steps part }
     ensures text { IfOk result (λ pointer. IsPointerOf (view tree.now) place.now.steps pointer.text) }

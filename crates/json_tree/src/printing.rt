@@ -3,16 +3,18 @@
 ghost use Rattle.std.specs.Prelude.{◌≡◌, ◌<◌, ◌≤◌, ◌++◌, string_bytes, length, get_or, IsTrue, IsFalse, IfOk, OnOk};
 ghost use Rattle.std.specs.List.{slice_range, AllByRecursion};
 ghost use Rattle.json_tree.specs.Grammar.{Spells};
-ghost use Rattle.json_tree.specs.Printing.{hex_digit, code_escape, escaped_byte, escaped, IsPlain, IsEscaped, quoted, comma_before, printed, printed_elements, printed_members, IsSound, AreSound, MembersAreSound, NestsWithin};
+ghost use Rattle.json_tree.specs.Printing.{hex_digit, code_escape, escaped_byte, escaped, quoted, printed, printed_elements, printed_members, NestsWithin};
+ghost use Rattle.json_tree.specs.Machinery.Pieces.{IsPlain, IsEscaped, comma_before, IsOfTree, AreOfTrees, MembersAreOfTrees};
 ghost use Rattle.std.specs.Str.{IsUtf8};
 ghost use Rattle.json_decimal.specs.Decimals.{number_of};
 ghost use Rattle.json_decimal.specs.Printing.{text_of};
 ghost use Rattle.json_tree.specs.Values.{number, HasDistinctKeys};
 ghost use Rattle.json_tree.specs.View.{view, elements_view, members_view};
 
+use crate::laws::of_number;
 use crate::tree::{Member, Tree};
 use dt_base::{OutOfMemory, Text};
-use json_decimal::{Decimal, reads_back};
+use json_decimal::Decimal;
 use std::alloc::{AllocError, Global};
 
 /// The room in bytes that is reserved at the start.
@@ -98,10 +100,10 @@ fn push_escaped(out: &mut String, text: &str) -> Result<(), AllocError>
     Ok(())
 }
 
-/// Appends a text between quotation marks, as `print` does.
+/// Appends a text between quotation marks, as `print` does. Fails only for want of memory.
 pub fn push_quoted(out: &mut String, text: &str) -> Result<(), AllocError>
     ensures printed { OnOk result (string_bytes out.new ≡ string_bytes out.old ++ quoted text.now) }
-    ensures sound { IsUtf8 text.now }
+    ensures utf8 { IsUtf8 text.now }
 {
     out.push('"')?;
     push_escaped(out, text)?;
@@ -110,9 +112,9 @@ pub fn push_quoted(out: &mut String, text: &str) -> Result<(), AllocError>
 
 fn push_number(alloc: Global, out: &mut String, decimal: &Decimal) -> Result<(), AllocError>
     ensures printed { OnOk result (string_bytes out.new ≡ string_bytes out.old ++ text_of (number_of decimal.now)) }
-    ensures sound { IsSound (number (number_of decimal.now)) }
+    ensures of_tree { IsOfTree (number (number_of decimal.now)) }
 {
-    reads_back();
+    of_number(decimal);
     out.push_str(decimal.print(alloc)?.as_str())
 }
 
@@ -126,11 +128,11 @@ fn push_comma(out: &mut String, position: usize) -> Result<(), AllocError>
     Ok(())
 }
 
-/// Appends a value, of which its texts and numbers then say that they read back.
+/// Appends a value, of which its texts and numbers then say that they are those of a tree.
 #[cycle(prints)]
 fn push_value(alloc: Global, out: &mut String, tree: &Tree) -> Result<(), AllocError>
     ensures printed { OnOk result (string_bytes out.new ≡ string_bytes out.old ++ printed (view tree.now)) }
-    ensures sound { OnOk result (IsSound (view tree.now)) }
+    ensures of_tree { OnOk result (IsOfTree (view tree.now)) }
 {
     match tree {
         Tree::Null => out.push_str("null"),
@@ -153,7 +155,7 @@ fn push_value(alloc: Global, out: &mut String, tree: &Tree) -> Result<(), AllocE
 #[cycle(prints)]
 fn push_elements(alloc: Global, out: &mut String, items: &[Tree]) -> Result<(), AllocError>
     ensures printed { OnOk result (string_bytes out.new ≡ string_bytes out.old ++ printed_elements (elements_view items.now)) }
-    ensures sound { OnOk result (AreSound (elements_view items.now)) }
+    ensures of_tree { OnOk result (AreOfTrees (elements_view items.now)) }
 {
     for (position, item) in items.iter().enumerate() {
         push_comma(out, position)?;
@@ -166,7 +168,7 @@ fn push_elements(alloc: Global, out: &mut String, items: &[Tree]) -> Result<(), 
 #[cycle(prints)]
 fn push_members(alloc: Global, out: &mut String, members: &[Member]) -> Result<(), AllocError>
     ensures printed { OnOk result (string_bytes out.new ≡ string_bytes out.old ++ printed_members (members_view members.now)) }
-    ensures sound { OnOk result (MembersAreSound (members_view members.now)) }
+    ensures of_tree { OnOk result (MembersAreOfTrees (members_view members.now)) }
 {
     for (position, member) in members.iter().enumerate() {
         push_comma(out, position)?;
@@ -181,6 +183,8 @@ fn push_members(alloc: Global, out: &mut String, members: &[Member]) -> Result<(
 /// behind a backslash, the controls of RFC 8259, section 7, that have a short escape are `\b`, `\f`, `\n`, `\r` and
 /// `\t`, the other ones below 32 are `\u00` and two hexadecimal digits in lower case, and every other byte stands as
 /// it is. Numbers are printed as `Decimal::print` does. Which of the texts of a tree is given is this project's own.
+///
+/// Fails only for want of memory. The call goes down as deep as the tree nests.
 #[tactic(auto, using(crate::proofs::Printable::print_spells))]
 pub fn print(alloc: Global, tree: &Tree) -> Result<Text, OutOfMemory>
     ensures text { IfOk result (λ t. t ≡ printed (view tree.now)) }

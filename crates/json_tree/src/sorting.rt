@@ -20,7 +20,8 @@ fn sort_by_key(members: &mut Vec<Member>)
     members.sort_unstable_by(|a, b| a.key.as_str().cmp(b.key.as_str()));
 }
 
-/// An equal tree but that the members of each object, at every depth, stand in the order of the bytes of their keys.
+/// An equal tree but that the members of each object, at every depth, stand in the order of the bytes of their keys. Fails
+/// only for want of memory. The call goes down as deep as the tree nests.
 #[cycle(sorts)]
 pub fn sorted(alloc: Global, tree: &Tree) -> Result<Tree, OutOfMemory>
     ensures { IfOk result (λ t. IsSortedOf (view tree.now) (view t)) }

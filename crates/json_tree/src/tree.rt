@@ -2,6 +2,10 @@ use dt_base::{List, Text};
 use json_decimal::Decimal;
 
 /// A JSON value, without where its parts stand in the text. RFC 8259, section 3.
+///
+/// A tree that was read from a text nests at most 64 deep. One that a caller builds may nest deeper, and `copy`, `print`,
+/// `sorted`, `reads_back` and its end of life go down into it by calls, one inside the other, as deep as it nests: no
+/// proof says that the stack has room for them.
 #[derive(Debug, Drop)]
 #[cycle(tree)]
 pub enum Tree {

@@ -12,7 +12,7 @@ use Rattle.json_tree.specs.declared.tree.Tree.{Tree}
 use Rattle.json_tree.specs.declared.tree.Tree as variants
 use Rattle.local_rules.proofs.Views.{view-Null, view-Bool, view-Number, view-Text}
 use Rattle.local_faults.proofs.Parts.{leaf_of}
-use Rattle.json_tree.specs.Faults.{IsPart}
+use Rattle.json_tree.specs.Places.{IsPart}
 use Rattle.local_rules.specs.Roles.{part_role}
 use Rattle.local_rules.specs.declared.rule.LocalRule.{LocalRule}
 use Rattle.local_rules.specs.declared.role.Role.{Role}

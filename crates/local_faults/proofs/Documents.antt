@@ -10,7 +10,7 @@ use Rattle.std.proofs.lemmas.List.{reverse-append}
 use Rattle.std.proofs.lemmas.Bool.{cases_lt}
 use Rattle.json_decimal.specs.Number.{Number}
 use Rattle.json_tree.specs.Values.{Json, array, object, Elements, Members}
-use Rattle.json_tree.specs.Faults.{IsPart, element_at}
+use Rattle.json_tree.specs.Places.{IsPart, element_at}
 use Rattle.local_rules.specs.Members.{members_in}
 use Rattle.local_rules.specs.Breaches.{Breaks, IsEarlierId, IsBroken, IsBreach, ComesBefore}
 use Rattle.local_rules.specs.declared.rule.LocalRule.{LocalRule}

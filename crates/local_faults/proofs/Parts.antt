@@ -2,7 +2,7 @@
 use Rattle.std.proofs.Common.{◌≡◌, ℕ, zero, suc, ◌<◌, List, [], ◌∷◌, length, map, Option, Some, option_and_then, sym, ap, subst, ◌∙◌, arith}
 use Rattle.json_decimal.specs.Number.{Number}
 use Rattle.json_tree.specs.Values.{Json, text, array, object, Elements, Members}
-use Rattle.json_tree.specs.Faults.{IsPart, member_at}
+use Rattle.json_tree.specs.Places.{IsPart, member_at}
 use Rattle.json_tree.specs.View.{view, elements_view, members_view}
 use Rattle.json_tree.specs.declared.tree.Tree.{Tree}
 use Rattle.json_tree.specs.declared.tree.Member.{Member}

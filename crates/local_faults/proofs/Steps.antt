@@ -2,7 +2,7 @@
 use Rattle.std.proofs.Common.{◌≡◌, ℕ, ◌⊎◌, inl, inr, List, [], ◌∷◌, Some, refl, sym, ap, subst, ◌∙◌}
 use Rattle.json_decimal.specs.Number.{Number}
 use Rattle.json_tree.specs.Values.{Json, null, truth, number, text, array, object, Members}
-use Rattle.json_tree.specs.Faults.{IsPart, IsBefore}
+use Rattle.json_tree.specs.Places.{IsPart, IsBefore}
 use Rattle.local_rules.specs.Roles.{HasRole, part_role}
 use Rattle.local_rules.specs.Identifiers.{IsIdRole}
 use Rattle.local_rules.specs.Breaches.{Breaks}

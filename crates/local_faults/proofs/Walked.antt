@@ -6,7 +6,7 @@ use Rattle.std.proofs.lemmas.List.{reverse-append}
 use Rattle.std.proofs.lemmas.Bool.{cases_lt}
 use Rattle.json_decimal.specs.Number.{Number}
 use Rattle.json_tree.specs.Values.{Json, text, Members}
-use Rattle.json_tree.specs.Faults.{IsPart}
+use Rattle.json_tree.specs.Places.{IsPart}
 use Rattle.local_rules.specs.Codes.{rule_number}
 use Rattle.local_rules.specs.Roles.{HasRole, part_role}
 use Rattle.local_rules.specs.Identifiers.{IsIdRole}

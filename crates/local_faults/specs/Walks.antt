@@ -6,7 +6,7 @@ use Rattle.std.specs.Cmp.Lexicographic.{slice_cmp}
 use Rattle.std.specs.BTreeSet.{BTreeSet, contains_by}
 use Rattle.json_decimal.specs.Number.{Number}
 use Rattle.json_tree.specs.Values.{Json, text, Members}
-use Rattle.json_tree.specs.Faults.{IsBefore, IsPart}
+use Rattle.json_tree.specs.Places.{IsBefore, IsPart}
 use Rattle.local_rules.specs.Roles.{HasRole, part_role}
 use Rattle.local_rules.specs.Identifiers.{IsIdRole}
 use Rattle.local_rules.specs.Members.{text_in}

@@ -4,7 +4,7 @@ use Rattle.std.specs.Prelude.{bytes_eq}
 use Rattle.std.proofs.lemmas.Slice.Eq.{bytes_eq-Decides}
 use Rattle.json_decimal.specs.Number.{Number}
 use Rattle.json_tree.specs.Values.{Json, Members, no_members, member}
-use Rattle.json_tree.specs.Faults.{member_at}
+use Rattle.json_tree.specs.Places.{member_at}
 use Rattle.local_rules.specs.Members.{value_at}
 
 first_or_later : (key k : List ℕ) (w : Json) (ms : Members Number) (v : Json) → ((u : Json) → value_at key ms ≡ Some u → (i : ℕ) × (member_at ms i ≡ Some (key, u)))

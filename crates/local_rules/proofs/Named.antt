@@ -4,7 +4,7 @@ use Rattle.std.specs.Prelude.{bytes_eq, find, option_and_then}
 use Rattle.std.proofs.lemmas.Slice.Eq.{bytes_eq-Decides}
 use Rattle.json_decimal.specs.Number.{Number}
 use Rattle.json_tree.specs.Values.{Json, text, array, Elements, no_elements, element}
-use Rattle.json_tree.specs.Faults.{element_at}
+use Rattle.json_tree.specs.Places.{element_at}
 use Rattle.local_rules.specs.Members.{list_of, text_in}
 use Rattle.local_rules.specs.Roles.{holds_some}
 use Rattle.local_rules.specs.Levels.{elements_under}

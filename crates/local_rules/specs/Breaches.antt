@@ -2,7 +2,7 @@
 use Rattle.std.specs.Prelude.{◌≡◌, ℕ, ◌<◌, ◌⊎◌, List, [], ◌∷◌, Some}
 use Rattle.json_decimal.specs.Number.{Number}
 use Rattle.json_tree.specs.Values.{Json, null, truth, number, text, array, object, Members}
-use Rattle.json_tree.specs.Faults.{IsBefore, element_at}
+use Rattle.json_tree.specs.Places.{IsBefore, element_at}
 use Rattle.local_rules.specs.Members.{members_in}
 use Rattle.local_rules.specs.Codes.{rule_number}
 use Rattle.local_rules.specs.Roles.{HasRole}

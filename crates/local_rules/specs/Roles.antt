@@ -6,7 +6,7 @@ use Rattle.std.proofs.Math.Bool.{beq}
 use Rattle.std.specs.Char.{is_ascii_alphabetic, is_ascii_alphanumeric}
 use Rattle.json_decimal.specs.Number.{Number}
 use Rattle.json_tree.specs.Values.{Json, null, truth, number, text, array, object, Members}
-use Rattle.json_tree.specs.Faults.{IsPart, member_at}
+use Rattle.json_tree.specs.Places.{IsPart, member_at}
 use Rattle.local_rules.specs.Members.{list_of, value_at, value_in, text_in}
 use Rattle.local_rules.specs.Tables.{key_text, required, optional, type_text, types_of}
 use Rattle.local_rules.specs.declared.key.Key.{Key}

@@ -23,7 +23,7 @@ use Rattle.local_rules.specs.declared.role.Role.TheVariants as role
 use Rattle.local_rules.specs.declared.role.ValueKind.{ValueKind}
 use Rattle.local_rules.specs.declared.role.ValueKind.TheVariants as value_kind
 use Rattle.local_rules.specs.declared.rule.LocalRule.TheVariants as rule
-use Rattle.model_read.specs.machinery.Shapes.{CanBe, CanBeId, CanBeName, CanBeMultiplicity, CanBeEnumValue, CanBeValueSchema, CanBeTypes, IsParents, IsTruth, IsWords, IsValid}
+use Rattle.model_read.specs.Machinery.Shapes.{CanBe, CanBeId, CanBeName, CanBeMultiplicity, CanBeEnumValue, CanBeValueSchema, CanBeTypes, IsParents, IsTruth, IsWords, IsValid}
 use Rattle.model_read.proofs.Valid.{here, of_kind, placed_valid, entry_valid}
 
 -- ---- kinds

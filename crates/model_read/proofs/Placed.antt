@@ -3,7 +3,7 @@ use Rattle.std.proofs.Common.{◌≡◌, ℕ, suc, ◌+◌, ◌<◌, ◌≤◌, 
 use Rattle.std.proofs.lemmas.List.{drop_more}
 use Rattle.std.proofs.lemmas.Slice.Eq.{bytes_eq-Decides}
 use Rattle.json_tree.specs.Values.{Json}
-use Rattle.json_tree.specs.Faults.{member_at}
+use Rattle.json_tree.specs.Places.{member_at}
 use Rattle.json_tree.specs.View.{view, member_view, members_view}
 use Rattle.json_tree.specs.declared.tree.Member.{Member}
 use Rattle.local_rules.specs.Members.{value_at}

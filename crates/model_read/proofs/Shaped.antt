@@ -33,7 +33,7 @@ use Rattle.json_tree.specs.View.{view, elements_view}
 use Rattle.json_tree.specs.declared.tree.Tree.{Tree}
 use Rattle.json_tree.specs.declared.tree.Tree as variants
 use Rattle.local_rules.proofs.Views.{view-Null, view-Bool, view-Number, view-List}
-use Rattle.model_read.specs.machinery.Shapes.{ArrayShape, CanBeEnumValue, CanBeId, CanBeMultiplicity, CanBeName, CanBeTypes, CanBeValueSchema, CommonShape, CommandShape, ComponentShape, ContentShape, EnumEntryShape, EnumerationShape, Has, InterfaceShape, IsListOf, IsObject, IsParents, IsValid, IsValidContent, IsValidEnumEntry, IsValidInterface, IsValidPayload, IsValidProperty, IsValidSchema, IsTruth, IsWords, KindShape, MapShape, MayHave, ObjectShape, PayloadShape, PropertyShape, RelationshipPropertyShape, RelationshipShape, SchemaShape, TelemetryShape}
+use Rattle.model_read.specs.Machinery.Shapes.{ArrayShape, CanBeEnumValue, CanBeId, CanBeMultiplicity, CanBeName, CanBeTypes, CanBeValueSchema, CommonShape, CommandShape, ComponentShape, ContentShape, EnumEntryShape, EnumerationShape, Has, InterfaceShape, IsListOf, IsObject, IsParents, IsValid, IsValidContent, IsValidEnumEntry, IsValidInterface, IsValidPayload, IsValidProperty, IsValidSchema, IsTruth, IsWords, KindShape, MapShape, MayHave, ObjectShape, PayloadShape, PropertyShape, RelationshipPropertyShape, RelationshipShape, SchemaShape, TelemetryShape}
 use Rattle.model_read.proofs.Leaves as leaves
 use Rattle.model_read.proofs.Valid.{entry_valid, has_key, here, member_valid, keyed_valid, of_kind}
 

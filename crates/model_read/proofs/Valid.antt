@@ -4,7 +4,7 @@ use Rattle.std.specs.Prelude.{Contains}
 use Rattle.std.proofs.lemmas.Bool.{true_from_ne_false}
 use Rattle.json_decimal.specs.Number.{Number}
 use Rattle.json_tree.specs.Values.{Json, array, object, Elements, Members}
-use Rattle.json_tree.specs.Faults.{IsPart, element_at, member_at}
+use Rattle.json_tree.specs.Places.{IsPart, element_at, member_at}
 use Rattle.local_rules.specs.Members.{list_of, value_at}
 use Rattle.local_rules.specs.Tables.{key_text, required}
 use Rattle.local_rules.specs.Roles.{element_member, element_of, entry_role, key_of, key_role, member_role, part_role, role_of_key}
@@ -17,7 +17,7 @@ use Rattle.local_rules.specs.declared.role.Element.{Element}
 use Rattle.local_rules.specs.declared.role.Role.{Role}
 use Rattle.local_rules.proofs.Keyed.{position_of_key}
 use Rattle.local_rules.proofs.Wanted.{lacks_needed}
-use Rattle.model_read.specs.machinery.Shapes.{IsValid}
+use Rattle.model_read.specs.Machinery.Shapes.{IsValid}
 
 -- ---- at the value itself
 pub here : (r : Role) (v : Json) (broken : LocalRule) → IsValid r v → BreaksAlone broken r v → ⊥

@@ -3,7 +3,7 @@ use Rattle.std.proofs.Common.{◌≡◌, ℕ, ◌⊎◌, inl, inr, List, [], ◌
 use Rattle.std.specs.Prelude.{codes, option_and_then}
 use Rattle.json_decimal.specs.Number.{Number}
 use Rattle.json_tree.specs.Values.{Json, null, truth, number, text, array, object, Members}
-use Rattle.json_tree.specs.Faults.{IsPart}
+use Rattle.json_tree.specs.Places.{IsPart}
 use Rattle.local_rules.specs.Members.{members_in, value_at, value_in}
 use Rattle.local_rules.specs.Roles.{HasRole, element_member, id_role, key_of, member_role, part_role, role_of_key, type_in, type_of}
 use Rattle.local_rules.specs.Kinds.{LacksKeyOf, needed_keys}
@@ -31,7 +31,7 @@ use Rattle.local_rules.proofs.Keyed.{position_of_key}
 use Rattle.local_rules.proofs.Named.{found_under, id_is}
 use Rattle.local_rules.proofs.Wanted.{lacks_first}
 use Rattle.local_faults.proofs.Rules.{alone_breaks}
-use Rattle.model_read.specs.machinery.Shapes.{CanBeId, EachIs, IsValid, IsValidInterface, NamesSchema}
+use Rattle.model_read.specs.Machinery.Shapes.{CanBeId, EachIs, IsValid, IsValidInterface, NamesSchema}
 use Rattle.model_read.proofs.Leaves.{element_id, interface_id}
 use Rattle.model_read.proofs.Seen.{seen_list, seen_members}
 

@@ -1,4 +1,4 @@
 pub mod Declarations
 pub mod Uploads
 pub mod Ends
-pub mod machinery
+pub mod Machinery

@@ -9,7 +9,7 @@ ghost use Rattle.local_rules.specs.declared.role.Element.TheVariants as element;
 ghost use Rattle.local_rules.specs.declared.role.Position.TheVariants as position;
 ghost use Rattle.dtdl_terms.specs.TermViews.{kind_term, content_term, contents_term};
 ghost use Rattle.model_read.specs.Declarations.{AreKind, AreProperties, HasContents, IsContentEntry, type_of_kind};
-ghost use Rattle.model_read.specs.machinery.Shapes.{EachIs, IsListOf, IsValidContent, IsValidProperty, KindShape, MayHave, RelationshipShape};
+ghost use Rattle.model_read.specs.Machinery.Shapes.{EachIs, IsListOf, IsValidContent, IsValidProperty, KindShape, MayHave, RelationshipShape};
 
 use crate::common::common_of;
 use crate::kinds::{command_in, component_in, is_writable, max_at, property_in, telemetry_in};

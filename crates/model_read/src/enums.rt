@@ -7,7 +7,7 @@ ghost use Rattle.json_tree.specs.Values.{number, text};
 ghost use Rattle.json_tree.specs.View.{view, members_view, elements_view};
 ghost use Rattle.local_rules.specs.Members.{list_of};
 ghost use Rattle.model_read.specs.Declarations.{DeclaresEnumEntry, HasString, IsEnumEntry, IsEnumValue, value_schema};
-ghost use Rattle.model_read.specs.machinery.Shapes.{CanBeEnumValue, CanBeValueSchema, EachIs, EnumEntryShape, Has, IsValidEnumEntry};
+ghost use Rattle.model_read.specs.Machinery.Shapes.{CanBeEnumValue, CanBeValueSchema, EachIs, EnumEntryShape, Has, IsValidEnumEntry};
 
 use crate::common::common_of;
 use crate::parts::{members_of, wanted};

@@ -11,7 +11,7 @@ ghost use Rattle.local_rules.specs.declared.role.Position.TheVariants as positio
 ghost use Rattle.dtdl_terms.specs.TermViews.{kind_term, payload_term};
 ghost use Rattle.std.specs.Option.{option_map};
 ghost use Rattle.model_read.specs.Declarations.{AreKind, HasMax, HasOptionalPayload, IsWritable, type_of_kind};
-ghost use Rattle.model_read.specs.machinery.Shapes.{CanBeMultiplicity, CommandShape, ComponentShape, IsValidPayload, IsTruth, MayHave, PropertyShape, TelemetryShape};
+ghost use Rattle.model_read.specs.Machinery.Shapes.{CanBeMultiplicity, CommandShape, ComponentShape, IsValidPayload, IsTruth, MayHave, PropertyShape, TelemetryShape};
 
 use crate::schemas::{payload_at, schema_at};
 use crate::semantics::semantic_at;

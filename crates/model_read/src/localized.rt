@@ -6,7 +6,7 @@ ghost use Rattle.json_tree.specs.View.{view, member_view, members_view};
 ghost use Rattle.local_rules.specs.Members.{pairs_of, value_at};
 ghost use Rattle.local_rules.specs.Quantities.{IsWord};
 ghost use Rattle.model_read.specs.Declarations.{HasLocalized, IsLocalizedBy, IsTextOfLanguage};
-ghost use Rattle.model_read.specs.machinery.Shapes.{AreWords, IsWords, MayHave};
+ghost use Rattle.model_read.specs.Machinery.Shapes.{AreWords, IsWords, MayHave};
 
 use crate::texts::text_of;
 use dt_base::{List, OutOfMemory, Text};

@@ -4,13 +4,13 @@ ghost use Rattle.std.specs.Prelude.{◌≡◌, ◌∷◌, [], ℕ, List, IfOk};
 ghost use Rattle.std.specs.List.{AllZip, enumerate_from};
 ghost use Rattle.json_tree.specs.Values.{Json, array, object};
 ghost use Rattle.json_tree.specs.View.{view, members_view, elements_view};
-ghost use Rattle.json_tree.specs.Faults.{StandsAt};
+ghost use Rattle.json_tree.specs.Places.{StandsAt};
 ghost use Rattle.local_rules.specs.Breaches.{IsBreach};
 ghost use Rattle.local_rules.specs.Members.{list_of};
 ghost use Rattle.local_rules.specs.declared.rule.LocalRule.{LocalRule};
 ghost use Rattle.model_read.specs.Ends.{IsRightEnd};
 ghost use Rattle.model_read.specs.Uploads.{AreUploaded, IsUploaded, IsUploadedAt};
-ghost use Rattle.model_read.specs.machinery.Shapes.{EachIs, InterfaceShape, IsValidInterface};
+ghost use Rattle.model_read.specs.Machinery.Shapes.{EachIs, InterfaceShape, IsValidInterface};
 
 use crate::end::LocalEnd;
 use crate::interfaces::interface_in;

@@ -9,7 +9,7 @@ ghost use Rattle.local_rules.specs.Roles.{type_of};
 ghost use Rattle.local_rules.specs.declared.role.Element.TheVariants as element;
 ghost use Rattle.local_rules.specs.declared.role.Position.TheVariants as position;
 ghost use Rattle.model_read.specs.Declarations.{IsSchema, IsPayload, ArePayloads, HasSchema, HasPayload};
-ghost use Rattle.model_read.specs.machinery.Shapes.{ArrayShape, CanBeId, EachIs, EnumerationShape, Has, IsValidPayload, IsValidSchema, MapShape, ObjectShape, SchemaShape};
+ghost use Rattle.model_read.specs.Machinery.Shapes.{ArrayShape, CanBeId, EachIs, EnumerationShape, Has, IsValidPayload, IsValidSchema, MapShape, ObjectShape, SchemaShape};
 
 use crate::common::common_of;
 use crate::enums::{enum_entries_of, is_of_text};

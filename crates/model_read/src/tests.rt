@@ -63,7 +63,7 @@ const DOCUMENTS: [(&str, usize, usize, usize, &str); 7] = [
 #[test]
 fn reads_every_kind_of_element(rt: HostRuntime) -> Result<(), Fail> {
     for (text, contents, schemas, parents, base) in DOCUMENTS {
-        let tree = json_tree::read(rt.alloc(), text.as_bytes())?;
+        let tree = json_read::read(rt.alloc(), text.as_bytes())?;
         let uploads = read_interfaces(rt.alloc(), &tree, 1)?;
         let last = uploads.as_slice().last();
         assert_eq!(rt;
@@ -82,7 +82,7 @@ fn reads_every_kind_of_element(rt: HostRuntime) -> Result<(), Fail> {
 fn copies_every_kind_of_element(rt: HostRuntime) -> Result<(), Fail> {
     let alloc = rt.alloc();
     for (text, ..) in DOCUMENTS {
-        let tree = json_tree::read(alloc, text.as_bytes())?;
+        let tree = json_read::read(alloc, text.as_bytes())?;
         for uploaded in read_interfaces(alloc, &tree, 1)?.as_slice() {
             let copy = uploaded.copy(alloc)?;
             let got = format!(in alloc; "{copy:?}")?;
@@ -111,7 +111,7 @@ const BREACHES: [(&str, &[u64], &str); 3] = [
 #[test]
 fn finds_the_first_breach(rt: HostRuntime) -> Result<(), Fail> {
     for (text, place, code) in BREACHES {
-        let tree = json_tree::read(rt.alloc(), text.as_bytes())?;
+        let tree = json_read::read(rt.alloc(), text.as_bytes())?;
         let Some(breach) = local_faults::first_breach(rt.alloc(), &tree)? else {
             panic!(rt; "no breach in {text}")
         };
@@ -127,7 +127,7 @@ const NINE_COMMANDS: &str =
 
 #[test]
 fn compares_entries_and_measures_schemas(rt: HostRuntime) -> Result<(), Fail> {
-    let tree = json_tree::read(rt.alloc(), NINE_COMMANDS.as_bytes())?;
+    let tree = json_read::read(rt.alloc(), NINE_COMMANDS.as_bytes())?;
     let members = local_rules::members_in(&tree);
     let schemas = schema_levels::NamedSchemas::of(rt.alloc(), members)?;
     for entry in entries_under(members, "schemas") {
@@ -158,7 +158,7 @@ fn is_fault(end: &Result<List<Uploaded>, LocalEnd>) -> bool {
 
 #[test]
 fn names_the_first_breach(rt: HostRuntime) -> Result<(), Fail> {
-    let tree = json_tree::read(rt.alloc(), r#"[{"@id":"dtmi:a;1"}]"#.as_bytes())?;
+    let tree = json_read::read(rt.alloc(), r#"[{"@id":"dtmi:a;1"}]"#.as_bytes())?;
     let end = read_interfaces(rt.alloc(), &tree, 1);
     assert!(rt; is_fault(&end), "it has no context");
     Ok(())

@@ -6,7 +6,7 @@ ghost use Rattle.json_tree.specs.Values.{text};
 ghost use Rattle.json_tree.specs.View.{view, members_view};
 ghost use Rattle.local_rules.specs.Quantities.{IsWord};
 ghost use Rattle.model_read.specs.Declarations.{IsIdentifier, HasString, HasOptionalString, HasId, HasOptionalId};
-ghost use Rattle.model_read.specs.machinery.Shapes.{CanBeId, CanBeName, Has, MayHave};
+ghost use Rattle.model_read.specs.Machinery.Shapes.{CanBeId, CanBeName, Has, MayHave};
 
 use crate::parts::wanted;
 use dt_base::{OutOfMemory, Text};

@@ -3,7 +3,8 @@
 #![tactic(auto)]
 
 use dt_base::{StdSink, StdSource, read_all, write_all};
-use json_tree::{Tree, print, read};
+use json_read::read;
+use json_tree::{Tree, print};
 use std::alloc::Global;
 use std::mem::forget;
 use std::process::ExitCode;

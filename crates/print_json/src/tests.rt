@@ -1,6 +1,7 @@
 //! The calls of `json_tree` that no command makes yet, once each where memory is there.
 
-use json_tree::{Tree, at, print, read, sorted};
+use json_read::read;
+use json_tree::{Tree, at, print, sorted};
 use std::alloc::Global;
 use std::test::Fail;
 

@@ -1,5 +1,5 @@
 use Rattle.std.proofs.Common.{◌≡◌}
-use Rattle.json_tree.proofs.Pointed.{if_ok}
+use Rattle.json_read.proofs.Pointed.{if_ok}
 use Rattle.json_tree.specs.View.{view}
 use Rattle.local_rules.specs.Codes.{rule_code}
 use Rattle.dtdl_cmd.specs.Lines.{IsBreachLine, pointer_line}

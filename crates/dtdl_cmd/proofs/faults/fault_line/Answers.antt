@@ -1,7 +1,7 @@
 use Rattle.std.proofs.Common.{subst}
-use Rattle.json_tree.specs.Faults.{IsFault}
+use Rattle.json_read.specs.Faults.{IsFault}
 use Rattle.json_tree.specs.Values.{number}
-use Rattle.json_tree.proofs.Pointed.{duplicate_stands}
+use Rattle.json_read.proofs.Pointed.{duplicate_stands}
 use Rattle.dtdl_cmd.proofs.faults.fault_line.Goals as goal
 
 pub line_at-requires : goal.line_at-requires

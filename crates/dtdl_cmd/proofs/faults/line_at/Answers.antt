@@ -1,5 +1,5 @@
 use Rattle.std.proofs.Common.{◌≡◌}
-use Rattle.json_tree.proofs.Pointed.{if_ok}
+use Rattle.json_read.proofs.Pointed.{if_ok}
 use Rattle.dtdl_cmd.specs.Lines.{IsPlaceLine, pointer_line}
 use Rattle.dtdl_cmd.proofs.faults.line_at.Goals as goal
 

@@ -7,4 +7,4 @@ use Rattle.dtmi_name.proofs.dtmi.check.Goals as goal
 pub returns-in-Wrong : goal.returns-in-Wrong
 returns-in-Wrong c =
     subst (λ (f : NameFault). RefusesDtmi c.args.bytes.now f) (sym c.wrong.ensures)
-    (refused c.args.bytes.now c.in-Wrong.at c.in-Wrong.place (omega arith) c.in-Wrong.ensures)
+    (refused c.args.bytes.now c.in-Wrong.at c.in-Wrong.state (omega arith) c.in-Wrong.ensures)

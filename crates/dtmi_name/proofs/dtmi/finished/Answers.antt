@@ -1,5 +1,5 @@
 use Rattle.std.proofs.Common.{sym}
-use Rattle.dtmi_name.specs.declared.place.Place.TheVariants.{WantD}
+use Rattle.dtmi_name.specs.declared.walk.State.TheVariants.{WantD}
 use Rattle.dtmi_name.specs.Grammar.{IsDtmi}
 use Rattle.dtmi_name.proofs.Reading.{reads_dtmis, cut_short, no_version}
 use Rattle.dtmi_name.proofs.dtmi.finished.Goals as goal
@@ -7,6 +7,6 @@ use Rattle.dtmi_name.proofs.dtmi.finished.Goals as goal
 pub returns-in-None : goal.returns-in-None
 returns-in-None c = (
   c.requires.some,
-  cut_short IsDtmi WantD 2048 reads_dtmis c.args.bytes.now c.args.place c.requires.walked
-      (no_version c.args.bytes.now c.args.place c.requires.walked.0 (sym c.in-None.ensures)),
+  cut_short IsDtmi WantD 2048 reads_dtmis c.args.bytes.now c.args.state c.requires.walked
+      (no_version c.args.bytes.now c.args.state c.requires.walked.0 (sym c.in-None.ensures)),
 )

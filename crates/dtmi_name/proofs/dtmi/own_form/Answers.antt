@@ -1,5 +1,5 @@
 use Rattle.std.proofs.Common.{sym, ◌∙◌, refl}
-use Rattle.dtmi_name.specs.declared.place.Place.TheVariants.{Version}
+use Rattle.dtmi_name.specs.declared.walk.State.TheVariants.{Version}
 use Rattle.dtmi_name.proofs.Reading.{reads_dtmis}
 use Rattle.dtmi_name.proofs.Cuts.{stored, found}
 use Rattle.dtmi_name.proofs.dtmi.own_form.Goals as goal

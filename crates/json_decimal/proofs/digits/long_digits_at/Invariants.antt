@@ -1,6 +1,6 @@
 use Rattle.std.proofs.Common.{◌≡◌, ◌+◌, ◌^◌, ◌<◌, ◌≤◌, length}
 use Rattle.json_decimal.specs.Literal.{value_after}
-use Rattle.json_decimal.specs.Digits.{run, after}
+use Rattle.json_decimal.specs.Machinery.Digits.{run, after}
 use Rattle.json_decimal.proofs.digits.long_digits_at.Given as goal
 
 abbrev pub invariant-loop-digit : goal.invariant-loop-digit

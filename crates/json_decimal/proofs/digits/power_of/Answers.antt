@@ -2,7 +2,7 @@ use Rattle.std.proofs.Common.{◌≡◌, ◌<◌, ◌≤◌, ◌∙◌, ap, leng
 use Rattle.std.proofs.lemmas.Bool.Decides.{nat_tests}
 use Rattle.std.proofs.lemmas.Int.{ints}
 use Rattle.json_decimal.specs.Literal.{IsPower, value_after}
-use Rattle.json_decimal.specs.Digits.{run, after}
+use Rattle.json_decimal.specs.Machinery.Digits.{run, after}
 use Rattle.json_decimal.proofs.Powers.{below_thousand}
 use Rattle.json_decimal.proofs.Runs.{run-AreDigits_whole, after-AreDigits_whole, power_from_run, length-run, run_whole, nil_from_test}
 use Rattle.json_decimal.proofs.digits.power_of.Goals as goal

@@ -1,5 +1,5 @@
 use Rattle.std.proofs.Common.{◌≡◌, ◌≤◌, slice_index, length, zero-add, ◌∙◌}
-use Rattle.json_decimal.specs.Digits.{run}
+use Rattle.json_decimal.specs.Machinery.Digits.{run}
 use Rattle.json_decimal.proofs.Parts.{integer_found}
 use Rattle.json_decimal.proofs.reading.integer_of.Goals as goal
 use Rattle.json_decimal.proofs.reading.integer_of.Goals.{else-bytes-eq48-via-then-bytes-eq48+else-count-gt1, else-bytes-eq48-via-else-bytes-eq48}

@@ -1,6 +1,6 @@
 use Rattle.std.proofs.Common.{◌≡◌, ◌≤◌, ◌^◌, ◌-ℤ◌, ◌-◌, pos, to_z, of_z, w32, length, arith}
 use Rattle.std.proofs.lemmas.Int.{ints}
-use Rattle.json_decimal.specs.Digits.{fraction_at}
+use Rattle.json_decimal.specs.Machinery.Digits.{fraction_at}
 use Rattle.json_decimal.proofs.Powers.{ten_grows}
 use Rattle.json_decimal.proofs.Parts.{no_tail, tail-exponent, tail_found}
 use Rattle.json_decimal.proofs.reading.tail_of.Goals as goal

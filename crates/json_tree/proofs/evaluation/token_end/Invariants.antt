@@ -1,6 +1,6 @@
 use Rattle.std.proofs.Common.{length, ◌-◌, ◌≤◌}
 use Rattle.std.specs.List.{slice_range, AllByRecursion}
-use Rattle.json_tree.specs.Tokens.{IsNoSlash}
+use Rattle.json_tree.specs.Machinery.Tokens.{IsNoSlash}
 use Rattle.json_tree.proofs.evaluation.token_end.Given as goal
 
 abbrev pub invariant-token : goal.invariant-token

@@ -1,5 +1,5 @@
 use Rattle.std.proofs.Common.{refl, arith}
-use Rattle.json_tree.specs.Tokens.{IsBare}
+use Rattle.json_tree.specs.Machinery.Tokens.{IsBare}
 use Rattle.json_tree.proofs.Escaped.{all_of_more}
 use Rattle.json_tree.proofs.pointers.bare_end.Goals as goal
 

@@ -1,6 +1,6 @@
 use Rattle.std.proofs.Common.{length, ◌-◌, ◌≤◌}
 use Rattle.std.specs.List.{slice_range, AllByRecursion}
-use Rattle.json_tree.specs.Tokens.{IsBare}
+use Rattle.json_tree.specs.Machinery.Tokens.{IsBare}
 use Rattle.json_tree.proofs.pointers.bare_end.Given as goal
 
 abbrev pub invariant-bare : goal.invariant-bare

@@ -1,5 +1,5 @@
 use Rattle.std.proofs.Common.{arith}
-use Rattle.json_tree.proofs.Printed.{element_printed, member_printed, item_sound, member_sound}
+use Rattle.json_tree.proofs.Printed.{element_printed, member_printed, item_of_tree, member_of_tree}
 use Rattle.json_tree.proofs.printing.+prints.Goals as goal
 
 pub push_elements-loop-position-preserved : goal.push_elements-loop-position-preserved
@@ -8,7 +8,7 @@ push_elements-loop-position-preserved t c =
     record {
       printed = rw (c.in_ok-push_value.ensures.printed, c.in_ok-push_comma.ensures)
           (element_printed _ _ items i item lt c.index-items-position.is c.loop-position.invariant.printed);
-      sound = item_sound items i item lt c.index-items-position.is c.loop-position.invariant.sound c.in_ok-push_value.ensures.sound;
+      of_tree = item_of_tree items i item lt c.index-items-position.is c.loop-position.invariant.of_tree c.in_ok-push_value.ensures.of_tree;
     }
 
 pub push_members-loop-position-preserved : goal.push_members-loop-position-preserved
@@ -17,5 +17,5 @@ push_members-loop-position-preserved t c =
     record {
       printed = rw (c.in_ok-push_value.ensures.printed, c.in_ok-push.ensures.bytes, colon, c.in_ok-push_quoted.ensures.printed, c.as_str.ensures, c.in_ok-push_comma.ensures)
           (member_printed _ _ members i m lt c.index-members-position.is c.loop-position.invariant.printed);
-      sound = member_sound members i m lt c.index-members-position.is c.loop-position.invariant.sound (rw c.as_str.ensures at c.push_quoted.ensures.sound) c.in_ok-push_value.ensures.sound;
+      of_tree = member_of_tree members i m lt c.index-members-position.is c.loop-position.invariant.of_tree (rw c.as_str.ensures at c.push_quoted.ensures.utf8) c.in_ok-push_value.ensures.of_tree;
     }

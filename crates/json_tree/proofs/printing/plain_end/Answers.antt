@@ -1,5 +1,5 @@
 use Rattle.std.proofs.Common.{refl, arith}
-use Rattle.json_tree.specs.Printing.{IsPlain}
+use Rattle.json_tree.specs.Machinery.Pieces.{IsPlain}
 use Rattle.json_tree.proofs.Escaped.{all_of_more}
 use Rattle.json_tree.proofs.printing.plain_end.Goals as goal
 

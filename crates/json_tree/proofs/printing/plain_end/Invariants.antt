@@ -1,6 +1,6 @@
 use Rattle.std.proofs.Common.{length, ◌-◌, ◌≤◌}
 use Rattle.std.specs.List.{slice_range, AllByRecursion}
-use Rattle.json_tree.specs.Printing.{IsPlain}
+use Rattle.json_tree.specs.Machinery.Pieces.{IsPlain}
 use Rattle.json_tree.proofs.printing.plain_end.Given as goal
 
 abbrev pub invariant-plain : goal.invariant-plain

@@ -1,6 +1,6 @@
 use Rattle.std.proofs.Common.{subst}
 use Rattle.json_tree.specs.View.{view, members_view}
-use Rattle.model_read.specs.machinery.Shapes.{IsValidContent}
+use Rattle.model_read.specs.Machinery.Shapes.{IsValidContent}
 use Rattle.model_read.proofs.Shaped.{content_object, content_shape}
 use Rattle.model_read.proofs.contents.content_of.Goals as goal
 

@@ -1,5 +1,5 @@
 use Rattle.model_read.specs.Declarations.{IsContentEntry}
-use Rattle.model_read.specs.machinery.Shapes.{IsValidContent}
+use Rattle.model_read.specs.Machinery.Shapes.{IsValidContent}
 use Rattle.model_read.proofs.Grown.{elements_step}
 use Rattle.model_read.proofs.Readings.{each}
 use Rattle.model_read.proofs.contents.contents_of.Goals as goal

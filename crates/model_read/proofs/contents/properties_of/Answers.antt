@@ -5,7 +5,7 @@ use Rattle.dtdl_terms.specs.declared.content.Content.{Content}
 use Rattle.dtdl_terms.specs.TermViews.{contents_term}
 use Rattle.model_read.specs.Declarations.{AreProperties}
 use Rattle.model_read.proofs.Grown.{step, properties_more}
-use Rattle.model_read.specs.machinery.Shapes.{IsValidProperty}
+use Rattle.model_read.specs.Machinery.Shapes.{IsValidProperty}
 use Rattle.model_read.proofs.Readings.{each}
 use Rattle.model_read.proofs.contents.properties_of.Goals as goal
 

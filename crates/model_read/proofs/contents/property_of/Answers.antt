@@ -1,6 +1,6 @@
 use Rattle.std.proofs.Common.{subst}
 use Rattle.json_tree.specs.View.{view, members_view}
-use Rattle.model_read.specs.machinery.Shapes.{IsValidProperty}
+use Rattle.model_read.specs.Machinery.Shapes.{IsValidProperty}
 use Rattle.model_read.proofs.Shaped.{property_object, property_shape}
 use Rattle.model_read.proofs.contents.property_of.Goals as goal
 

@@ -1,5 +1,5 @@
 use Rattle.model_read.specs.Declarations.{IsEnumEntry}
-use Rattle.model_read.specs.machinery.Shapes.{IsValidEnumEntry}
+use Rattle.model_read.specs.Machinery.Shapes.{IsValidEnumEntry}
 use Rattle.model_read.proofs.Grown.{elements_step}
 use Rattle.model_read.proofs.Readings.{each}
 use Rattle.model_read.proofs.enums.enum_entries_of.Goals as goal

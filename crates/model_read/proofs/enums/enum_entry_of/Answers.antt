@@ -1,6 +1,6 @@
 use Rattle.std.proofs.Common.{subst}
 use Rattle.json_tree.specs.View.{view, members_view}
-use Rattle.model_read.specs.machinery.Shapes.{IsValidEnumEntry}
+use Rattle.model_read.specs.Machinery.Shapes.{IsValidEnumEntry}
 use Rattle.model_read.proofs.Shaped.{enum_entry_object, enum_entry_shape}
 use Rattle.model_read.proofs.enums.enum_entry_of.Goals as goal
 

@@ -1,5 +1,5 @@
 use Rattle.model_read.specs.Declarations.{IsIdentifier}
-use Rattle.model_read.specs.machinery.Shapes.{CanBeId}
+use Rattle.model_read.specs.Machinery.Shapes.{CanBeId}
 use Rattle.model_read.proofs.Grown.{elements_step}
 use Rattle.model_read.proofs.Readings.{each}
 use Rattle.model_read.proofs.interfaces.ids_of.Goals as goal

@@ -1,6 +1,6 @@
 use Rattle.std.proofs.Common.{ℕ, List, refl, sym, subst}
 use Rattle.json_tree.specs.View.{view}
-use Rattle.json_tree.specs.Faults.{StandsAt}
+use Rattle.json_tree.specs.Places.{StandsAt}
 use Rattle.model_read.proofs.read.one_upload.Goals as goal
 
 pub uploaded_in-requires-clause-placed : goal.uploaded_in-requires-clause-placed

@@ -1,6 +1,6 @@
 use Rattle.std.proofs.Common.{subst}
 use Rattle.json_tree.specs.View.{view, members_view}
-use Rattle.model_read.specs.machinery.Shapes.{IsValidInterface}
+use Rattle.model_read.specs.Machinery.Shapes.{IsValidInterface}
 use Rattle.model_read.proofs.Shaped.{interface_object, interface_shape}
 use Rattle.model_read.proofs.read.uploaded_at.Goals as goal
 

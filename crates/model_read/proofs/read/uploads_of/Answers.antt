@@ -1,8 +1,8 @@
 use Rattle.std.proofs.Common.{refl, sym, subst}
 use Rattle.json_tree.specs.Values.{Json}
 use Rattle.json_tree.specs.View.{view}
-use Rattle.json_tree.specs.Faults.{IsPart}
-use Rattle.model_read.specs.machinery.Shapes.{IsValidInterface}
+use Rattle.json_tree.specs.Places.{IsPart}
+use Rattle.model_read.specs.Machinery.Shapes.{IsValidInterface}
 use Rattle.json_tree.proofs.Parts.{item_part}
 use Rattle.model_read.specs.Uploads.{IsUploadedAt}
 use Rattle.model_read.proofs.Grown.{counted_step}

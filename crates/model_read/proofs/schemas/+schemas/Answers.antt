@@ -10,7 +10,7 @@ use Rattle.schema_levels.proofs.Sizes.{size, part_smaller, item_smaller}
 use Rattle.model_read.specs.Declarations.{IsSchema, ArePayloads}
 use Rattle.model_read.proofs.Grown.{step, payloads_more}
 use Rattle.model_read.proofs.Seen.{of_members, seen_members, seen_text}
-use Rattle.model_read.specs.machinery.Shapes.{Has, IsValidPayload, IsValidSchema}
+use Rattle.model_read.specs.Machinery.Shapes.{Has, IsValidPayload, IsValidSchema}
 use Rattle.model_read.proofs.Readings.{each, entries}
 use Rattle.model_read.proofs.Shaped.{no_schema, payload_object, payload_shape, schema_shape, schema_text}
 use Rattle.model_read.proofs.schemas.+schemas.Goals as goal

@@ -1,0 +1,4 @@
+-- Words of private clauses and of proofs: no public contract speaks of them.
+pub mod Digits
+pub mod Reading
+pub mod Sizes

@@ -1,5 +1,0 @@
-use Rattle.json_tree.proofs.Spelled.{one_printed}
-use Rattle.json_tree.proofs.laws.one_printed.Goals as goal
-
-pub returns : goal.returns
-returns c = one_printed c.one_value.ensures

@@ -1,5 +1,0 @@
-use Rattle.json_tree.proofs.Spelled.{one_spelled}
-use Rattle.json_tree.proofs.laws.one_value.Goals as goal
-
-pub returns : goal.returns
-returns c = one_spelled c.one_number.ensures
