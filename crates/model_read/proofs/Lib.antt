@@ -8,3 +8,7 @@ pub mod Whole
 pub mod Readings
 pub mod Once
 pub mod OnceUploads
+pub mod Standing
+pub mod Deep
+pub mod Within
+pub mod Documents
