@@ -4,6 +4,7 @@ use Rattle.std.specs.List.{AllByRecursion, AllZip, enumerate_from}
 use Rattle.json_decimal.specs.Number.{Number}
 use Rattle.json_tree.specs.Values.{Json, null, truth, number, text, array, object, Elements, no_elements, element, Members, HasDistinctKeys, ElementsHaveDistinctKeys}
 use Rattle.json_tree.specs.Places.{element_at}
+use Rattle.dtdl_terms.specs.Distinct.{HasDeclaration}
 use Rattle.dtdl_terms.specs.declared.interface.Interface.{Interface}
 use Rattle.dtdl_terms.specs.declared.uploaded.Uploaded.{Uploaded}
 use Rattle.local_rules.specs.Members.{list_of}
@@ -13,6 +14,7 @@ use Rattle.model_read.specs.Uploads.{IsUploaded, IsUploadedAt, AreUploaded}
 use Rattle.model_read.proofs.Standing.{BreaksNowhere}
 use Rattle.model_read.proofs.Whole.{BreaksNothing}
 use Rattle.model_read.proofs.Within.{interface_within}
+use Rattle.model_read.proofs.Apart.{element_distinct, interface_apart}
 
 module _ (Q : Json → Type 0) (P : Interface → Type 0)
     (one : (v : Json) (ms : Members Number) (i : Interface) → v ≡ object ms → Q v → BreaksNowhere v → DeclaresInterface ms i → P i) where
@@ -44,3 +46,9 @@ pub all_within : (whole : Json) (nth : ℕ) (us : List Uploaded) → BreaksNothi
     → AllByRecursion (λ u. IsWithinLimits u.interface) us
 all_within whole nth us none g = each_is (λ v. Unit {0}) IsWithinLimits (λ v ms i is q free declares. interface_within v free ms i is declares) whole nth us tt
     (λ vs i v is at. tt) none g
+
+pub all_have_declarations : (whole : Json) (nth : ℕ) (us : List Uploaded) → HasDistinctKeys whole → BreaksNothing whole → AreUploaded whole nth us
+    → AllByRecursion (λ u. HasDeclaration u.interface) us
+all_have_declarations whole nth us keys none g =
+    each_is HasDistinctKeys HasDeclaration (λ v ms i is inside free declares. interface_apart v free ms i is inside declares) whole nth us keys
+    (λ vs i v is at. element_distinct vs i v at (subst HasDistinctKeys is keys)) none g

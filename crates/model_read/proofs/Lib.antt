@@ -11,4 +11,6 @@ pub mod OnceUploads
 pub mod Standing
 pub mod Deep
 pub mod Within
+pub mod Pairs
+pub mod Apart
 pub mod Documents

@@ -51,25 +51,32 @@ pub stands_valid : (whole : Json) → BreaksNowhere whole → (r : Role) (v : Js
 stands_valid whole none r v s = valid_below s.place role.Interface whole r v s.there (interface whole none)
 
 -- the value under a key of an element
+pub key_at : (whole : Json) (place : List ℕ) (r : Role) (ms : Members Number) (e : Element) (k : Key) (key : List ℕ) (v : Json) → element_of r ms ≡ Some e
+    → key_of e key ≡ Some k → value_at key ms ≡ Some v → HasRole role.Interface whole place r (object ms)
+    → (i : ℕ) × HasRole role.Interface whole (place ++ i ∷ []) (key_role r e ms k) v
+key_at whole place r ms e k key v element known at there =
+    let p = position_of_key key ms v at in
+    let role_there : member_role r ms key ≡ Some (key_role r e ms k) =
+    ap (λ (o : Option Element). element_member r ms o key) element ∙ ap (λ (o : Option Key). Some (role_of_key r e ms o)) known in (
+      p.0,
+      part_stands place role.Interface whole r (object ms) p.0 (key_role r e ms k) v there (key, p.1)
+          (ap (λ (o : Option (List ℕ × Json)). option_and_then (λ m. member_role r ms m.0) o) p.1 ∙ role_there),
+    )
+
 pub key_stands : (whole : Json) (r : Role) (ms : Members Number) (e : Element) (k : Key) (key : List ℕ) (v : Json) → element_of r ms ≡ Some e → key_of e key ≡ Some k
     → value_at key ms ≡ Some v → Stands whole r (object ms) → Stands whole (key_role r e ms k) v
 key_stands whole r ms e k key v element known at s =
-    let p = position_of_key key ms v at in
-    let role_there : member_role r ms key ≡ Some (key_role r e ms k) =
-    ap (λ (o : Option Element). element_member r ms o key) element ∙ ap (λ (o : Option Key). Some (role_of_key r e ms o)) known in
-    record {
-      place = s.place ++ p.0 ∷ [];
-      there = part_stands s.place role.Interface whole r (object ms) p.0 (key_role r e ms k) v s.there (key, p.1)
-          (ap (λ (o : Option (List ℕ × Json)). option_and_then (λ m. member_role r ms m.0) o) p.1 ∙ role_there);
-    }
+    let there = key_at whole s.place r ms e k key v element known at s.there in
+    record { place = s.place ++ there.0 ∷ []; there = there.1 }
 
 -- the entry of a list
+pub entry_at : (whole : Json) (place : List ℕ) (r : Role) (vs : Elements Number) (i : ℕ) (s : Role) (v : Json) → entry_role r (list_of vs) i ≡ Some s
+    → element_at vs i ≡ Some v → HasRole role.Interface whole place r (array vs) → HasRole role.Interface whole (place ++ i ∷ []) s v
+entry_at whole place r vs i s v entry at there = part_stands place role.Interface whole r (array vs) i s v there at entry
+
 pub entry_stands : (whole : Json) (r : Role) (vs : Elements Number) (i : ℕ) (s : Role) (v : Json) → entry_role r (list_of vs) i ≡ Some s → element_at vs i ≡ Some v
     → Stands whole r (array vs) → Stands whole s v
-entry_stands whole r vs i s v entry at t = record {
-  place = t.place ++ i ∷ [];
-  there = part_stands t.place role.Interface whole r (array vs) i s v t.there at entry;
-}
+entry_stands whole r vs i s v entry at t = record { place = t.place ++ i ∷ []; there = entry_at whole t.place r vs i s v entry at t.there }
 
 -- no schema there is too deep
 pub not_deep : (whole : Json) → BreaksNowhere whole → (r : Role) (v : Json) → Stands whole r v → TooDeep (members_in whole) r v → ⊥

@@ -17,7 +17,7 @@ use Rattle.dtdl_terms.specs.declared.enumeration.EnumEntry.{EnumEntry}
 use Rattle.dtdl_terms.specs.declared.interface.Interface.{Interface}
 use Rattle.dtdl_terms.specs.declared.schema.Schema.{Schema}
 use Rattle.local_rules.specs.Members.{list_of, members_in, pairs_of, text_in, value_at}
-use Rattle.local_rules.specs.Roles.{element_of, entry_role, is_language, name_role, repeats, repeats_name, repeats_value, schema_role, type_of, value_kind}
+use Rattle.local_rules.specs.Roles.{element_of, is_language, key_of, name_role, repeats, repeats_name, repeats_value, schema_role, type_of, value_kind}
 use Rattle.local_rules.specs.Identifiers.{id_use, of_interface}
 use Rattle.local_rules.specs.Levels.{HasLevel, IsOuter}
 use Rattle.local_rules.specs.Texts.{IsTextOf, scalar_values}
@@ -181,17 +181,17 @@ module _ (whole : Json) (none : BreaksNowhere whole) where
       omega (arith, not_many)
 
   -- ---- schemas and payloads
-  abbrev IsSchemaRole : Role → Type 0
+  abbrev pub IsSchemaRole : Role → Type 0
   IsSchemaRole r = (r ≡ role.NamedSchema) ⊎ ((part : SchemaUse) × (r ≡ role.Schema part))
 
-  schema_element : (r : Role) → IsSchemaRole r → (ms : Members Number) → element_of r ms ≡ type_of position.Schema ms
+  pub schema_element : (r : Role) → IsSchemaRole r → (ms : Members Number) → element_of r ms ≡ type_of position.Schema ms
   schema_element r (inl is) ms = ap (λ (q : Role). element_of q ms) is
   schema_element r (inr is) ms = ap (λ (q : Role). element_of q ms) is.1
 
-  abbrev IsPayloadRole : Role → Type 0
+  abbrev pub IsPayloadRole : Role → Type 0
   IsPayloadRole r = ((part : PayloadUse) × (r ≡ role.Payload part)) ⊎ ((repeats : Bool) × (r ≡ role.Field repeats))
 
-  payload_element : (r : Role) → IsPayloadRole r → (ms : Members Number) → element_of r ms ≡ Some element_kind.Payload
+  pub payload_element : (r : Role) → IsPayloadRole r → (ms : Members Number) → element_of r ms ≡ Some element_kind.Payload
   payload_element r (inl is) ms = ap (λ (q : Role). element_of q ms) is.1
   payload_element r (inr is) ms = ap (λ (q : Role). element_of q ms) is.1
 
@@ -200,7 +200,7 @@ module _ (whole : Json) (none : BreaksNowhere whole) where
   payload_schema_part payload_use.MapKey = inr (place.MapKey, refl)
   payload_schema_part payload_use.MapValue = inr (place.Inner, refl)
 
-  payload_schema : (r : Role) → IsPayloadRole r → IsSchemaRole (schema_role r element_kind.Payload)
+  pub payload_schema : (r : Role) → IsPayloadRole r → IsSchemaRole (schema_role r element_kind.Payload)
   payload_schema r (inl is) = subst (λ (q : Role). IsSchemaRole (schema_role q element_kind.Payload)) (sym is.1) (payload_schema_part is.0)
   payload_schema r (inr is) = subst (λ (q : Role). IsSchemaRole (schema_role q element_kind.Payload)) (sym is.1) (inr (place.Inner, refl))
 
@@ -339,7 +339,7 @@ module _ (whole : Json) (none : BreaksNowhere whole) where
         unit_within ms unit units has_unit,
       )
 
-  nothing_in : (vs : Elements Number) (i : ℕ) (v : Json) → vs ≡ no_elements → element_at vs i ≡ Some v → ⊥
+  pub nothing_in : (vs : Elements Number) (i : ℕ) (v : Json) → vs ≡ no_elements → element_at vs i ≡ Some v → ⊥
   nothing_in no_elements i v is at = cc
   nothing_in (element w vs) i v is at = cc
 
@@ -419,27 +419,20 @@ module _ (whole : Json) (none : BreaksNowhere whole) where
       let there = key_stands whole r ms element_kind.Component key.Schema (codes "schema") g.0 is refl g.1 stands in
       short_interface_id role.InterfaceReference g.0 id (λ bytes. refl) g.2 (stands_valid whole none role.InterfaceReference g.0 there)
 
-  content_name_within : (k : KindTerm) (repeats : Bool) (ms : Members Number) (n : List ℕ) → type_of position.Content ms ≡ Some (type_of_kind k)
-      → HasString (codes "name") ms n → Stands whole (role.Content repeats) (object ms) → IsShortName n
-  content_name_within (telemetry s a b) repeats ms n is has stands = name_within naming.Content repeats n
-      (key_stands whole (role.Content repeats) ms element_kind.Telemetry key.Name (codes "name") (text n) is refl has stands)
-  content_name_within (property s a b w) repeats ms n is has stands = name_within naming.Content repeats n
-      (key_stands whole (role.Content repeats) ms element_kind.Property key.Name (codes "name") (text n) is refl has stands)
-  content_name_within (command a b) repeats ms n is has stands = name_within naming.Content repeats n
-      (key_stands whole (role.Content repeats) ms element_kind.Command key.Name (codes "name") (text n) is refl has stands)
-  content_name_within (relationship a b m w) repeats ms n is has stands = name_within naming.Content repeats n
-      (key_stands whole (role.Content repeats) ms element_kind.Relationship key.Name (codes "name") (text n) is refl has stands)
-  content_name_within (component id) repeats ms n is has stands = name_within naming.Content repeats n
-      (key_stands whole (role.Content repeats) ms element_kind.Component key.Name (codes "name") (text n) is refl has stands)
+  -- each kind of content has a name, and what every element but an interface may have
+  pub name_known : (k : KindTerm) → key_of (type_of_kind k) (codes "name") ≡ Some key.Name
+  name_known (telemetry s a b) = refl
+  name_known (property s a b w) = refl
+  name_known (command a b) = refl
+  name_known (relationship a b m w) = refl
+  name_known (component id) = refl
 
-  content_common_within : (k : KindTerm) (repeats : Bool) (ms : Members Number) (c : Common) → type_of position.Content ms ≡ Some (type_of_kind k)
-      → HasCommon ms c → Stands whole (role.Content repeats) (object ms) → HasShortTexts c
-  content_common_within (telemetry s a b) repeats ms c is has stands = common_within element_kind.Telemetry (role.Content repeats) ms c is (λ other. absurd cc) stands has
-  content_common_within (property s a b w) repeats ms c is has stands = common_within element_kind.Property (role.Content repeats) ms c is (λ other. absurd cc) stands has
-  content_common_within (command a b) repeats ms c is has stands = common_within element_kind.Command (role.Content repeats) ms c is (λ other. absurd cc) stands has
-  content_common_within (relationship a b m w) repeats ms c is has stands =
-      common_within element_kind.Relationship (role.Content repeats) ms c is (λ other. absurd cc) stands has
-  content_common_within (component id) repeats ms c is has stands = common_within element_kind.Component (role.Content repeats) ms c is (λ other. absurd cc) stands has
+  no_interface : (k : KindTerm) → type_of_kind k ≢ element_kind.Interface
+  no_interface (telemetry s a b) is = cc
+  no_interface (property s a b w) is = cc
+  no_interface (command a b) is = cc
+  no_interface (relationship a b m w) is = cc
+  no_interface (component id) is = cc
 
   content_within : (c : ContentTerm) (repeats : Bool) (v : Json) → HasKindOf c v → IsContent position.Content c v → Stands whole (role.Content repeats) v
       → ContentIsWithin c
@@ -447,8 +440,8 @@ module _ (whole : Json) (none : BreaksNowhere whole) where
       let r : Role = role.Content repeats in
       let stands = subst (Stands whole r) g.1 there in
       let is : type_of position.Content g.0 ≡ Some (type_of_kind k) = subst (λ (w : Json). type_of position.Content (members_in w) ≡ Some (type_of_kind k)) g.1 typed in (
-        content_name_within k repeats g.0 n is g.2 stands,
-        content_common_within k repeats g.0 c is g.3 stands,
+        name_within naming.Content repeats n (key_stands whole r g.0 (type_of_kind k) key.Name (codes "name") (text n) is (name_known k) g.2 stands),
+        common_within (type_of_kind k) r g.0 c is (no_interface k) stands g.3,
         kind_within k repeats g.0 is g.4 stands,
       )
 
