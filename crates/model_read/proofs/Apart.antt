@@ -184,13 +184,13 @@ module _ (whole : Json) (none : BreaksNowhere whole) where
       → AreDistinct (map (λ e. e.name) es)
   enum_names_apart k vs es all stands = apart (λ (n : List ℕ). n) name_in vs (map (λ e. e.name) es)
       (λ i n at.
-          let e = mapped_back (λ (x : EnumEntry). x.name) es i n at in
-          let v = zip_at IsEnumEntry vs es i e.0 all e.1 in
-          (v.0, v.1, name_of v.0 v.2.0 e.0.name v.2.1 v.2.2.name ∙ ap (λ (t : List ℕ). Some t) e.2))
+      let e = mapped_back (λ (x : EnumEntry). x.name) es i n at in
+      let v = zip_at IsEnumEntry vs es i e.0 all e.1 in
+      (v.0, v.1, name_of v.0 v.2.0 e.0.name v.2.1 v.2.2.name ∙ ap (λ (t : List ℕ). Some t) e.2))
       (λ i n at again.
-          let e = mapped_back (λ (x : EnumEntry). x.name) es i n at in
-          let v = zip_at IsEnumEntry vs es i e.0 all e.1 in
-          enum_entries_apart k vs i v.0 v.2.0 e.0.name stands v.1 v.2.1 v.2.2.name again)
+      let e = mapped_back (λ (x : EnumEntry). x.name) es i n at in
+      let v = zip_at IsEnumEntry vs es i e.0 all e.1 in
+      enum_entries_apart k vs i v.0 v.2.0 e.0.name stands v.1 v.2.1 v.2.2.name again)
 
   -- ---- schemas and payloads
   field_names_apart : (ps : PayloadTerms) (vs : Elements Number) → ArePayloads ps vs → Stands whole role.Fields (array vs) → AreDistinct (payload_names ps)
@@ -356,15 +356,15 @@ module _ (whole : Json) (none : BreaksNowhere whole) where
   list_of_contents_apart vs cs keys all stands = (
     apart (λ (n : List ℕ). n) name_in vs (map (λ c. c.name) cs)
         (λ i n at.
-            let c = mapped_back (λ (x : Content). x.name) cs i n at in
-            let v = zip_at IsContentEntry vs cs i c.0 all c.1 in
-            let g = v.2.1 in
-            (v.0, v.1, name_of v.0 g.0 c.0.name g.1 g.2 ∙ ap (λ (t : List ℕ). Some t) c.2))
+        let c = mapped_back (λ (x : Content). x.name) cs i n at in
+        let v = zip_at IsContentEntry vs cs i c.0 all c.1 in
+        let g = v.2.1 in
+        (v.0, v.1, name_of v.0 g.0 c.0.name g.1 g.2 ∙ ap (λ (t : List ℕ). Some t) c.2))
         (λ i n at again.
-            let c = mapped_back (λ (x : Content). x.name) cs i n at in
-            let v = zip_at IsContentEntry vs cs i c.0 all c.1 in
-            let g = v.2.1 in
-            contents_apart vs i v.0 g.0 (kind_term c.0.kind) c.0.name stands v.1 g.1 (content_type (kind_term c.0.kind) v.0 g.0 g.1 v.2.0) g.2 again),
+        let c = mapped_back (λ (x : Content). x.name) cs i n at in
+        let v = zip_at IsContentEntry vs cs i c.0 all c.1 in
+        let g = v.2.1 in
+        contents_apart vs i v.0 g.0 (kind_term c.0.kind) c.0.name stands v.1 g.1 (content_type (kind_term c.0.kind) v.0 g.0 g.1 v.2.0) g.2 again),
     each_content_apart vs cs keys all (λ i v at.
         (repeats_name (list_of vs) i, entry_stands whole role.Contents vs i (role.Content (repeats_name (list_of vs) i)) v refl at stands)),
   )

@@ -104,8 +104,8 @@ short_localized which (text bytes) es is valid = subst
     (short_text which (role.Localized which) bytes (inl refl) valid, tt)
 short_localized which (object ms) es is valid = short_texts which ms es
     (λ i k v at.
-        let r : Role = role.LocalizedText which (is_language k) in
-        (r, inr (is_language k, refl), placed_valid (role.Localized which) ms i r k v at refl valid))
+    let r : Role = role.LocalizedText which (is_language k) in
+    (r, inr (is_language k, refl), placed_valid (role.Localized which) ms i r k v at refl valid))
     is
 short_localized which null es is valid = absurd is
 short_localized which (truth b) es is valid = absurd is
@@ -542,10 +542,10 @@ module _ (whole : Json) (none : BreaksNowhere whole) where
         comment = comment_within ms i.comment (λ v at. key_stands whole r ms e key.Comment (codes "comment") v refl refl at stands) g.comment;
         description = short_optional localized.Description (value_at (codes "description") ms) i.description.entries g.description
             (λ v at. stands_valid whole none (role.Localized localized.Description) v
-              (key_stands whole r ms e key.Description (codes "description") v refl refl at stands));
+            (key_stands whole r ms e key.Description (codes "description") v refl refl at stands));
         display_name = short_optional localized.DisplayName (value_at (codes "displayName") ms) i.display_name.entries g.display_name
             (λ v at. stands_valid whole none (role.Localized localized.DisplayName) v
-              (key_stands whole r ms e key.DisplayName (codes "displayName") v refl refl at stands));
+            (key_stands whole r ms e key.DisplayName (codes "displayName") v refl refl at stands));
         few_parents = extended.0;
         parents = extended.1;
         few_contents = contained.0;

@@ -1,5 +1,7 @@
 //! Documents that break no local rule are read: every kind of element, and every shape that a member may have.
 
+mod golden;
+
 use super::*;
 use dt_base::List;
 use dtdl_terms::Uploaded;
