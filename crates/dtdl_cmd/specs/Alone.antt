@@ -3,7 +3,7 @@ use Rattle.std.specs.Prelude.{List, [], ◌∷◌, length, Bool, true, false, no
 use Rattle.std.specs.List.{list_any}
 use Rattle.json_tree.specs.Values.{Json, null, truth, number, text, array, object}
 use Rattle.local_rules.specs.Members.{list_of, value_in, members_in}
-use Rattle.local_rules.specs.Levels.{elements_at}
+use Rattle.local_rules.specs.Levels.{entries_at}
 use Rattle.local_rules.specs.Roles.{type_of}
 use Rattle.local_rules.specs.declared.role.Element.{Element}
 use Rattle.local_rules.specs.declared.role.Element.TheVariants as kind
@@ -38,7 +38,7 @@ is_component v = is_component_type (type_of position.Content (members_in v))
 
 -- The interface names another one that the rules on sets of interfaces speak of.
 abbrev pub needs_others : Json → Bool
-needs_others v = names_parent (value_in (codes "extends") v) || list_any is_component (elements_at (codes "contents") v)
+needs_others v = names_parent (value_in (codes "extends") v) || list_any is_component (entries_at (codes "contents") v)
 
 abbrev pub stands_alone_of : List Json → Bool
 stands_alone_of [] = false

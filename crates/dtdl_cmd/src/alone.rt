@@ -4,11 +4,11 @@ ghost use Rattle.std.specs.Prelude.{◌≡◌, map, codes};
 ghost use Rattle.std.specs.List.{list_any};
 ghost use Rattle.json_tree.specs.View.{view};
 ghost use Rattle.local_rules.specs.Members.{value_in};
-ghost use Rattle.local_rules.specs.Levels.{elements_at};
+ghost use Rattle.local_rules.specs.Levels.{entries_at};
 ghost use Rattle.dtdl_cmd.specs.Alone.{is_component, names_parent, needs_others, stands_alone, stands_alone_of};
 
 use json_tree::Tree;
-use local_rules::{Element, Position, elements_in, members_in, type_of, value_in};
+use local_rules::{Element, Position, entries_in, members_in, type_of, value_in};
 
 /// Whether a value of `extends` names a parent.
 #[tactic(auto, using(local_rules::proofs::Views::views, local_rules::proofs::Views::lists))]
@@ -52,10 +52,10 @@ fn any_component(entries: &[Tree]) -> bool
 }
 
 fn has_component(interface: &Tree) -> bool
-    ensures { result ≡ list_any is_component (elements_at (codes "contents") (view interface.now)) }
+    ensures { result ≡ list_any is_component (entries_at (codes "contents") (view interface.now)) }
 {
     match value_in(interface, "contents") {
-        Some(contents) => any_component(elements_in(contents)),
+        Some(contents) => any_component(entries_in(contents)),
         None => false,
     }
 }

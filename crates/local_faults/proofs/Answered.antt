@@ -13,11 +13,11 @@ use Rattle.json_tree.specs.declared.tree.Tree as variants
 use Rattle.local_rules.proofs.Views.{view-Null, view-Bool, view-Number, view-Text}
 use Rattle.local_faults.proofs.Parts.{leaf_of}
 use Rattle.json_tree.specs.Places.{IsPart}
-use Rattle.local_rules.specs.Roles.{part_role}
+use Rattle.local_rules.specs.Machinery.Marks.{part_marked}
 use Rattle.local_rules.specs.declared.rule.LocalRule.{LocalRule}
-use Rattle.local_rules.specs.declared.role.Role.{Role}
+use Rattle.local_rules.specs.declared.marks.MarkedRole.{MarkedRole}
 use Rattle.local_faults.specs.declared.walk.Found.{Found}
-use Rattle.local_faults.specs.Walks.{IsBrokenFrom, IsFirstBroken, HasText, Walks, WalksPart, WalksClear, IsWalkedTo, IsClearHere, Judges}
+use Rattle.local_faults.specs.Machinery.Walks.{IsBrokenFrom, IsFirstBroken, IsNoted, Walks, WalksPart, WalksClear, IsWalkedTo, IsClearHere, Judges}
 use Rattle.local_faults.proofs.IdSets.{if_ok}
 use Rattle.local_faults.proofs.Walked.{IsNoText, here_after, walks_after, walked_leaf, judged, part_found, part_walked}
 
@@ -25,48 +25,48 @@ abbrev Ids : Type 0
 Ids = BTreeSet (Bor (List ℕ))
 
 -- the value itself breaks no rule, and is a list or an object
-none_judged : (ms : Members Number) (before now : Ids) (r : Role) (v w : Json) (found : Option LocalRule) → Judges ms before now r v found → found ≡ None → v ≡ w
+none_judged : (ms : Members Number) (before now : Ids) (r : MarkedRole) (v w : Json) (found : Option LocalRule) → Judges ms before now r v found → found ≡ None → v ≡ w
     → Judges ms before now r w None
 none_judged ms before now r v w found j none e =
     subst (λ (x : Json). Judges ms before now r x None) e (subst (λ (o : Option LocalRule). Judges ms before now r v o) none j)
 
-clear_after : (ms : Members Number) (before now : Ids) (r : Role) (v w : Json) (found : Option LocalRule) → Judges ms before now r v found → found ≡ None → v ≡ w
+clear_after : (ms : Members Number) (before now : Ids) (r : MarkedRole) (v w : Json) (found : Option LocalRule) → Judges ms before now r v found → found ≡ None → v ≡ w
     → IsNoText w → IsClearHere ms now r w
 clear_after ms before now r v w found j none e no_text = here_after ms before now r w (none_judged ms before now r v w found j none e) no_text
 
-pub ended_after : {E : Type 0} (ms : Members Number) (before now after : Ids) (r : Role) (v w : Json) (found : Option LocalRule) → Judges ms before now r v found → found ≡ None → v ≡ w
+pub ended_after : {E : Type 0} (ms : Members Number) (before now after : Ids) (r : MarkedRole) (v w : Json) (found : Option LocalRule) → Judges ms before now r v found → found ≡ None → v ≡ w
     → IsNoText w → (result : Result (Option Found) E) → IfOk result (WalksClear ms now after r w) → IfOk result (Walks ms before after r v)
 ended_after ms before now after r v w found j none e no_text result ok =
     if_ok result (WalksClear ms now after r w) (Walks ms before after r v)
     (λ f walks. subst (λ (x : Json). Walks ms before after r x f) (sym e) (walks_after ms before now after r w f (none_judged ms before now r v w found j none e) no_text (walks (clear_after ms before now r v w found j none e no_text)))) ok
 
 -- it breaks none, and is a leaf
-pub leaf_after : (ms : Members Number) (before after : Ids) (r : Role) (v w : Json) (found : Option LocalRule) → Judges ms before after r v found → found ≡ None → v ≡ w
+pub leaf_after : (ms : Members Number) (before after : Ids) (r : MarkedRole) (v w : Json) (found : Option LocalRule) → Judges ms before after r v found → found ≡ None → v ≡ w
     → ((i : ℕ) (part : Json) → IsPart w i part → ⊥) → Walks ms before after r v None
 leaf_after ms before after r v w found j none e leaf =
     subst (λ (x : Json). Walks ms before after r x None) (sym e) (walked_leaf ms before after r w (none_judged ms before after r v w found j none e) leaf)
 
 -- it breaks one
-pub judged_so : (ms : Members Number) (before after end : Ids) (r : Role) (v : Json) (found : Found) (rule : Option LocalRule) → Judges ms before after r v rule
+pub judged_so : (ms : Members Number) (before after end : Ids) (r : MarkedRole) (v : Json) (found : Found) (rule : Option LocalRule) → Judges ms before after r v rule
     → rule ≡ Some found.rule → found.steps.items ≡ [] → Walks ms before end r v (Some found)
 judged_so ms before after end r v found rule j some empty =
     judged ms before after end r v found found.rule (subst (λ (o : Option LocalRule). Judges ms before after r v o) some j) empty refl
 
 -- ---- in the loops
-pub found_in_part : (ms : Members Number) (before now after end : Ids) (r : Role) (v : Json) (at : ℕ) (s : Option Role) (part : Json) (inner up : Found) (found : Option Found)
-    → IsWalkedTo ms before now r v at → IsClearHere ms before r v → IsPart v at part → part_role r v at ≡ s
+pub found_in_part : (ms : Members Number) (before now after end : Ids) (r : MarkedRole) (v : Json) (at : ℕ) (s : Option MarkedRole) (part : Json) (inner up : Found) (found : Option Found)
+    → IsWalkedTo ms before now r v at → IsClearHere ms before r v → IsPart v at part → part_marked r v at ≡ s
     → WalksPart ms now after s part found → found ≡ Some inner
     → (up.steps.items ≡ inner.steps.items ++ at ∷ []) × (up.rule ≡ inner.rule) → Walks ms before end r v (Some up)
 found_in_part ms before now after end r v at s part inner up found walked here p pr w some e =
     let f = part_found ms before now after r v at s part inner walked here p pr (subst (λ (o : Option Found). WalksPart ms now after s part o) some w) in
     record {
-      first = subst (λ (steps : List ℕ). IsFirstBroken (IsBrokenFrom ms (HasText before) r v) steps up.rule) (sym e.0)
-          (subst (λ (rule : LocalRule). IsFirstBroken (IsBrokenFrom ms (HasText before) r v) (inner.steps.items ++ at ∷ []) rule) (sym e.1) f);
+      first = subst (λ (steps : List ℕ). IsFirstBroken (IsBrokenFrom ms (IsNoted before) r v) steps up.rule) (sym e.0)
+          (subst (λ (rule : LocalRule). IsFirstBroken (IsBrokenFrom ms (IsNoted before) r v) (inner.steps.items ++ at ∷ []) rule) (sym e.1) f);
       ids = λ none. absurd cc;
     }
 
-pub none_in_part : (ms : Members Number) (before now after : Ids) (r : Role) (v : Json) (at : ℕ) (s : Option Role) (part : Json) (found : Option Found)
-    → IsWalkedTo ms before now r v at → IsPart v at part → part_role r v at ≡ s
+pub none_in_part : (ms : Members Number) (before now after : Ids) (r : MarkedRole) (v : Json) (at : ℕ) (s : Option MarkedRole) (part : Json) (found : Option Found)
+    → IsWalkedTo ms before now r v at → IsPart v at part → part_marked r v at ≡ s
     → WalksPart ms now after s part found → found ≡ None → IsWalkedTo ms before after r v (at + 1)
 none_in_part ms before now after r v at s part found walked p pr w none =
     part_walked ms before now after r v at s part walked p pr (subst (λ (o : Option Found). WalksPart ms now after s part o) none w)

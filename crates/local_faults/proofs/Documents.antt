@@ -9,15 +9,17 @@ use Rattle.std.specs.BTreeMap.{is_at}
 use Rattle.std.proofs.lemmas.List.{reverse-append}
 use Rattle.std.proofs.lemmas.Bool.{cases_lt}
 use Rattle.json_decimal.specs.Number.{Number}
-use Rattle.json_tree.specs.Values.{Json, array, object, Elements, Members}
+use Rattle.json_tree.specs.Values.{Json, text, array, object, Elements, Members}
 use Rattle.json_tree.specs.Places.{IsPart, element_at}
 use Rattle.local_rules.specs.Members.{members_in}
-use Rattle.local_rules.specs.Breaches.{Breaks, IsEarlierId, IsBroken, IsBreach, ComesBefore}
+use Rattle.local_rules.specs.Breaches.{Breaks, BreaksBySchemas, IsEarlierId, IsBroken, IsBreach, ComesBefore}
+use Rattle.local_rules.specs.Machinery.Marks.{HasMarkedRole, interface_role}
+use Rattle.local_rules.specs.declared.marks.MarkedRole.{MarkedRole}
 use Rattle.local_rules.specs.declared.rule.LocalRule.{LocalRule}
-use Rattle.local_rules.specs.declared.role.Role.TheVariants as role
 use Rattle.local_faults.specs.declared.walk.Found.{Found}
-use Rattle.local_faults.specs.Walks.{HasText, HasIdBefore, IsBrokenFrom, FindsFirst, Walks}
-use Rattle.local_faults.proofs.Rules.{breaks_along}
+use Rattle.local_faults.specs.Machinery.Walks.{BreaksMarked, IsNoted, HasIdBefore, IsBrokenFrom, FindsFirst, Walks}
+use Rattle.local_faults.proofs.Rules.{id_along}
+use Rattle.local_faults.proofs.Marked.{role_of_marked, marked_of_role, mark_breaks, place_breaks}
 use Rattle.local_faults.proofs.IdSets.{if_ok}
 use Rattle.local_faults.proofs.Walked.{first_along, comes_before}
 
@@ -31,40 +33,57 @@ none_in_empty bytes keys e h =
     subst (λ (ks : List (Bor (List ℕ))). list_any (is_at (λ (id : Bor (List ℕ)). slice_cmp nat_cmp bytes id.now)) ks ≡ true) e h in
     true≢false (sym f)
 
-no_text : (ids : Ids) → IsEmpty ids → (bytes : List ℕ) → HasText ids bytes → ⊥
+no_text : (ids : Ids) → IsEmpty ids → (bytes : List ℕ) → IsNoted ids bytes → ⊥
 no_text ids empty bytes h = none_in_empty bytes ids.keys empty h.among
 
-earlier_id : (ids : Ids) → IsEmpty ids → (v : Json) (place : List ℕ) (bytes : List ℕ) → HasText ids bytes ⊎ HasIdBefore role.Interface v place bytes → IsEarlierId v place bytes
+earlier_id : (ids : Ids) → IsEmpty ids → (v : Json) (place : List ℕ) (bytes : List ℕ) → IsNoted ids bytes ⊎ HasIdBefore interface_role v place bytes → IsEarlierId v place bytes
 earlier_id ids empty v place bytes (inl h) = absurd (no_text ids empty bytes h)
-earlier_id ids empty v place bytes (inr h) = (h.earlier, h.within, h.before, h.stands, h.is_id)
+earlier_id ids empty v place bytes (inr h) = (h.earlier, h.within.role, h.before, role_of_marked interface_role v h.earlier h.within (text bytes) h.stands, h.is_id)
 
-id_before : (ids : Ids) (v : Json) (place : List ℕ) (bytes : List ℕ) → IsEarlierId v place bytes → HasText ids bytes ⊎ HasIdBefore role.Interface v place bytes
-id_before ids v place bytes h = inr (record { earlier = h.0; within = h.1; before = h.2; stands = h.3; is_id = h.4 })
+id_before : (ids : Ids) (v : Json) (place : List ℕ) (bytes : List ℕ) → IsEarlierId v place bytes → IsNoted ids bytes ⊎ HasIdBefore interface_role v place bytes
+id_before ids v place bytes h =
+    let there = marked_of_role interface_role v h.0 h.1 (text bytes) h.3 in
+    inr (record { earlier = h.0; within = record { role = h.1; mark = there.0 }; before = h.2; stands = there.1; is_id = h.4 })
+
+-- what a value in a marked role breaks is what it breaks at its place
+to_place : (ms : Members Number) (P : List ℕ → Type 0) (v : Json) (place : List ℕ) → ms ≡ members_in v → ((bytes : List ℕ) → P bytes → IsEarlierId v place bytes)
+    → (broken : LocalRule) (r : MarkedRole) (w : Json) → HasMarkedRole interface_role v place r w → BreaksMarked ms P broken r w → Breaks v place broken r.role w
+to_place ms P v place e f broken r w stands (inl (inl b)) = inl b
+to_place ms P v place e f broken r w stands (inl (inr b)) = inr (inl (mark_breaks v place r w broken stands b))
+to_place ms P v place e f broken r w stands (inr (inl b)) = inr (inr (inl (subst (λ (ns : Members Number). BreaksBySchemas ns broken r.role w) e b)))
+to_place ms P v place e f broken r w stands (inr (inr b)) = inr (inr (inr (id_along P (IsEarlierId v place) f broken r.role w b)))
+
+from_place : (ms : Members Number) (P : List ℕ → Type 0) (v : Json) (place : List ℕ) → ms ≡ members_in v → ((bytes : List ℕ) → IsEarlierId v place bytes → P bytes)
+    → (broken : LocalRule) (r : MarkedRole) (w : Json) → HasMarkedRole interface_role v place r w → Breaks v place broken r.role w → BreaksMarked ms P broken r w
+from_place ms P v place e f broken r w stands (inl b) = inl (inl b)
+from_place ms P v place e f broken r w stands (inr (inl b)) = inl (inr (place_breaks v place r w broken stands b))
+from_place ms P v place e f broken r w stands (inr (inr (inl b))) = inr (inl (subst (λ (ns : Members Number). BreaksBySchemas ns broken r.role w) (sym e) b))
+from_place ms P v place e f broken r w stands (inr (inr (inr b))) = inr (inr (id_along (IsEarlierId v place) P f broken r.role w b))
 
 -- what the walk finds from the start is what an interface breaks
 pub broken_whole : (ms : Members Number) (ids : Ids) → IsEmpty ids → (v : Json) → ms ≡ members_in v → (place : List ℕ) (broken : LocalRule)
-    → IsBrokenFrom ms (HasText ids) role.Interface v place broken ↔ IsBroken v place broken
+    → IsBrokenFrom ms (IsNoted ids) interface_role v place broken ↔ IsBroken v place broken
 broken_whole ms ids empty v e place broken = (
   λ b. (
-    b.within,
+    b.within.role,
     b.part,
-    b.stands,
-    subst (λ (ns : Members Number). Breaks ns (IsEarlierId v place) broken b.within b.part) e
-        (breaks_along ms _ _ (earlier_id ids empty v place) broken b.within b.part b.breaks),
+    role_of_marked interface_role v place b.within b.part b.stands,
+    to_place ms _ v place e (earlier_id ids empty v place) broken b.within b.part b.stands b.breaks,
   ),
-  λ b. record {
-    within = b.0;
-    part = b.1;
-    stands = b.2;
-    breaks = subst (λ (ns : Members Number). Breaks ns (λ bytes. HasText ids bytes ⊎ HasIdBefore role.Interface v place bytes) broken b.0 b.1) (sym e)
-        (breaks_along (members_in v) _ _ (id_before ids v place) broken b.0 b.1 b.3);
-  },
+  λ b. (let there = marked_of_role interface_role v place b.0 b.1 b.2 in
+      let r : MarkedRole = record { role = b.0; mark = there.0 } in
+      record {
+        within = r;
+        part = b.1;
+        stands = there.1;
+        breaks = from_place ms (λ bytes. IsNoted ids bytes ⊎ HasIdBefore interface_role v place bytes) v place e (id_before ids v place) broken r b.1 there.1 b.3;
+      }),
 )
 
 pub whole : {E : Type 0} (ms : Members Number) (before after : Ids) → IsEmpty before → (v : Json) → ms ≡ members_in v → (result : Result (Option Found) E)
-    → IfOk result (Walks ms before after role.Interface v) → IfOk result (FindsFirst (IsBroken v))
+    → IfOk result (Walks ms before after interface_role v) → IfOk result (FindsFirst (IsBroken v))
 whole ms before after empty v e result ok =
-    if_ok result (Walks ms before after role.Interface v) (FindsFirst (IsBroken v)) (λ found w. first_along _ _ (broken_whole ms before empty v e) found w.first) ok
+    if_ok result (Walks ms before after interface_role v) (FindsFirst (IsBroken v)) (λ found w. first_along _ _ (broken_whole ms before empty v e) found w.first) ok
 
 -- ---- a list of interfaces
 pub record IsClearTo (vs : Elements Number) (at : ℕ) : Type 0 where

@@ -11,14 +11,18 @@ use Rattle.json_decimal.specs.Number.{Number}
 use Rattle.json_tree.specs.Values.{Json, null, truth, number, text, array, object, Members}
 use Rattle.local_rules.specs.Members.{text_in}
 use Rattle.local_rules.specs.Identifiers.{OfText}
-use Rattle.local_rules.specs.Choices.{IsFirstOf, BreaksAlone, BreaksSchema, BreaksId}
+use Rattle.local_rules.specs.Breaches.{IsFirstOf, BreaksAlone, BreaksBySchemas, BreaksById}
+use Rattle.local_rules.specs.Machinery.Firsts.{earlier}
+use Rattle.local_rules.specs.Machinery.Marks.{BreaksMark}
+use Rattle.local_rules.specs.declared.marks.MarkedRole.{MarkedRole}
+use Rattle.local_rules.proofs.Firsts.{first_either}
 use Rattle.local_rules.specs.Codes.{rule_number}
 use Rattle.local_rules.specs.declared.rule.LocalRule.{LocalRule}
 use Rattle.local_rules.specs.declared.rule.LocalRule.TheVariants as rule
 use Rattle.local_rules.specs.declared.role.Role.{Role}
 use Rattle.local_rules.specs.declared.role.Role.TheVariants as role
-use Rattle.local_faults.specs.Walks.{HasText, IsId, Judges, JudgesId, Adds, id_in}
-use Rattle.local_faults.proofs.Rules.{first_alone, first_schema, first_id}
+use Rattle.local_faults.specs.Machinery.Walks.{IsNoted, IsId, Judges, JudgesId, Adds, id_in}
+use Rattle.local_faults.proofs.Rules.{none_of_two}
 
 abbrev Ids : Type 0
 Ids = BTreeSet (Bor (List ℕ))
@@ -36,11 +40,11 @@ not_true : (b c : Bool) → b ≡ not c → b ≡ false → c ≡ true
 not_true b true e p = refl
 not_true b false e p = absurd (true≢false (sym e ∙ p))
 
-pub lacks_text : (ids : Ids) (id : Bor (List ℕ)) (b : Bool) → b ≡ not (contains (λ x y. slice_cmp nat_cmp x.now y.now) ids id) → b ≡ true → HasText ids id.now → ⊥
-lacks_text ids id b e p h = not_false b (contains (λ x y. slice_cmp nat_cmp x.now y.now) ids id) e p h.among
+pub is_not_noted : (ids : Ids) (id : Bor (List ℕ)) (b : Bool) → b ≡ not (contains (λ x y. slice_cmp nat_cmp x.now y.now) ids id) → b ≡ true → IsNoted ids id.now → ⊥
+is_not_noted ids id b e p h = not_false b (contains (λ x y. slice_cmp nat_cmp x.now y.now) ids id) e p h.among
 
-pub has_text : (ids : Ids) (id : Bor (List ℕ)) (b : Bool) → b ≡ not (contains (λ x y. slice_cmp nat_cmp x.now y.now) ids id) → b ≡ false → HasText ids id.now
-has_text ids id b e p = record { among = not_true b (contains (λ x y. slice_cmp nat_cmp x.now y.now) ids id) e p }
+pub is_noted : (ids : Ids) (id : Bor (List ℕ)) (b : Bool) → b ≡ not (contains (λ x y. slice_cmp nat_cmp x.now y.now) ids id) → b ≡ false → IsNoted ids id.now
+is_noted ids id b e p = record { among = not_true b (contains (λ x y. slice_cmp nat_cmp x.now y.now) ids id) e p }
 
 one_of : (same old : Bool) → cond same true old ≡ true → (same ≡ true) ⊎ (old ≡ true)
 one_of true old e = inl refl
@@ -54,7 +58,7 @@ of_old true old e = refl
 of_old false old e = e
 
 pub text_added : (before after : Ids) (id : Bor (List ℕ)) → Updates (λ x y. slice_cmp nat_cmp x.now y.now) before after id true
-    → (bytes : List ℕ) → HasText after bytes ↔ (HasText before bytes ⊎ (id.now ≡ bytes))
+    → (bytes : List ℕ) → IsNoted after bytes ↔ (IsNoted before bytes ⊎ (id.now ≡ bytes))
 text_added before after id u bytes =
     let q : Bor (List ℕ) = record { ref_ptr = (0, 0); now = bytes } in
     let e = u.0 q in
@@ -102,29 +106,29 @@ of_text_is P (text bytes) o = (bytes, refl, o)
 of_text_is P (array vs) o = absurd o
 of_text_is P (object ms) o = absurd o
 
-breaks_id : (P : List ℕ → Type 0) (r : Role) (v : Json) (broken : LocalRule) → BreaksId P broken r v → (bytes : List ℕ) × (id_in r v ≡ Some bytes) × P bytes
+breaks_id : (P : List ℕ → Type 0) (r : Role) (v : Json) (broken : LocalRule) → BreaksById P broken r v → (bytes : List ℕ) × (id_in r v ≡ Some bytes) × P bytes
 breaks_id P r v rule.RepeatedId b =
     let o = of_text_is P v b.1 in
     (o.0, is_id_in r v o.0 (record { is_id = b.0; is_text = o.1 }), o.2)
 breaks_id P r v other b = absurd b
 
-only_rule : (P : List ℕ → Type 0) (r : Role) (v : Json) (broken : LocalRule) → BreaksId P broken r v → broken ≡ rule.RepeatedId
+only_rule : (P : List ℕ → Type 0) (r : Role) (v : Json) (broken : LocalRule) → BreaksById P broken r v → broken ≡ rule.RepeatedId
 only_rule P r v rule.RepeatedId b = refl
 only_rule P r v other b = absurd b
 
 -- what is no `@id` breaks nothing
 pub no_id : (ids : Ids) (r : Role) (v : Json) → id_in r v ≡ None → JudgesId ids ids r v None
 no_id ids r v none = record {
-  first = λ broken b. (let h = breaks_id (HasText ids) r v broken b in let e : None ≡ Some h.0 = sym none ∙ h.1 in absurd cc);
+  first = λ broken b. (let h = breaks_id (IsNoted ids) r v broken b in let e : None ≡ Some h.0 = sym none ∙ h.1 in absurd cc);
   ids = λ e bytes. (λ h. inl h, λ o. elim o [ inl h ↦ h | inr i ↦ (let f : None ≡ Some bytes = sym none ∙ is_id_in r v bytes i in absurd cc) ]);
 }
 
 new_id : (before after : Ids) (r : Role) (v : Json) (id : List ℕ) → id_in r v ≡ Some id → Adds before after id None → JudgesId before after r v None
 new_id before after r v id some a = record {
-  first = λ broken b. (let h = breaks_id (HasText before) r v broken b in
+  first = λ broken b. (let h = breaks_id (IsNoted before) r v broken b in
       let e : Some id ≡ Some h.0 = sym some ∙ h.1 in
       let f : h.0 ≡ id = cc in
-      a.0 (subst (HasText before) f h.2));
+      a.0 (subst (IsNoted before) f h.2));
   ids = λ e bytes. (
     λ h. elim ((a.1 bytes).0 h) [
       | inl o ↦ inl o
@@ -137,13 +141,13 @@ new_id before after r v id some a = record {
   );
 }
 
-old_id : (before after : Ids) (r : Role) (v : Json) (id : List ℕ) (broken : LocalRule) → id_in r v ≡ Some id → HasText before id → JudgesId before after r v (Some rule.RepeatedId)
+old_id : (before after : Ids) (r : Role) (v : Json) (id : List ℕ) (broken : LocalRule) → id_in r v ≡ Some id → IsNoted before id → JudgesId before after r v (Some rule.RepeatedId)
 old_id before after r v id broken some h =
     let i = id_is r v id some in
     record {
       first = (
-        (i.is_id, subst (λ (w : Json). OfText (HasText before) w) (sym i.is_text) h),
-        λ other less b. (let e : rule_number other ≡ 32 = ap rule_number (only_rule (HasText before) r v other b) in omega (arith, e, less)),
+        (i.is_id, subst (λ (w : Json). OfText (IsNoted before) w) (sym i.is_text) h),
+        λ other less b. (let e : rule_number other ≡ 32 = ap rule_number (only_rule (IsNoted before) r v other b) in omega (arith, e, less)),
       );
       ids = λ e. absurd cc;
     }
@@ -153,15 +157,10 @@ with_id before after r v id None some a = new_id before after r v id some a
 with_id before after r v id (Some broken) some a = subst (λ (b : LocalRule). JudgesId before after r v (Some b)) (sym a.1) (old_id before after r v id broken some a.0)
 
 -- ---- the first rule of a value
-pub judged_alone : (ms : Members Number) (before after : Ids) (r : Role) (v : Json) (broken : LocalRule)
-    → IsFirstOf (λ b. BreaksAlone b r v) (Some broken) → Judges ms before after r v (Some broken)
-judged_alone ms before after r v broken first = record { first = first_alone ms (HasText before) r v broken first; ids = λ e. absurd cc }
-
-pub judged_schema : (ms : Members Number) (before after : Ids) (r : Role) (v : Json) (broken : LocalRule)
-    → IsFirstOf (λ b. BreaksAlone b r v) None → IsFirstOf (λ b. BreaksSchema ms b r v) (Some broken) → Judges ms before after r v (Some broken)
-judged_schema ms before after r v broken none first = record { first = first_schema ms (HasText before) r v broken none first; ids = λ e. absurd cc }
-
-pub judged_id : (ms : Members Number) (before after : Ids) (r : Role) (v : Json)
-    → IsFirstOf (λ b. BreaksAlone b r v) None → IsFirstOf (λ b. BreaksSchema ms b r v) None → (found : Option LocalRule)
-    → JudgesId before after r v found → Judges ms before after r v found
-judged_id ms before after r v none free found j = record { first = first_id ms (HasText before) r v found none free j.first; ids = j.ids }
+pub judged_by : (ms : Members Number) (before after : Ids) (r : MarkedRole) (v : Json) (itself schemas id : Option LocalRule)
+    → IsFirstOf (λ b. BreaksAlone b r.role v ⊎ BreaksMark b r) itself → IsFirstOf (λ b. BreaksBySchemas ms b r.role v) schemas → JudgesId before after r.role v id
+    → Judges ms before after r v (earlier itself (earlier schemas id))
+judged_by ms before after r v itself schemas id own named j = record {
+  first = first_either _ _ itself (earlier schemas id) own (first_either _ _ schemas id named j.first);
+  ids = λ none. j.ids (none_of_two schemas id (none_of_two itself (earlier schemas id) none));
+}

@@ -6,7 +6,11 @@ use Rattle.json_tree.specs.Places.{IsPart, member_at}
 use Rattle.json_tree.specs.View.{view, elements_view, members_view}
 use Rattle.json_tree.specs.declared.tree.Tree.{Tree}
 use Rattle.json_tree.specs.declared.tree.Member.{Member}
-use Rattle.local_rules.specs.Roles.{part_role, element_of, element_member, entry_role}
+use Rattle.std.specs.Option.{option_map, option_map_or}
+use Rattle.local_rules.specs.Roles.{element_of, element_member, entry_role}
+use Rattle.local_rules.specs.Machinery.Marks.{entry_mark, member_mark, part_marked}
+use Rattle.local_rules.specs.declared.marks.Mark.TheVariants as marks
+use Rattle.local_rules.specs.declared.marks.MarkedRole.{MarkedRole}
 use Rattle.local_rules.specs.declared.role.Element.{Element}
 use Rattle.local_rules.specs.declared.role.Role.{Role}
 use Rattle.local_rules.proofs.Views.{list_of-elements_of}
@@ -24,18 +28,22 @@ value_within (n ∷ ms) (suc i) m e = let h = value_within ms i m e in omega (ar
 pub member_within : (ms : List Member) (i : ℕ) (part : Json) → IsPart (object (members_view ms)) i part → i < length ms
 member_within ms i part p = value_within ms i (p.0, part) p.1
 
--- ---- their roles
-pub member_has_role : (r : Role) (ms : Members Number) (i : ℕ) (key : List ℕ) (part : Json) (e : Option Element) (word : List ℕ) (s : Option Role)
-    → member_at ms i ≡ Some (key, part) → e ≡ element_of r ms → word ≡ key → s ≡ element_member r ms e word → part_role r (object ms) i ≡ s
-member_has_role r ms i key part e word s p element same role =
-    ap (λ (o : Option (List ℕ × Json)). option_and_then (λ m. element_member r ms (element_of r ms) m.0) o) p
-    ∙ sym (role ∙ ap (λ (x : Option Element). element_member r ms x word) element ∙ ap (λ (k : List ℕ). element_member r ms (element_of r ms) k) same)
+-- ---- their marked roles
+pub member_is_marked : (r : MarkedRole) (ms : Members Number) (i : ℕ) (key : List ℕ) (part : Json) (e : Option Element) (word : List ℕ) (s : Option MarkedRole)
+    → member_at ms i ≡ Some (key, part) → e ≡ element_of r.role ms → word ≡ key
+    → s ≡ option_map (λ q. record { role = q; mark = member_mark r.role r.mark word }) (element_member r.role ms e word) → part_marked r (object ms) i ≡ s
+member_is_marked r ms i key part e word s p element same found =
+    let Found : Option Element → List ℕ → Option MarkedRole = λ o k. option_map (λ (q : Role). record { role = q; mark = member_mark r.role r.mark k }) (element_member r.role ms o k) in
+    ap (λ (o : Option (List ℕ × Json)). option_map (λ (q : Role). record { role = q; mark = option_map_or (λ m. member_mark r.role r.mark m.0) o marks.Plain })
+    (option_and_then (λ m. element_member r.role ms (element_of r.role ms) m.0) o)) p
+    ∙ sym (found ∙ (ap (λ (o : Option Element). Found o word) element ∙ ap (λ (k : List ℕ). Found (element_of r.role ms) k) same))
 
-pub entry_has_role : (r : Role) (items : List Tree) (i : ℕ) (s : Option Role) (q : Role) (others : List Tree) → q ≡ r → others ≡ items → s ≡ entry_role q (map view others) i
-    → part_role r (array (elements_view items)) i ≡ s
-entry_has_role r items i s q others same entries role =
-    ap (λ (vs : List Json). entry_role r vs i) (list_of-elements_of (map view items))
-    ∙ sym (role ∙ ap (λ (x : Role). entry_role x (map view others) i) same ∙ ap (λ (es : List Tree). entry_role r (map view es) i) entries)
+pub entry_is_marked : (r : MarkedRole) (items : List Tree) (i : ℕ) (s : Option MarkedRole) (q : Role) (others : List Tree) → q ≡ r.role → others ≡ items
+    → s ≡ option_map (λ x. record { role = x; mark = entry_mark q (map view others) i }) (entry_role q) → part_marked r (array (elements_view items)) i ≡ s
+entry_is_marked r items i s q others same entries found =
+    let Found : Role → List Json → Option MarkedRole = λ p vs. option_map (λ (x : Role). record { role = x; mark = entry_mark p vs i }) (entry_role p) in
+    ap (λ (vs : List Json). Found r.role vs) (list_of-elements_of (map view items))
+    ∙ sym (found ∙ (ap (λ (x : Role). Found x (map view others)) same ∙ ap (λ (es : List Tree). Found r.role (map view es)) entries))
 
 -- ---- leaves, and what is none
 pub no_text_array : (vs : Elements Number) (bytes : List ℕ) → array vs ≡ text bytes → ⊥

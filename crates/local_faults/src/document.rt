@@ -3,15 +3,17 @@
 ghost use Rattle.std.specs.Prelude.{◌≡◌, ℕ, List, IfOk, MatchOption, reverse};
 ghost use Rattle.json_tree.specs.Values.{array};
 ghost use Rattle.json_tree.specs.View.{view, elements_view};
-ghost use Rattle.local_rules.specs.Breaches.{IsBreach, IsFirstBreach};
+ghost use Rattle.local_rules.specs.Breaches.{IsBreach, IsBroken, IsFirstBreach};
 ghost use Rattle.local_rules.specs.declared.rule.LocalRule.{LocalRule};
-ghost use Rattle.local_faults.specs.Walks.{FindsFirst};
+ghost use Rattle.local_faults.specs.Machinery.Walks.{FindsFirst};
 
-use crate::walk::{Found, first_in_interface};
+use crate::schemas::NamedSchemas;
+use crate::walk::{Found, first_in};
 use dt_base::{List, OutOfMemory};
 use json_tree::{Place, Tree};
-use local_rules::LocalRule;
+use local_rules::{LocalRule, MarkedRole, members_in};
 use std::alloc::Global;
+use std::collections::BTreeSet;
 
 /// A breach of a local rule, at a place of a document.
 #[derive(Debug, Drop)]
@@ -61,6 +63,15 @@ fn first_in_document(alloc: Global, tree: &Tree) -> Result<Option<Found>, OutOfM
             rule: LocalRule::WrongKind,
         })),
     }
+}
+
+/// The same in an interface.
+fn first_in_interface(alloc: Global, tree: &Tree) -> Result<Option<Found>, OutOfMemory>
+    ensures { IfOk result (FindsFirst (IsBroken (view tree.now))) }
+{
+    let schemas = NamedSchemas::of(alloc, members_in(tree))?;
+    let mut ids = BTreeSet::new(alloc);
+    first_in(tree, alloc, &schemas, MarkedRole::of_interface(), &mut ids)
 }
 
 /// The same in a list of interfaces.

@@ -3,12 +3,12 @@
 ghost use Rattle.std.specs.Prelude.{◌≡◌, IfOk};
 ghost use Rattle.std.specs.Option.{option_map};
 ghost use Rattle.json_tree.specs.View.{view, members_view};
-ghost use Rattle.local_faults.specs.Walks.{Adds, Judges, JudgesId, id_in};
+ghost use Rattle.local_faults.specs.Machinery.Walks.{Adds, Judges, JudgesId, id_in};
 
+use crate::schemas::NamedSchemas;
 use dt_base::OutOfMemory;
 use json_tree::Tree;
-use local_rules::{LocalRule, Role, own_rule, text_in};
-use schema_levels::NamedSchemas;
+use local_rules::{LocalRule, MarkedRole, Role, earlier, marked_rule, text_in};
 use std::collections::BTreeSet;
 
 /// The text that a value is as an `@id`.
@@ -49,17 +49,14 @@ fn judge_id<'a>(
 /// The first rule that the value itself breaks. An `@id` that is new is put into the set.
 pub fn judge<'a>(
     schemas: &NamedSchemas<'a>,
-    role: Role,
+    marked: MarkedRole,
     tree: &'a Tree,
     ids: &mut BTreeSet<&'a str>,
 ) -> Result<Option<LocalRule>, OutOfMemory>
-    ensures { IfOk result (Judges (members_view schemas.now) ids.old ids.new role (view tree.now)) }
+    ensures { IfOk result (Judges (members_view schemas.now) ids.old ids.new marked (view tree.now)) }
 {
-    if let Some(rule) = own_rule(role, tree) {
-        return Ok(Some(rule));
-    }
-    if let Some(rule) = schemas.rule(role, tree) {
-        return Ok(Some(rule));
-    }
-    judge_id(role, tree, ids)
+    let by_itself = marked_rule(marked, tree);
+    let by_schemas = schemas.rule(marked.role, tree);
+    let by_id = judge_id(marked.role, tree, ids)?;
+    Ok(earlier(by_itself, earlier(by_schemas, by_id)))
 }

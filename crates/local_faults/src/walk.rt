@@ -3,14 +3,13 @@
 ghost use Rattle.std.specs.Prelude.{◌≡◌, [], ◌∷◌, ◌++◌, IfOk};
 ghost use Rattle.json_tree.specs.Values.{array, object};
 ghost use Rattle.json_tree.specs.View.{view, elements_view, members_view};
-ghost use Rattle.local_rules.specs.Breaches.{IsBroken};
-ghost use Rattle.local_faults.specs.Walks.{FindsFirst, Walks, WalksClear, WalksPart};
+ghost use Rattle.local_faults.specs.Machinery.Walks.{Walks, WalksClear, WalksPart};
 
 use crate::ids::judge;
+use crate::schemas::NamedSchemas;
 use dt_base::OutOfMemory;
 use json_tree::{Member, Tree};
-use local_rules::{EntryRoles, LocalRule, Role, element_of, member_role, members_in};
-use schema_levels::NamedSchemas;
+use local_rules::{EntryMarks, LocalRule, MarkedRole, element_of};
 use std::alloc::Global;
 use std::collections::BTreeSet;
 
@@ -31,27 +30,18 @@ impl Found {
     }
 }
 
-/// The first breach in an interface.
-pub fn first_in_interface(alloc: Global, tree: &Tree) -> Result<Option<Found>, OutOfMemory>
-    ensures { IfOk result (FindsFirst (IsBroken (view tree.now))) }
-{
-    let schemas = NamedSchemas::of(alloc, members_in(tree))?;
-    let mut ids = BTreeSet::new(alloc);
-    first_in(tree, alloc, &schemas, Role::Interface, &mut ids)
-}
-
-/// The first breach in a value that stands in a role, where the set has the `@id`s before it.
+/// The first breach in a value that stands in a marked role, where the set has the `@id`s before it.
 #[cycle(walk)]
-fn first_in<'a>(
+pub fn first_in<'a>(
     tree: &'a Tree,
     alloc: Global,
     schemas: &NamedSchemas<'a>,
-    role: Role,
+    marked: MarkedRole,
     ids: &mut BTreeSet<&'a str>,
 ) -> Result<Option<Found>, OutOfMemory>
-    ensures { IfOk result (Walks (members_view schemas.now) ids.old ids.new role (view tree.now)) }
+    ensures { IfOk result (Walks (members_view schemas.now) ids.old ids.new marked (view tree.now)) }
 {
-    if let Some(rule) = judge(schemas, role, tree, ids)? {
+    if let Some(rule) = judge(schemas, marked, tree, ids)? {
         return Ok(Some(Found {
             steps: Vec::new(alloc),
             rule,
@@ -59,8 +49,8 @@ fn first_in<'a>(
     }
     match tree {
         Tree::Null | Tree::Bool(_) | Tree::Number(_) | Tree::Text(_) => Ok(None),
-        Tree::List(entries) => first_in_entries(entries.as_slice(), alloc, schemas, role, ids),
-        Tree::Members(members) => first_in_members(members.as_slice(), alloc, schemas, role, ids),
+        Tree::List(entries) => first_in_entries(entries.as_slice(), alloc, schemas, marked, ids),
+        Tree::Members(members) => first_in_members(members.as_slice(), alloc, schemas, marked, ids),
     }
 }
 
@@ -70,13 +60,13 @@ fn first_in_part<'a>(
     tree: &'a Tree,
     alloc: Global,
     schemas: &NamedSchemas<'a>,
-    role: Option<Role>,
+    marked: Option<MarkedRole>,
     ids: &mut BTreeSet<&'a str>,
 ) -> Result<Option<Found>, OutOfMemory>
-    ensures { IfOk result (WalksPart (members_view schemas.now) ids.old ids.new role (view tree.now)) }
+    ensures { IfOk result (WalksPart (members_view schemas.now) ids.old ids.new marked (view tree.now)) }
 {
-    match role {
-        Some(role) => first_in(tree, alloc, schemas, role, ids),
+    match marked {
+        Some(marked) => first_in(tree, alloc, schemas, marked, ids),
         None => Ok(None),
     }
 }
@@ -87,15 +77,15 @@ fn first_in_members<'a>(
     members: &'a [Member],
     alloc: Global,
     schemas: &NamedSchemas<'a>,
-    role: Role,
+    marked: MarkedRole,
     ids: &mut BTreeSet<&'a str>,
 ) -> Result<Option<Found>, OutOfMemory>
-    ensures { IfOk result (WalksClear (members_view schemas.now) ids.old ids.new role (object (members_view members.now))) }
+    ensures { IfOk result (WalksClear (members_view schemas.now) ids.old ids.new marked (object (members_view members.now))) }
 {
-    let element = element_of(role, members);
+    let element = element_of(marked.role, members);
     for (at, member) in members.iter().enumerate() {
-        let part_role = member_role(role, element, members, member.key.as_str());
-        if let Some(found) = first_in_part(&member.value, alloc, schemas, part_role, ids)? {
+        let part = marked.of_member(element, members, member.key.as_str());
+        if let Some(found) = first_in_part(&member.value, alloc, schemas, part, ids)? {
             let found = found.up(at)?;
             return Ok(Some(found));
         }
@@ -109,15 +99,15 @@ fn first_in_entries<'a>(
     entries: &'a [Tree],
     alloc: Global,
     schemas: &NamedSchemas<'a>,
-    role: Role,
+    marked: MarkedRole,
     ids: &mut BTreeSet<&'a str>,
 ) -> Result<Option<Found>, OutOfMemory>
-    ensures { IfOk result (WalksClear (members_view schemas.now) ids.old ids.new role (array (elements_view entries.now))) }
+    ensures { IfOk result (WalksClear (members_view schemas.now) ids.old ids.new marked (array (elements_view entries.now))) }
 {
-    let roles = EntryRoles::of(alloc, role, entries)?;
+    let marks = EntryMarks::of(alloc, marked.role, entries)?;
     for (at, entry) in entries.iter().enumerate() {
-        let part_role = roles.at(at);
-        if let Some(found) = first_in_part(entry, alloc, schemas, part_role, ids)? {
+        let part = marks.at(at);
+        if let Some(found) = first_in_part(entry, alloc, schemas, part, ids)? {
             let found = found.up(at)?;
             return Ok(Some(found));
         }

@@ -11,12 +11,12 @@ use Rattle.std.proofs.lemmas.Map.Text.{is_eq-slice_cmp}
 use Rattle.json_tree.specs.Values.{Json}
 use Rattle.json_tree.specs.View.{view}
 use Rattle.json_tree.specs.declared.tree.Tree.{Tree}
-use Rattle.local_rules.specs.Roles.{holds_some, is_among, same_value}
-use Rattle.local_rules.specs.Repeated.{HasSeen, compared, is_seen, repeats_by, value_by}
-use Rattle.local_rules.specs.declared.repeated.Mark.{Mark}
-use Rattle.local_rules.specs.declared.repeated.Mark.TheVariants as mark
-use Rattle.local_rules.specs.declared.repeated.Sort.{Sort}
-use Rattle.local_rules.specs.contracts.repeated.MarkOrd.TheImpl as order
+use Rattle.local_rules.specs.Repeats.{holds_some, is_among, same_value}
+use Rattle.local_rules.specs.Machinery.Repeated.{HasSeen, compared, is_seen, repeats_by, value_by}
+use Rattle.local_rules.specs.declared.repeated.ComparisonKey.{ComparisonKey}
+use Rattle.local_rules.specs.declared.repeated.ComparisonKey.TheVariants as comparison_key
+use Rattle.local_rules.specs.declared.repeated.Comparison.{Comparison}
+use Rattle.local_rules.specs.contracts.repeated.ComparisonKeyOrd.TheImpl as order
 
 got : (f : Json → Option Json) (ts : List Tree) (i : ℕ) (t : Tree) → i < length ts → t ≡ get_or ts i t → slice_get (map f (map view ts)) i ≡ Some (f (view t))
 got f [] i t lt e = absurd (omega (arith, lt))
@@ -26,20 +26,20 @@ got f (u ∷ ts) (suc i) t lt e = got f ts i t (omega (arith, lt)) e
 front : (f : Json → Option Json) (ts : List Tree) (i : ℕ) → take i (map f (map view ts)) ≡ map f (map view (take i ts))
 front f ts i = take-map f i (map view ts) ∙ ap (λ (vs : List Json). map f vs) (take-map view i ts)
 
-pub repeats_here : (s : Sort) (ts : List Tree) (i : ℕ) (t : Tree) → i < length ts → t ≡ get_or ts i t
+pub repeats_here : (s : Comparison) (ts : List Tree) (i : ℕ) (t : Tree) → i < length ts → t ≡ get_or ts i t
     → repeats_by s (map view ts) i ≡ is_among same_value (map (compared s) (map view (take i ts))) (compared s (view t))
 repeats_here s ts i t lt e = rw (got (compared s) ts i t lt e, front (compared s) ts i) refl
 
 -- ---- marks in a set
-mark_same : (m n : Mark) → is_eq ((order.cmp-value).it m n) ≡ same_value (value_by m) (value_by n)
-mark_same (mark.Number d) (mark.Number e) = search (rules, order.cmp-value)
-mark_same (mark.Number d) (mark.Text t) = refl
-mark_same (mark.Text t) (mark.Number d) = refl
-mark_same (mark.Text t) (mark.Text u) = is_eq-slice_cmp t.now u.now
+key_same : (m n : ComparisonKey) → is_eq ((order.cmp-value).it m n) ≡ same_value (value_by m) (value_by n)
+key_same (comparison_key.Number d) (comparison_key.Number e) = search (rules, order.cmp-value)
+key_same (comparison_key.Number d) (comparison_key.Text t) = refl
+key_same (comparison_key.Text t) (comparison_key.Number d) = refl
+key_same (comparison_key.Text t) (comparison_key.Text u) = is_eq-slice_cmp t.now u.now
 
-any_same : (ks : List Mark) (q : Mark) → list_any (λ k. is_eq ((order.cmp-value).it q k)) ks ≡ list_any (λ k. same_value (value_by q) (value_by k)) ks
+any_same : (ks : List ComparisonKey) (q : ComparisonKey) → list_any (λ k. is_eq ((order.cmp-value).it q k)) ks ≡ list_any (λ k. same_value (value_by q) (value_by k)) ks
 any_same [] q = refl
-any_same (k ∷ ks) q = ap₂ ◌||◌ (mark_same q k) (any_same ks q)
+any_same (k ∷ ks) q = ap₂ ◌||◌ (key_same q k) (any_same ks q)
 
 not_not : (a b : Bool) → a ≡ not b → not a ≡ b
 not_not a true e = ap not e
@@ -51,12 +51,12 @@ as_or true false c e = e
 as_or false true c e = refl
 as_or false false c e = e
 
-pub put_in : (old new : BTreeSet Mark) (m : Mark) (added : Bool) → added ≡ not (contains (order.cmp-value).it old m)
-    → ((q : Mark) → contains (order.cmp-value).it new q ≡ cond (is_eq ((order.cmp-value).it m q)) true (contains (order.cmp-value).it old q))
+pub put_in : (old new : BTreeSet ComparisonKey) (m : ComparisonKey) (added : Bool) → added ≡ not (contains (order.cmp-value).it old m)
+    → ((q : ComparisonKey) → contains (order.cmp-value).it new q ≡ cond (is_eq ((order.cmp-value).it m q)) true (contains (order.cmp-value).it old q))
     → HasSeen old new (not added) (Some m)
 put_in old new m added e more = (
   not_not added (contains (order.cmp-value).it old m) e ∙ any_same old.keys m,
-  λ q. sym (any_same new.keys q) ∙ more q ∙ as_or (is_eq ((order.cmp-value).it m q)) (contains (order.cmp-value).it old q) (same_value (value_by m) (value_by q)) (mark_same m q)
+  λ q. sym (any_same new.keys q) ∙ more q ∙ as_or (is_eq ((order.cmp-value).it m q)) (contains (order.cmp-value).it old q) (same_value (value_by m) (value_by q)) (key_same m q)
       ∙ ap (λ (b : Bool). b || same_value (value_by m) (value_by q)) (any_same old.keys q),
 )
 
@@ -68,7 +68,7 @@ or_nothing false = refl
 any_push : {X : Type 0} (test : X → Bool) (xs : List X) (x : X) → list_any test (xs ++ x ∷ []) ≡ (list_any test xs || test x)
 any_push test xs x = list_any-append test xs (x ∷ []) ∙ ap (λ (b : Bool). list_any test xs || b) (or_nothing (test x))
 
-one_more : (s : Sort) (ts : List Tree) (i : ℕ) (t : Tree) → i < length ts → t ≡ get_or ts i t
+one_more : (s : Comparison) (ts : List Tree) (i : ℕ) (t : Tree) → i < length ts → t ≡ get_or ts i t
     → map (compared s) (map view (take (i + 1) ts)) ≡ map (compared s) (map view (take i ts)) ++ compared s (view t) ∷ []
 one_more s ts i t lt e =
     let more : take (i + 1) ts ≡ take i ts ++ t ∷ [] = take_more ts i t lt ∙ ap (λ (x : Tree). take i ts ++ x ∷ []) (sym e) in
@@ -77,10 +77,10 @@ one_more s ts i t lt e =
     ∙ map_push (compared s) (map view (take i ts)) (view t)
 
 -- what was seen is what the entries so far are compared by
-abbrev pub HasSeenAll : Sort → List Tree → ℕ → BTreeSet Mark → Type 0
-HasSeenAll s ts i seen = (q : Mark) → is_seen seen (value_by q) ≡ list_any (holds_some (λ u. same_value u (value_by q))) (map (compared s) (map view (take i ts)))
+abbrev pub HasSeenAll : Comparison → List Tree → ℕ → BTreeSet ComparisonKey → Type 0
+HasSeenAll s ts i seen = (q : ComparisonKey) → is_seen seen (value_by q) ≡ list_any (holds_some (λ u. same_value u (value_by q))) (map (compared s) (map view (take i ts)))
 
-pub seen_more : (s : Sort) (ts : List Tree) (i : ℕ) (t : Tree) (old new : BTreeSet Mark) (b : Bool) (m : Option Mark) → i < length ts → t ≡ get_or ts i t
+pub seen_more : (s : Comparison) (ts : List Tree) (i : ℕ) (t : Tree) (old new : BTreeSet ComparisonKey) (b : Bool) (m : Option ComparisonKey) → i < length ts → t ≡ get_or ts i t
     → HasSeenAll s ts i old → option_map value_by m ≡ compared s (view t) → HasSeen old new b m → HasSeenAll s ts (i + 1) new
 seen_more s ts i t old new b None lt e all is h = λ q.
     let test : Option Json → Bool = holds_some (λ u. same_value u (value_by q)) in
@@ -93,7 +93,7 @@ seen_more s ts i t old new b (Some m) lt e all is h = λ q.
     ∙ ap (λ (v : Option Json). list_any test (map (compared s) (map view (take i ts))) || test v) is
     ∙ sym (ap (λ (vs : List (Option Json)). list_any test vs) (one_more s ts i t lt e) ∙ any_push test (map (compared s) (map view (take i ts))) (compared s (view t)))
 
-answered : (s : Sort) (ts : List Tree) (i : ℕ) (t : Tree) (old new : BTreeSet Mark) (b : Bool) (m : Option Mark)
+answered : (s : Comparison) (ts : List Tree) (i : ℕ) (t : Tree) (old new : BTreeSet ComparisonKey) (b : Bool) (m : Option ComparisonKey)
     → HasSeenAll s ts i old → option_map value_by m ≡ compared s (view t) → HasSeen old new b m
     → b ≡ is_among same_value (map (compared s) (map view (take i ts))) (compared s (view t))
 answered s ts i t old new b None all is h = h.0 ∙ ap (λ (v : Option Json). is_among same_value (map (compared s) (map view (take i ts))) v) is
@@ -103,10 +103,10 @@ either : (k i : ℕ) → k < i + 1 → (k < i) ⊎ (k ≡ i)
 either k i lt = grind arith
 
 -- the marks so far are right
-abbrev pub AreMarked : Sort → List Tree → ℕ → List Bool → Type 0
+abbrev pub AreMarked : Comparison → List Tree → ℕ → List Bool → Type 0
 AreMarked s ts i marks = (k : ℕ) → k < i → get_or marks k false ≡ repeats_by s (map view ts) k
 
-pub marked_more : (s : Sort) (ts : List Tree) (i : ℕ) (t : Tree) (marks : List Bool) (old new : BTreeSet Mark) (b : Bool) (m : Option Mark)
+pub marked_more : (s : Comparison) (ts : List Tree) (i : ℕ) (t : Tree) (marks : List Bool) (old new : BTreeSet ComparisonKey) (b : Bool) (m : Option ComparisonKey)
     → i < length ts → t ≡ get_or ts i t → length marks ≡ i → AreMarked s ts i marks
     → HasSeenAll s ts i old → option_map value_by m ≡ compared s (view t) → HasSeen old new b m → AreMarked s ts (i + 1) (marks ++ b ∷ [])
 marked_more s ts i t marks old new b m lt e count marked all is h = λ k below. elim (either k i below) [

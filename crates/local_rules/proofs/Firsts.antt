@@ -1,21 +1,20 @@
 -- From the first broken rule among those that a role can break to the first broken rule of all.
-use Rattle.std.proofs.Common.{◌≡◌, ℕ, ◌<◌, ◌⊎◌, inl, inr, Bool, true, false, ◌&&◌, nat_lt, ◌↔◌, IsTrue, List, [], ◌∷◌, ◌++◌, Option, Some, None, MatchOption, refl, sym, ap, subst, arith}
-use Rattle.std.proofs.lemmas.Bool.{and_parts, ltb-true, false≢true}
+use Rattle.std.proofs.Common.{◌≡◌, ℕ, ◌<◌, ◌⊎◌, inl, inr, Bool, true, false, ◌&&◌, nat_lt, cond, ◌↔◌, IsTrue, List, [], ◌∷◌, ◌++◌, Option, Some, None, MatchOption, refl, sym, ap, subst, arith}
+use Rattle.std.proofs.lemmas.Bool.{and_parts, ltb-true, ltb-false, false≢true}
 use Rattle.std.specs.Bool.{then_some}
 use Rattle.json_tree.specs.Values.{Json, text, array, object}
 use Rattle.local_rules.specs.Texts.{IsTextOf}
 use Rattle.local_rules.specs.Identifiers.{IdUse, IsBadId, IsReservedId, id_use, no_id}
 use Rattle.local_rules.specs.Codes.{rule_number}
-use Rattle.local_rules.specs.Choices.{BreaksAlone, IsFirstOf}
-use Rattle.local_rules.specs.Firsts.{IsFirstAmong, further_rules, id_rules}
+use Rattle.local_rules.specs.Breaches.{BreaksAlone, IsFirstOf}
+use Rattle.local_rules.specs.Machinery.Firsts.{IsFirstAmong, earlier, further_rules, id_rules}
 use Rattle.local_rules.specs.declared.rule.LocalRule.{LocalRule}
 use Rattle.local_rules.specs.declared.rule.LocalRule.TheVariants as rule
 use Rattle.local_rules.specs.declared.role.Localized.{Localized}
 use Rattle.local_rules.specs.declared.role.Localized.TheVariants as localized
-use Rattle.local_rules.specs.declared.role.Naming.TheVariants as naming
 use Rattle.local_rules.specs.declared.role.PayloadUse.{PayloadUse}
-use Rattle.local_rules.specs.declared.role.ValueKind.{ValueKind}
-use Rattle.local_rules.specs.declared.role.SchemaUse.TheVariants as place
+use Rattle.local_rules.specs.declared.role.ValueSchema.{ValueSchema}
+use Rattle.local_rules.specs.declared.role.SchemaUse.TheVariants as schema_use
 use Rattle.local_rules.specs.declared.role.Role.{Role}
 use Rattle.local_rules.specs.declared.role.Role.TheVariants as role
 use Rattle.local_rules.proofs.Among.{Among, among_before}
@@ -86,17 +85,17 @@ at_role r q v found same h = subst (λ (p : Role). IsFirstAmong (λ one. BreaksA
 
 -- the roles of values that are objects alone
 abbrev pub IsObjectRole : Role → Type 0
-IsObjectRole r = (r ≡ role.Interface) ⊎ (((repeats : Bool) × (r ≡ role.Content repeats)) ⊎ (((repeats : Bool) × (r ≡ role.RelationshipProperty repeats))
-    ⊎ (((part : PayloadUse) × (r ≡ role.Payload part)) ⊎ (((repeats : Bool) × (r ≡ role.Field repeats))
-    ⊎ (((k : ValueKind) × (repeats : Bool) × (same : Bool) × (r ≡ role.EnumEntry k repeats same)) ⊎ (r ≡ role.NamedSchema))))))
+IsObjectRole r = (r ≡ role.Interface) ⊎ ((r ≡ role.Content) ⊎ ((r ≡ role.RelationshipProperty)
+    ⊎ (((part : PayloadUse) × (r ≡ role.Payload part)) ⊎ ((r ≡ role.Field)
+    ⊎ (((k : ValueSchema) × (r ≡ role.EnumEntry k)) ⊎ (r ≡ role.NamedSchema))))))
 
 pub object_rules : (r : Role) → IsObjectRole r → further_rules r ≡ rule.MissingKey ∷ []
 object_rules r (inl is) = ap further_rules is
-object_rules r (inr (inl is)) = ap further_rules is.1
-object_rules r (inr (inr (inl is))) = ap further_rules is.1
+object_rules r (inr (inl is)) = ap further_rules is
+object_rules r (inr (inr (inl is))) = ap further_rules is
 object_rules r (inr (inr (inr (inl is)))) = ap further_rules is.1
-object_rules r (inr (inr (inr (inr (inl is))))) = ap further_rules is.1
-object_rules r (inr (inr (inr (inr (inr (inl is)))))) = ap further_rules is.3
+object_rules r (inr (inr (inr (inr (inl is))))) = ap further_rules is
+object_rules r (inr (inr (inr (inr (inr (inl is)))))) = ap further_rules is.1
 object_rules r (inr (inr (inr (inr (inr (inr is)))))) = ap further_rules is
 
 -- ---- a role breaks only the rules that are listed for it
@@ -109,7 +108,7 @@ ids_listed role.InterfaceId bytes some one a = a
 ids_listed role.InterfaceReference bytes some one a = a
 ids_listed role.ElementId bytes some one a = a
 ids_listed role.Extends bytes some one a = among_before one id_rules (rule.TooManyParents ∷ []) a
-ids_listed (role.Parent repeats) bytes some one a = among_before one id_rules (rule.RepeatedParent ∷ []) a
+ids_listed role.Parent bytes some one a = a
 ids_listed (role.Schema part) bytes some one a = inr (among_before one id_rules (rule.BadMapKey ∷ []) a)
 ids_listed other bytes some one a = absurd (some refl)
 
@@ -138,11 +137,11 @@ long_element_id r other h = absurd h
 -- the roles of objects
 missing_key : (r : Role) (v : Json) → BreaksAlone rule.MissingKey r v → Listed rule.MissingKey r
 missing_key role.Interface (object ms) h = inl refl
-missing_key (role.Content repeats) (object ms) h = inl refl
-missing_key (role.RelationshipProperty repeats) (object ms) h = inl refl
+missing_key role.Content (object ms) h = inl refl
+missing_key role.RelationshipProperty (object ms) h = inl refl
 missing_key (role.Payload part) (object ms) h = inl refl
-missing_key (role.Field repeats) (object ms) h = inl refl
-missing_key (role.EnumEntry k repeats same_value) (object ms) h = inl refl
+missing_key role.Field (object ms) h = inl refl
+missing_key (role.EnumEntry k) (object ms) h = inl refl
 missing_key role.NamedSchema (object ms) h = inl refl
 missing_key (role.Schema part) (object ms) h = inl refl
 missing_key other (object ms) h = absurd (omega (arith, h.1.1))
@@ -151,10 +150,10 @@ missing_key r other h = absurd h
 at : (one : LocalRule) (q r : Role) → r ≡ q → Listed one q → Among one (rule.WrongKind ∷ further_rules r)
 at one q r same a = inr (subst (Listed one) (sym same) a)
 
-text_of : (one : LocalRule) (which : Localized) (r : Role) → IsTextOf which r → Listed one (role.Localized which) → ((tagged : Bool) → Listed one (role.LocalizedText which tagged))
+text_of : (one : LocalRule) (which : Localized) (r : Role) → IsTextOf which r → Listed one (role.Localized which) → Listed one (role.LocalizedText which)
     → Among one (rule.WrongKind ∷ further_rules r)
 text_of one which r (inl same) a b = at one (role.Localized which) r same a
-text_of one which r (inr same) a b = at one (role.LocalizedText which same.0) r same.1 (b same.0)
+text_of one which r (inr same) a b = at one (role.LocalizedText which) r same b
 
 pub only : (one : LocalRule) (r : Role) (v : Json) → BreaksAlone one r v → Among one (rule.WrongKind ∷ further_rules r)
 only rule.WrongKind r v h = inl refl
@@ -168,23 +167,17 @@ only rule.BadId r v h = inr (bad_id r v h)
 only rule.ReservedId r v h = inr (reserved_id r v h)
 only rule.LongInterfaceId r v h = inr (long_interface_id r v h)
 only rule.LongElementId r v h = inr (long_element_id r v h)
-only rule.BadName r v h = at rule.BadName (role.Name h.0 h.1) r h.2 (inl refl)
-only rule.LongDisplayName r v h = text_of rule.LongDisplayName localized.DisplayName r h.0 (inl refl) (λ tagged. inl refl)
-only rule.LongDescription r v h = text_of rule.LongDescription localized.Description r h.0 (inr (inl refl)) (λ tagged. inr (inl refl))
+only rule.BadName r v h = at rule.BadName role.Name r h.0 (inl refl)
+only rule.LongDisplayName r v h = text_of rule.LongDisplayName localized.DisplayName r h.0 (inl refl) (inl refl)
+only rule.LongDescription r v h = text_of rule.LongDescription localized.Description r h.0 (inr (inl refl)) (inr (inl refl))
 only rule.LongComment r v h = at rule.LongComment role.Comment r h.0 (inl refl)
-only rule.BadLanguage r v h = at rule.BadLanguage (role.LocalizedText h.0 false) r h.1 (inr (inr (inl refl)))
 only rule.TooManyContents r v h = at rule.TooManyContents role.Contents r h.0 (inl refl)
 only rule.TooManyParents r v h = at rule.TooManyParents role.Extends r h.0 (inr (inr (inr (inr (inl refl)))))
-only rule.RepeatedParent r v h = at rule.RepeatedParent (role.Parent true) r h (inr (inr (inr (inr (inl refl)))))
-only rule.DuplicateName r v h = at rule.DuplicateName (role.Name naming.Content true) r h (inr (inl refl))
 only rule.TooManyFields r v h = at rule.TooManyFields role.Fields r h.0 (inl refl)
 only rule.TooManyEnumValues r v h = at rule.TooManyEnumValues (role.EnumValues h.0) r h.1 (inl refl)
-only rule.DuplicateField r v h = at rule.DuplicateField (role.Name naming.Field true) r h (inr (inr (inl refl)))
-only rule.DuplicateEnumName r v h = at rule.DuplicateEnumName (role.Name naming.EnumEntry true) r h (inr (inr (inr (inl refl))))
-only rule.DuplicateEnumValue r v h = at rule.DuplicateEnumValue (role.EnumValue h.0 true) r h.1 (inl refl)
 only rule.BadValueSchema r v h = at rule.BadValueSchema role.ValueSchema r h.0 (inl refl)
-only rule.BadEnumValue r v h = at rule.BadEnumValue (role.EnumValue h.0 h.1) r h.2 (inr (inl refl))
-only rule.BadMapKey r v h = at rule.BadMapKey (role.Schema place.MapKey) r h.0 (inr (inr (inr (inr (inr (inl refl))))))
+only rule.BadEnumValue r v h = at rule.BadEnumValue (role.EnumValue h.0) r h.1 (inl refl)
+only rule.BadMapKey r v h = at rule.BadMapKey (role.Schema schema_use.MapKey) r h.0 (inr (inr (inr (inr (inr (inl refl))))))
 only rule.BadMultiplicity r v (inl h) = at rule.BadMultiplicity role.MinMultiplicity r h.0 (inl refl)
 only rule.BadMultiplicity r v (inr h) = at rule.BadMultiplicity role.MaxMultiplicity r h.0 (inl refl)
 only rule.BadCommandType r v h = at rule.BadCommandType role.CommandType r h.0 (inl refl)
@@ -200,3 +193,21 @@ pub own : (r : Role) (v : Json) (found : Option LocalRule) → IsFirstAmong (λ 
 own r v found h =
     let Broken : LocalRule → Type 0 = λ one. BreaksAlone one r v in
     first_of Broken (rule.WrongKind ∷ further_rules r) found (λ one broken. only one r v broken) (first_in Broken 0 (rule.WrongKind ∷ further_rules r) found (listed_rise r) h)
+
+-- ---- the first of two groups
+pub first_either : (P Q : LocalRule → Type 0) (a b : Option LocalRule) → IsFirstOf P a → IsFirstOf Q b → IsFirstOf (λ one. P one ⊎ Q one) (earlier a b)
+first_either P Q None None g h = λ other e. elim e [ inl p ↦ g other p | inr q ↦ h other q ]
+first_either P Q None (Some b) g h = (inr h.0, λ other less e. elim e [ inl p ↦ g other p | inr q ↦ h.1 other less q ])
+first_either P Q (Some a) None g h = (inl g.0, λ other less e. elim e [ inl p ↦ g.1 other less p | inr q ↦ h other q ])
+first_either P Q (Some a) (Some b) g h =
+    elim (nat_lt (rule_number b) (rule_number a)) as (λ t. nat_lt (rule_number b) (rule_number a) ≡ t → IsFirstOf (λ one. P one ⊎ Q one) (cond t (Some b) (Some a))) [
+      | true ↦ λ low. (let less = ltb-true (rule_number b) (rule_number a) low in
+          (inr h.0, λ other under e. elim e [ inl p ↦ g.1 other (omega (arith, under, less)) p | inr q ↦ h.1 other under q ]))
+      | false ↦ λ high. (let less = ltb-false (rule_number b) (rule_number a) high in
+          (inl g.0, λ other under e. elim e [ inl p ↦ g.1 other under p | inr q ↦ h.1 other (omega (arith, under, less)) q ]))
+    ] refl
+
+-- a rule that is known is the first of those that equal it
+pub first_known : (found : Option LocalRule) → IsFirstOf (λ one. found ≡ Some one) found
+first_known None = λ other is. absurd cc
+first_known (Some one) = (refl, λ other less is. let same : one ≡ other = cc in absurd (omega (arith, less, ap rule_number same)))

@@ -6,8 +6,8 @@ use Rattle.json_decimal.specs.Number.{Number}
 use Rattle.json_tree.specs.Values.{Json, text, array, Elements, no_elements, element}
 use Rattle.json_tree.specs.Places.{element_at}
 use Rattle.local_rules.specs.Members.{list_of, text_in}
-use Rattle.local_rules.specs.Roles.{holds_some}
-use Rattle.local_rules.specs.Levels.{elements_under}
+use Rattle.local_rules.specs.Repeats.{holds_some}
+use Rattle.local_rules.specs.Levels.{entries_under}
 
 -- the first element that passes a test is some element, and passes it
 abbrev pub IsElement : (Json → Bool) → Elements Number → Json → Type 0
@@ -21,7 +21,7 @@ found_element test (element w vs) v found =
       | false ↦ λ off rest. (let later = found_element test vs v rest in (suc later.0, later.1, later.2))
     ] refl found
 
-pub found_under : (test : Json → Bool) (o : Option Json) (v : Json) → find test (elements_under o) ≡ Some v
+pub found_under : (test : Json → Bool) (o : Option Json) (v : Json) → find test (entries_under o) ≡ Some v
     → (vs : Elements Number) × (o ≡ Some (array vs)) × IsElement test vs v
 found_under test (Some (array vs)) v found = (vs, refl, found_element test vs v found)
 found_under test None v found = absurd cc

@@ -1,13 +1,17 @@
 -- Entries that repeat an earlier one, by what is compared of them and by the definitions.
-use Rattle.std.proofs.Common.{◌≡◌, ℕ, zero, suc, List, [], ◌∷◌, map, take, Bool, false, ◌||◌, bytes_eq, codes, Option, Some, None, refl, sym, ap, ap₂, ◌∙◌}
+use Rattle.std.proofs.Common.{◌≡◌, ℕ, zero, suc, List, [], ◌∷◌, map, take, Bool, false, ◌||◌, bytes_eq, codes, Option, Some, None, refl, sym, ap, ap₂, subst, ◌∙◌}
 use Rattle.std.specs.Prelude.{slice_get, option_and_then}
 use Rattle.std.specs.Option.{option_map}
 use Rattle.std.specs.List.{list_any, take-map}
 use Rattle.json_tree.specs.Values.{Json, number, text}
 use Rattle.local_rules.specs.Members.{text_in, value_in}
-use Rattle.local_rules.specs.Roles.{is_among, holds_some, name_in, repeats, repeats_name, repeats_value, same_value}
-use Rattle.local_rules.specs.Repeated.{comparable, repeats_by}
-use Rattle.local_rules.specs.declared.repeated.Sort.TheVariants as sort
+use Rattle.local_rules.specs.Repeats.{is_among, holds_some, name_in, repeats, repeats_name, repeats_text, repeats_value, same_value}
+use Rattle.local_rules.specs.Machinery.Repeated.{comparable, comparison_of, repeats_by, value_comparison_of}
+use Rattle.local_rules.specs.Machinery.Marks.{entry_repeats, entry_repeats_value}
+use Rattle.local_rules.specs.declared.repeated.Comparison.{Comparison}
+use Rattle.local_rules.specs.declared.repeated.Comparison.TheVariants as comparison
+use Rattle.local_rules.specs.declared.role.Role.{Role}
+use Rattle.local_rules.specs.declared.role.Role.TheVariants as role
 
 -- both are there, and equal
 abbrev both : {X : Type 0} → (X → X → Bool) → Option X → Option X → Bool
@@ -66,14 +70,28 @@ values_alike None b = refl
 values_alike (Some v) None = no_comparable v
 values_alike (Some v) (Some w) = comparable_alike v w
 
-pub by_name : (vs : List Json) (i : ℕ) → repeats_by sort.Name vs i ≡ repeats_name vs i
+pub by_name : (vs : List Json) (i : ℕ) → repeats_by comparison.Name vs i ≡ repeats_name vs i
 by_name vs i = repeats_alike same_value bytes_eq (λ v. option_map text (name_in v)) name_in (λ u v. texts_alike (name_in u) (name_in v)) vs i
 
-pub by_whole : (vs : List Json) (i : ℕ) → repeats_by sort.Whole vs i ≡ repeats bytes_eq (map text_in vs) i
+pub by_whole : (vs : List Json) (i : ℕ) → repeats_by comparison.Whole vs i ≡ repeats_text vs i
 by_whole vs i = repeats_alike same_value bytes_eq (λ v. option_map text (text_in v)) text_in (λ u v. texts_alike (text_in u) (text_in v)) vs i
 
-pub by_value : (vs : List Json) (i : ℕ) → repeats_by sort.Value vs i ≡ repeats_value vs i
+pub by_value : (vs : List Json) (i : ℕ) → repeats_by comparison.Value vs i ≡ repeats_value vs i
 by_value vs i = repeats_alike same_value same_value (λ v. option_and_then comparable (value_in (codes "enumValue") v)) (value_in (codes "enumValue"))
     (λ u v. values_alike (value_in (codes "enumValue") u) (value_in (codes "enumValue") v)) vs i
 
-pub ruleset same_repeats = (by_name, by_whole, by_value)
+by_this : (one s : Comparison) (b : Bool) (vs : List Json) (i : ℕ) → Some one ≡ Some s → repeats_by one vs i ≡ b → repeats_by s vs i ≡ b
+by_this one s b vs i is h = let same : one ≡ s = cc in subst (λ (c : Comparison). repeats_by c vs i ≡ b) same h
+
+-- by what the entries of a list in a role are compared
+pub entry_compared : (r : Role) (s : Comparison) (vs : List Json) (i : ℕ) → comparison_of r ≡ Some s → repeats_by s vs i ≡ entry_repeats r vs i
+entry_compared role.Contents s vs i is = by_this comparison.Name s (repeats_name vs i) vs i is (by_name vs i)
+entry_compared role.Properties s vs i is = by_this comparison.Name s (repeats_name vs i) vs i is (by_name vs i)
+entry_compared role.Fields s vs i is = by_this comparison.Name s (repeats_name vs i) vs i is (by_name vs i)
+entry_compared (role.EnumValues k) s vs i is = by_this comparison.Name s (repeats_name vs i) vs i is (by_name vs i)
+entry_compared role.Extends s vs i is = by_this comparison.Whole s (repeats_text vs i) vs i is (by_whole vs i)
+entry_compared other s vs i is = absurd cc
+
+pub value_compared : (r : Role) (s : Comparison) (vs : List Json) (i : ℕ) → value_comparison_of r ≡ Some s → repeats_by s vs i ≡ entry_repeats_value r vs i
+value_compared (role.EnumValues k) s vs i is = by_this comparison.Value s (repeats_value vs i) vs i is (by_value vs i)
+value_compared other s vs i is = absurd cc

@@ -1,5 +1,5 @@
 -- The breaches of the local rules in a document, and the first of them.
-use Rattle.std.specs.Prelude.{◌≡◌, ℕ, ◌<◌, ◌⊎◌, List, [], ◌∷◌, Some}
+use Rattle.std.specs.Prelude.{◌≡◌, ℕ, ◌<◌, ◌⊎◌, List, [], ◌∷◌, Some, Option, MatchOption}
 use Rattle.json_decimal.specs.Number.{Number}
 use Rattle.json_tree.specs.Values.{Json, null, truth, number, text, array, object, Members}
 use Rattle.json_tree.specs.Places.{IsBefore, element_at}
@@ -9,8 +9,10 @@ use Rattle.local_rules.specs.Roles.{HasRole}
 use Rattle.local_rules.specs.Kinds.{WrongKind, UnknownKey, MissingKey}
 use Rattle.local_rules.specs.Types.{BadContext, BadType, BadSemanticType}
 use Rattle.local_rules.specs.Identifiers.{BadId, ReservedId, LongInterfaceId, LongElementId, BadName, IsIdRole, RepeatedId}
-use Rattle.local_rules.specs.Texts.{LongDisplayName, LongDescription, LongComment, BadLanguage, BadCommandType, BadUnit}
-use Rattle.local_rules.specs.Lists.{TooManyContents, TooManyParents, RepeatedParent, DuplicateName, TooManyFields, TooManyEnumValues, DuplicateField, DuplicateEnumName, DuplicateEnumValue}
+use Rattle.local_rules.specs.Texts.{LongDisplayName, LongDescription, LongComment, BadCommandType, BadUnit}
+use Rattle.local_rules.specs.Lists.{TooManyContents, TooManyParents, TooManyFields, TooManyEnumValues}
+use Rattle.local_rules.specs.Repeats.{RepeatedParent, DuplicateName, DuplicateField, DuplicateEnumName, DuplicateEnumValue}
+use Rattle.local_rules.specs.Languages.{BadLanguage}
 use Rattle.local_rules.specs.Quantities.{BadValueSchema, BadEnumValue, BadMapKey, BadMultiplicity}
 use Rattle.local_rules.specs.Levels.{UnknownSchema, TooDeep, ArrayInProperty}
 use Rattle.local_rules.specs.declared.rule.LocalRule.{LocalRule}
@@ -18,52 +20,77 @@ use Rattle.local_rules.specs.declared.rule.LocalRule.TheVariants as rule
 use Rattle.local_rules.specs.declared.role.Role.{Role}
 use Rattle.local_rules.specs.declared.role.Role.TheVariants as role
 
--- A value in a role breaks a rule, in an interface with these members, of which these are the earlier `@id`s.
-abbrev pub Breaks : Members Number → (List ℕ → Type 0) → LocalRule → Role → Json → Type 0
-Breaks ms IsEarlier rule.WrongKind r v = WrongKind r v
-Breaks ms IsEarlier rule.UnknownKey r v = UnknownKey r
-Breaks ms IsEarlier rule.MissingKey r v = MissingKey r v
-Breaks ms IsEarlier rule.BadContext r v = BadContext r v
-Breaks ms IsEarlier rule.BadType r v = BadType r v
-Breaks ms IsEarlier rule.BadSemanticType r v = BadSemanticType r v
-Breaks ms IsEarlier rule.BadId r v = BadId r v
-Breaks ms IsEarlier rule.ReservedId r v = ReservedId r v
-Breaks ms IsEarlier rule.LongInterfaceId r v = LongInterfaceId r v
-Breaks ms IsEarlier rule.LongElementId r v = LongElementId r v
-Breaks ms IsEarlier rule.BadName r v = BadName r v
-Breaks ms IsEarlier rule.LongDisplayName r v = LongDisplayName r v
-Breaks ms IsEarlier rule.LongDescription r v = LongDescription r v
-Breaks ms IsEarlier rule.LongComment r v = LongComment r v
-Breaks ms IsEarlier rule.BadLanguage r v = BadLanguage r
-Breaks ms IsEarlier rule.TooManyContents r v = TooManyContents r v
-Breaks ms IsEarlier rule.TooManyParents r v = TooManyParents r v
-Breaks ms IsEarlier rule.RepeatedParent r v = RepeatedParent r
-Breaks ms IsEarlier rule.DuplicateName r v = DuplicateName r
-Breaks ms IsEarlier rule.TooManyFields r v = TooManyFields r v
-Breaks ms IsEarlier rule.TooManyEnumValues r v = TooManyEnumValues r v
-Breaks ms IsEarlier rule.DuplicateField r v = DuplicateField r
-Breaks ms IsEarlier rule.DuplicateEnumName r v = DuplicateEnumName r
-Breaks ms IsEarlier rule.DuplicateEnumValue r v = DuplicateEnumValue r
-Breaks ms IsEarlier rule.BadValueSchema r v = BadValueSchema r v
-Breaks ms IsEarlier rule.BadEnumValue r v = BadEnumValue r v
-Breaks ms IsEarlier rule.BadMapKey r v = BadMapKey r v
-Breaks ms IsEarlier rule.BadMultiplicity r v = BadMultiplicity r v
-Breaks ms IsEarlier rule.BadCommandType r v = BadCommandType r v
-Breaks ms IsEarlier rule.BadUnit r v = BadUnit r v
-Breaks ms IsEarlier rule.UnknownSchema r v = UnknownSchema ms r v
-Breaks ms IsEarlier rule.RepeatedId r v = RepeatedId IsEarlier r v
-Breaks ms IsEarlier rule.TooDeep r v = TooDeep ms r v
-Breaks ms IsEarlier rule.ArrayInProperty r v = ArrayInProperty ms r v
+-- ---- the first rule of several
+-- The rule is the first of those that are broken; None where none is.
+abbrev pub IsFirstOf : (LocalRule → Type 0) → Option LocalRule → Type 0
+IsFirstOf Broken found = MatchOption found ((broken : LocalRule) → Broken broken → ⊥)
+    (λ broken. Broken broken × ((other : LocalRule) → rule_number other < rule_number broken → Broken other → ⊥))
 
+-- ---- what breaks each rule, in four tables: each rule stands in one of them
+-- The role and the value alone.
+abbrev pub BreaksAlone : LocalRule → Role → Json → Type 0
+BreaksAlone rule.WrongKind r v = WrongKind r v
+BreaksAlone rule.UnknownKey r v = UnknownKey r
+BreaksAlone rule.MissingKey r v = MissingKey r v
+BreaksAlone rule.BadContext r v = BadContext r v
+BreaksAlone rule.BadType r v = BadType r v
+BreaksAlone rule.BadSemanticType r v = BadSemanticType r v
+BreaksAlone rule.BadId r v = BadId r v
+BreaksAlone rule.ReservedId r v = ReservedId r v
+BreaksAlone rule.LongInterfaceId r v = LongInterfaceId r v
+BreaksAlone rule.LongElementId r v = LongElementId r v
+BreaksAlone rule.BadName r v = BadName r v
+BreaksAlone rule.LongDisplayName r v = LongDisplayName r v
+BreaksAlone rule.LongDescription r v = LongDescription r v
+BreaksAlone rule.LongComment r v = LongComment r v
+BreaksAlone rule.TooManyContents r v = TooManyContents r v
+BreaksAlone rule.TooManyParents r v = TooManyParents r v
+BreaksAlone rule.TooManyFields r v = TooManyFields r v
+BreaksAlone rule.TooManyEnumValues r v = TooManyEnumValues r v
+BreaksAlone rule.BadValueSchema r v = BadValueSchema r v
+BreaksAlone rule.BadEnumValue r v = BadEnumValue r v
+BreaksAlone rule.BadMapKey r v = BadMapKey r v
+BreaksAlone rule.BadMultiplicity r v = BadMultiplicity r v
+BreaksAlone rule.BadCommandType r v = BadCommandType r v
+BreaksAlone rule.BadUnit r v = BadUnit r v
+BreaksAlone other r v = ⊥
+
+-- The list or the object in which the place stands, and its position there.
+abbrev pub BreaksByPlace : Json → List ℕ → LocalRule → Role → Type 0
+BreaksByPlace interface place rule.BadLanguage r = BadLanguage interface place
+BreaksByPlace interface place rule.RepeatedParent r = RepeatedParent interface place
+BreaksByPlace interface place rule.DuplicateName r = DuplicateName interface place r
+BreaksByPlace interface place rule.DuplicateField r = DuplicateField interface place r
+BreaksByPlace interface place rule.DuplicateEnumName r = DuplicateEnumName interface place r
+BreaksByPlace interface place rule.DuplicateEnumValue r = DuplicateEnumValue interface place r
+BreaksByPlace interface place other r = ⊥
+
+-- The schemas that an interface with these members names.
+abbrev pub BreaksBySchemas : Members Number → LocalRule → Role → Json → Type 0
+BreaksBySchemas ms rule.UnknownSchema r v = UnknownSchema ms r v
+BreaksBySchemas ms rule.TooDeep r v = TooDeep ms r v
+BreaksBySchemas ms rule.ArrayInProperty r v = ArrayInProperty ms r v
+BreaksBySchemas ms other r v = ⊥
+
+-- The `@id`s at earlier places of the interface.
+abbrev pub BreaksById : (List ℕ → Type 0) → LocalRule → Role → Json → Type 0
+BreaksById IsEarlier rule.RepeatedId r v = RepeatedId IsEarlier r v
+BreaksById IsEarlier other r v = ⊥
+
+-- ---- breaches
 -- At an earlier place of an interface stands this text as an `@id`.
 abbrev pub IsEarlierId : Json → List ℕ → List ℕ → Type 0
 IsEarlierId interface place bytes = (earlier : List ℕ) × (r : Role) × IsBefore earlier place
     × HasRole role.Interface interface earlier r (text bytes) × IsIdRole r
 
+-- A value in a role breaks a rule at this place of an interface.
+abbrev pub Breaks : Json → List ℕ → LocalRule → Role → Json → Type 0
+Breaks interface place broken r v = BreaksAlone broken r v ⊎ BreaksByPlace interface place broken r
+    ⊎ BreaksBySchemas (members_in interface) broken r v ⊎ BreaksById (IsEarlierId interface place) broken r v
+
 -- A rule is broken at a place of an interface.
 abbrev pub IsBroken : Json → List ℕ → LocalRule → Type 0
-IsBroken interface place broken = (r : Role) × (v : Json) × HasRole role.Interface interface place r v
-    × Breaks (members_in interface) (IsEarlierId interface place) broken r v
+IsBroken interface place broken = (r : Role) × (v : Json) × HasRole role.Interface interface place r v × Breaks interface place broken r v
 
 -- A rule is broken at a place of a document, which is an interface or a list of interfaces.
 abbrev pub IsBreach : Json → List ℕ → LocalRule → Type 0

@@ -1,9 +1,8 @@
 -- Rules on identifiers and names.
-use Rattle.std.specs.Prelude.{◌≡◌, ℕ, ◌<◌, ◌⊎◌, List, Bool, nat_eq, length, if◌then◌else◌, IsTrue, codes}
+use Rattle.std.specs.Prelude.{◌≡◌, ℕ, ◌<◌, ◌⊎◌, List, nat_eq, length, if◌then◌else◌, IsTrue, codes}
 use Rattle.std.specs.List.{starts_with}
 use Rattle.dtmi_name.specs.Grammar.{NameText, Identifier, HasDtmiForm, is_reserved}
 use Rattle.json_tree.specs.Values.{Json, null, truth, number, text, array, object}
-use Rattle.local_rules.specs.declared.role.Naming.{Naming}
 use Rattle.local_rules.specs.declared.role.Role.{Role}
 use Rattle.local_rules.specs.declared.role.Role.TheVariants as role
 
@@ -18,7 +17,7 @@ abbrev pub id_use : Role → List ℕ → IdUse
 id_use role.InterfaceId bytes = of_interface
 id_use role.InterfaceReference bytes = of_interface
 id_use role.Extends bytes = of_interface
-id_use (role.Parent repeats) bytes = of_interface
+id_use role.Parent bytes = of_interface
 id_use role.ElementId bytes = of_element
 id_use (role.Schema part) bytes = if starts_with nat_eq bytes (codes "dtmi:") then of_element else no_id
 id_use other bytes = no_id
@@ -64,7 +63,7 @@ LongElementId r v = OfText (λ bytes. (id_use r bytes ≡ of_element) × (2048 <
 
 -- `name` is not of the name grammar with 1 to 64 bytes.
 abbrev pub BadName : Role → Json → Type 0
-BadName r v = (n : Naming) × (repeats : Bool) × (r ≡ role.Name n repeats) × OfText (λ bytes. NameText bytes → ⊥) v
+BadName r v = (r ≡ role.Name) × OfText (λ bytes. NameText bytes → ⊥) v
 
 -- An `@id`.
 abbrev pub IsIdRole : Role → Type 0

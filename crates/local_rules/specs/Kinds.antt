@@ -15,11 +15,11 @@ use Rattle.local_rules.specs.declared.role.Role.TheVariants as role
 
 abbrev pub kind_of : Role → Kind
 kind_of role.Interface = kind.Object
-kind_of (role.Content repeats) = kind.Object
-kind_of (role.RelationshipProperty repeats) = kind.Object
+kind_of role.Content = kind.Object
+kind_of role.RelationshipProperty = kind.Object
 kind_of (role.Payload part) = kind.Object
-kind_of (role.Field repeats) = kind.Object
-kind_of (role.EnumEntry k repeats same_value) = kind.Object
+kind_of role.Field = kind.Object
+kind_of (role.EnumEntry k) = kind.Object
 kind_of role.NamedSchema = kind.Object
 kind_of (role.Schema part) = kind.TextOrObject
 kind_of role.Contents = kind.List
@@ -31,21 +31,21 @@ kind_of role.Context = kind.TextOrList
 kind_of (role.Type position) = kind.TextOrList
 kind_of role.Extends = kind.TextOrList
 kind_of (role.Localized which) = kind.TextOrObject
-kind_of (role.LocalizedText which tagged) = kind.Text
-kind_of role.Entry = kind.Text
-kind_of (role.Parent repeats) = kind.Text
+kind_of (role.LocalizedText which) = kind.Text
+kind_of role.ListedText = kind.Text
+kind_of role.Parent = kind.Text
 kind_of role.InterfaceId = kind.Text
 kind_of role.ElementId = kind.Text
 kind_of role.InterfaceReference = kind.Text
 kind_of role.Comment = kind.Text
-kind_of (role.Name naming repeats) = kind.Text
+kind_of role.Name = kind.Text
 kind_of role.CommandType = kind.Text
 kind_of role.Unit = kind.Text
 kind_of role.ValueSchema = kind.Text
 kind_of role.Writable = kind.Truth
 kind_of role.MinMultiplicity = kind.Number
 kind_of role.MaxMultiplicity = kind.Number
-kind_of (role.EnumValue k same_value) = kind.NumberOrText
+kind_of (role.EnumValue k) = kind.NumberOrText
 kind_of role.Unknown = kind.Any
 
 abbrev pub is_of_kind : Kind → Json → Bool
@@ -76,7 +76,7 @@ UnknownKey r = r ≡ role.Unknown
 abbrev pub needed_keys : Role → Option Element → List Key
 needed_keys role.NamedSchema (Some e) = key.Id ∷ required e
 needed_keys r (Some e) = required e
-needed_keys (role.Content repeats) None = key.Type ∷ []
+needed_keys role.Content None = key.Type ∷ []
 needed_keys role.NamedSchema None = key.Type ∷ []
 needed_keys (role.Schema part) None = key.Type ∷ []
 needed_keys r None = []

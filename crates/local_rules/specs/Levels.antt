@@ -5,24 +5,25 @@ use Rattle.json_decimal.specs.Number.{Number}
 use Rattle.json_tree.specs.Values.{Json, text, object, Members}
 use Rattle.dtdl_terms.specs.Primitives.{primitive_name}
 use Rattle.dtdl_terms.specs.declared.primitive.Primitive.{Primitive}
-use Rattle.local_rules.specs.Members.{value_in, text_in, elements_in, members_in}
-use Rattle.local_rules.specs.Roles.{type_of, holds_some}
+use Rattle.local_rules.specs.Members.{value_in, text_in, entries_in, members_in}
+use Rattle.local_rules.specs.Roles.{type_of}
+use Rattle.local_rules.specs.Repeats.{holds_some}
 use Rattle.local_rules.specs.Identifiers.{OfText}
 use Rattle.local_rules.specs.declared.role.Element.{Element}
 use Rattle.local_rules.specs.declared.role.Element.TheVariants as element
 use Rattle.local_rules.specs.declared.role.Position.TheVariants as position
 use Rattle.local_rules.specs.declared.role.SchemaUse.{SchemaUse}
-use Rattle.local_rules.specs.declared.role.SchemaUse.TheVariants as place
+use Rattle.local_rules.specs.declared.role.SchemaUse.TheVariants as schema_use
 use Rattle.local_rules.specs.declared.role.Role.{Role}
 use Rattle.local_rules.specs.declared.role.Role.TheVariants as role
 
-abbrev pub elements_under : Option Json → List Json
-elements_under None = []
-elements_under (Some v) = elements_in v
+abbrev pub entries_under : Option Json → List Json
+entries_under None = []
+entries_under (Some v) = entries_in v
 
 -- The elements under a key.
-abbrev pub elements_at : List ℕ → Json → List Json
-elements_at key v = elements_under (value_in key v)
+abbrev pub entries_at : List ℕ → Json → List Json
+entries_at key v = entries_under (value_in key v)
 
 -- The schemas that an interface names, by their `@id`: the entries of `schemas` that are objects with a text `@id`.
 abbrev pub id_in : Json → Option (List ℕ)
@@ -33,7 +34,7 @@ abbrev pub has_id : List ℕ → Json → Bool
 has_id bytes v = holds_some (λ id. bytes_eq id bytes) (id_in v)
 
 abbrev pub schema_named : Members Number → List ℕ → Option Json
-schema_named ms bytes = find (has_id bytes) (elements_at (codes "schemas") (object ms))
+schema_named ms bytes = find (has_id bytes) (entries_at (codes "schemas") (object ms))
 
 abbrev pub IsPrimitive : List ℕ → Type 0
 IsPrimitive bytes = (p : Primitive) × (primitive_name p ≡ bytes)
@@ -53,7 +54,7 @@ abbrev pub parts_by : Option Element → Json → List Json
 parts_by (Some element.Array) v = option_to_list (value_in (codes "elementSchema") v)
 parts_by (Some element.Map) v = option_to_list (option_and_then (value_in (codes "schema")) (value_in (codes "mapKey") v))
     ++ option_to_list (option_and_then (value_in (codes "schema")) (value_in (codes "mapValue") v))
-parts_by (Some element.Object) v = filter_map (value_in (codes "schema")) (elements_at (codes "fields") v)
+parts_by (Some element.Object) v = filter_map (value_in (codes "schema")) (entries_at (codes "fields") v)
 parts_by other v = []
 
 abbrev pub schema_parts : Json → List Json
@@ -81,7 +82,7 @@ ReachesWithin ms (suc n) v = (type : Element) × (parts : List Json) × IsComple
 
 -- An outer schema lies in no other complex schema.
 abbrev pub IsOuter : Role → Type 0
-IsOuter r = (r ≡ role.Schema place.Outer) ⊎ (r ≡ role.Schema place.Property) ⊎ (r ≡ role.NamedSchema)
+IsOuter r = (r ≡ role.Schema schema_use.Outer) ⊎ (r ≡ role.Schema schema_use.Property) ⊎ (r ≡ role.NamedSchema)
 
 -- An outer schema has a level over 5 (DTDL v2, "Schemas").
 abbrev pub TooDeep : Members Number → Role → Json → Type 0
@@ -89,4 +90,4 @@ TooDeep ms r v = IsOuter r × HasLevel ms 6 v
 
 -- The schema of a property is or reaches an array (DTDL v2, "Property").
 abbrev pub ArrayInProperty : Members Number → Role → Json → Type 0
-ArrayInProperty ms r v = (r ≡ role.Schema place.Property) × ((n : ℕ) × ReachesWithin ms n v)
+ArrayInProperty ms r v = (r ≡ role.Schema schema_use.Property) × ((n : ℕ) × ReachesWithin ms n v)

@@ -8,8 +8,8 @@ pub mod Identifiers
 pub mod Texts
 pub mod Lists
 pub mod Quantities
+pub mod Repeats
+pub mod Languages
 pub mod Levels
 pub mod Breaches
-pub mod Choices
-pub mod Firsts
-pub mod Repeated
+pub mod Machinery

@@ -26,13 +26,13 @@ text_in (text bytes) = Some bytes
 text_in (array vs) = None
 text_in (object ms) = None
 
-abbrev pub elements_in : Json → List Json
-elements_in null = []
-elements_in (truth b) = []
-elements_in (number n) = []
-elements_in (text bytes) = []
-elements_in (array vs) = list_of vs
-elements_in (object ms) = []
+abbrev pub entries_in : Json → List Json
+entries_in null = []
+entries_in (truth b) = []
+entries_in (number n) = []
+entries_in (text bytes) = []
+entries_in (array vs) = list_of vs
+entries_in (object ms) = []
 
 abbrev pub members_in : Json → Members Number
 members_in null = no_members

@@ -1,12 +1,12 @@
 -- Rules on the values of enums, on the keys of maps and on multiplicities.
-use Rattle.std.specs.Prelude.{◌≡◌, ◌≢◌, ℕ, ◌⊎◌, Bool, ℤ, pos, ◌≤ℤ◌, FitsSigned, codes, List}
+use Rattle.std.specs.Prelude.{◌≡◌, ◌≢◌, ℕ, ◌⊎◌, ℤ, pos, ◌≤ℤ◌, FitsSigned, codes, List}
 use Rattle.std.specs.Int.{w32}
 use Rattle.json_decimal.specs.Number.{Number, zero_number}
 use Rattle.json_decimal.specs.Comparing.{IsWhole}
 use Rattle.json_tree.specs.Values.{Json, number, text}
-use Rattle.local_rules.specs.declared.role.SchemaUse.TheVariants as place
-use Rattle.local_rules.specs.declared.role.ValueKind.{ValueKind}
-use Rattle.local_rules.specs.declared.role.ValueKind.TheVariants as kind
+use Rattle.local_rules.specs.declared.role.SchemaUse.TheVariants as schema_use
+use Rattle.local_rules.specs.declared.role.ValueSchema.{ValueSchema}
+use Rattle.local_rules.specs.declared.role.ValueSchema.TheVariants as value_schemas
 use Rattle.local_rules.specs.declared.role.Role.{Role}
 use Rattle.local_rules.specs.declared.role.Role.TheVariants as role
 
@@ -18,21 +18,21 @@ BadValueSchema r v = (r ≡ role.ValueSchema) × (v ≢ text (codes "integer")) 
 abbrev pub IsInteger : Json → Type 0
 IsInteger v = (n : Number) × (z : ℤ) × (v ≡ number n) × FitsSigned w32 z × IsWhole n z
 
-abbrev pub IsWord : Json → Type 0
-IsWord v = (bytes : List ℕ) × (v ≡ text bytes)
+abbrev pub IsString : Json → Type 0
+IsString v = (bytes : List ℕ) × (v ≡ text bytes)
 
 -- The value is none of the kind that its `valueSchema` asks for.
-abbrev pub IsNoneOf : ValueKind → Json → Type 0
-IsNoneOf kind.Integer v = IsInteger v → ⊥
-IsNoneOf kind.Word v = IsWord v → ⊥
-IsNoneOf kind.Neither v = ⊥
+abbrev pub IsNoneOf : ValueSchema → Json → Type 0
+IsNoneOf value_schemas.Integer v = IsInteger v → ⊥
+IsNoneOf value_schemas.String v = IsString v → ⊥
+IsNoneOf value_schemas.Neither v = ⊥
 
 abbrev pub BadEnumValue : Role → Json → Type 0
-BadEnumValue r v = (k : ValueKind) × (same_value : Bool) × (r ≡ role.EnumValue k same_value) × IsNoneOf k v
+BadEnumValue r v = (k : ValueSchema) × (r ≡ role.EnumValue k) × IsNoneOf k v
 
 -- The schema of a map's key is not `string` (DTDL v2, "Map").
 abbrev pub BadMapKey : Role → Json → Type 0
-BadMapKey r v = (r ≡ role.Schema place.MapKey) × (v ≢ text (codes "string"))
+BadMapKey r v = (r ≡ role.Schema schema_use.MapKey) × (v ≢ text (codes "string"))
 
 -- A whole number from 1 to 2,147,483,647. The range is this project's own.
 abbrev pub IsMultiplicity : Json → Type 0

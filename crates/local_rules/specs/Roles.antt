@@ -1,13 +1,9 @@
 -- The role of each place of an interface, from the role of what it stands in and its key or position.
-use Rattle.std.specs.Prelude.{◌≡◌, ℕ, List, [], ◌∷◌, ◌++◌, take, map, length, Bool, false, ◌&&◌, ◌==◌, nat_eq, nat_le, Option, Some, None, if◌then◌else◌, bytes_eq, codes, slice_get, find, filter_map, option_and_then, option_to_list}
-use Rattle.std.specs.List.{list_any, list_all, slice_split}
-use Rattle.std.specs.Ordering.{int_eq}
-use Rattle.std.proofs.Math.Bool.{beq}
-use Rattle.std.specs.Char.{is_ascii_alphabetic, is_ascii_alphanumeric}
+use Rattle.std.specs.Prelude.{◌≡◌, ℕ, List, [], ◌∷◌, ◌++◌, Option, Some, None, if◌then◌else◌, bytes_eq, codes, find, filter_map, option_and_then, option_to_list}
 use Rattle.json_decimal.specs.Number.{Number}
 use Rattle.json_tree.specs.Values.{Json, null, truth, number, text, array, object, Members}
 use Rattle.json_tree.specs.Places.{IsPart, member_at}
-use Rattle.local_rules.specs.Members.{list_of, value_at, value_in, text_in}
+use Rattle.local_rules.specs.Members.{list_of, value_at, text_in}
 use Rattle.local_rules.specs.Tables.{key_text, required, optional, type_text, types_of}
 use Rattle.local_rules.specs.declared.key.Key.{Key}
 use Rattle.local_rules.specs.declared.key.Key.TheVariants as key
@@ -15,27 +11,14 @@ use Rattle.local_rules.specs.declared.role.Element.{Element}
 use Rattle.local_rules.specs.declared.role.Element.TheVariants as element
 use Rattle.local_rules.specs.declared.role.Position.{Position}
 use Rattle.local_rules.specs.declared.role.Position.TheVariants as position
-use Rattle.local_rules.specs.declared.role.Naming.TheVariants as naming
 use Rattle.local_rules.specs.declared.role.PayloadUse.{PayloadUse}
 use Rattle.local_rules.specs.declared.role.PayloadUse.TheVariants as payload
-use Rattle.local_rules.specs.declared.role.SchemaUse.TheVariants as place
-use Rattle.local_rules.specs.declared.role.ValueKind.{ValueKind}
-use Rattle.local_rules.specs.declared.role.ValueKind.TheVariants as kind
+use Rattle.local_rules.specs.declared.role.SchemaUse.TheVariants as schema_use
+use Rattle.local_rules.specs.declared.role.ValueSchema.{ValueSchema}
+use Rattle.local_rules.specs.declared.role.ValueSchema.TheVariants as value_schemas
 use Rattle.local_rules.specs.declared.role.Localized.TheVariants as localized
 use Rattle.local_rules.specs.declared.role.Role.{Role}
 use Rattle.local_rules.specs.declared.role.Role.TheVariants as role
-
--- ---- keys of localized texts
--- A language code: `[A-Za-z]{1,8}(-[A-Za-z0-9]{1,8})*`. The form is this project's own; `-` is 45.
-abbrev pub is_subtag : (ℕ → Bool) → List ℕ → Bool
-is_subtag test bytes = nat_le 1 (length bytes) && nat_le (length bytes) 8 && list_all test bytes
-
-abbrev pub are_subtags : List (List ℕ) → Bool
-are_subtags [] = false
-are_subtags (first ∷ more) = is_subtag is_ascii_alphabetic first && list_all (is_subtag is_ascii_alphanumeric) more
-
-abbrev pub is_language : List ℕ → Bool
-is_language bytes = are_subtags (slice_split (λ b. b == 45) bytes)
 
 -- ---- objects
 -- The first of a position's types that has this text.
@@ -71,11 +54,11 @@ type_of p ms = option_and_then (type_in p) (value_at (codes "@type") ms)
 -- property, whatever their `@type` names; an entry of `contents` and a schema are what their `@type` names.
 abbrev pub element_of : Role → Members Number → Option Element
 element_of role.Interface ms = Some element.Interface
-element_of (role.Content repeats) ms = type_of position.Content ms
-element_of (role.RelationshipProperty repeats) ms = Some element.Property
+element_of role.Content ms = type_of position.Content ms
+element_of role.RelationshipProperty ms = Some element.Property
 element_of (role.Payload part) ms = Some element.Payload
-element_of (role.Field repeats) ms = Some element.Payload
-element_of (role.EnumEntry k repeats same_value) ms = Some element.EnumEntry
+element_of role.Field ms = Some element.Payload
+element_of (role.EnumEntry k) ms = Some element.EnumEntry
 element_of role.NamedSchema ms = type_of position.Schema ms
 element_of (role.Schema part) ms = type_of position.Schema ms
 element_of other ms = None
@@ -83,8 +66,8 @@ element_of other ms = None
 -- The position of the `@type` of an object in this role.
 abbrev pub position_of : Role → Position
 position_of role.Interface = position.Interface
-position_of (role.Content repeats) = position.Content
-position_of (role.RelationshipProperty repeats) = position.Property
+position_of role.Content = position.Content
+position_of role.RelationshipProperty = position.Property
 position_of role.NamedSchema = position.Schema
 position_of (role.Schema part) = position.Schema
 position_of other = position.Free
@@ -97,39 +80,32 @@ abbrev pub key_of : Element → List ℕ → Option Key
 key_of e bytes = find (λ k. bytes_eq (key_text k) bytes) (keys_of e)
 
 -- What `valueSchema` asks of the values of an enum.
-abbrev pub kind_named : Option (List ℕ) → ValueKind
-kind_named None = kind.Neither
-kind_named (Some bytes) = if bytes_eq bytes (codes "integer") then kind.Integer else if bytes_eq bytes (codes "string") then kind.Word else kind.Neither
+abbrev pub schema_of_values_named : Option (List ℕ) → ValueSchema
+schema_of_values_named None = value_schemas.Neither
+schema_of_values_named (Some bytes) = if bytes_eq bytes (codes "integer") then value_schemas.Integer else if bytes_eq bytes (codes "string") then value_schemas.String else value_schemas.Neither
 
-abbrev pub value_kind : Members Number → ValueKind
-value_kind ms = kind_named (option_and_then text_in (value_at (codes "valueSchema") ms))
-
-abbrev pub name_role : Role → Role
-name_role (role.Content repeats) = role.Name naming.Content repeats
-name_role (role.RelationshipProperty repeats) = role.Name naming.Content repeats
-name_role (role.Field repeats) = role.Name naming.Field repeats
-name_role (role.EnumEntry k repeats same_value) = role.Name naming.EnumEntry repeats
-name_role other = role.Name naming.Alone false
+abbrev pub schema_of_values : Members Number → ValueSchema
+schema_of_values ms = schema_of_values_named (option_and_then text_in (value_at (codes "valueSchema") ms))
 
 abbrev pub enum_value_role : Role → Role
-enum_value_role (role.EnumEntry k repeats same_value) = role.EnumValue k same_value
-enum_value_role other = role.EnumValue kind.Neither false
+enum_value_role (role.EnumEntry k) = role.EnumValue k
+enum_value_role other = role.EnumValue value_schemas.Neither
 
 abbrev pub content_schema_role : Element → Role
 content_schema_role element.Component = role.InterfaceReference
-content_schema_role element.Property = role.Schema place.Property
-content_schema_role other = role.Schema place.Outer
+content_schema_role element.Property = role.Schema schema_use.Property
+content_schema_role other = role.Schema schema_use.Outer
 
 abbrev pub payload_schema_role : PayloadUse → Role
-payload_schema_role payload.Command = role.Schema place.Outer
-payload_schema_role payload.MapKey = role.Schema place.MapKey
-payload_schema_role payload.MapValue = role.Schema place.Inner
+payload_schema_role payload.Command = role.Schema schema_use.Outer
+payload_schema_role payload.MapKey = role.Schema schema_use.MapKey
+payload_schema_role payload.MapValue = role.Schema schema_use.Inner
 
 abbrev pub schema_role : Role → Element → Role
-schema_role (role.Content repeats) e = content_schema_role e
-schema_role (role.RelationshipProperty repeats) e = role.Schema place.Property
+schema_role role.Content e = content_schema_role e
+schema_role role.RelationshipProperty e = role.Schema schema_use.Property
 schema_role (role.Payload part) e = payload_schema_role part
-schema_role other e = role.Schema place.Inner
+schema_role other e = role.Schema schema_use.Inner
 
 abbrev pub id_role : Element → Role
 id_role element.Interface = role.InterfaceId
@@ -145,16 +121,16 @@ key_role r e ms key.CommandType = role.CommandType
 key_role r e ms key.Contents = role.Contents
 key_role r e ms key.Description = role.Localized localized.Description
 key_role r e ms key.DisplayName = role.Localized localized.DisplayName
-key_role r e ms key.ElementSchema = role.Schema place.Inner
+key_role r e ms key.ElementSchema = role.Schema schema_use.Inner
 key_role r e ms key.EnumValue = enum_value_role r
-key_role r e ms key.EnumValues = role.EnumValues (value_kind ms)
+key_role r e ms key.EnumValues = role.EnumValues (schema_of_values ms)
 key_role r e ms key.Extends = role.Extends
 key_role r e ms key.Fields = role.Fields
 key_role r e ms key.MapKey = role.Payload payload.MapKey
 key_role r e ms key.MapValue = role.Payload payload.MapValue
 key_role r e ms key.MaxMultiplicity = role.MaxMultiplicity
 key_role r e ms key.MinMultiplicity = role.MinMultiplicity
-key_role r e ms key.Name = name_role r
+key_role r e ms key.Name = role.Name
 key_role r e ms key.Properties = role.Properties
 key_role r e ms key.Request = role.Payload payload.Command
 key_role r e ms key.Response = role.Payload payload.Command
@@ -174,10 +150,10 @@ abbrev pub type_alone : Role → List ℕ → Option Role
 type_alone r bytes = if bytes_eq bytes (codes "@type") then Some (role.Type (position_of r)) else None
 
 abbrev pub untyped_role : Role → List ℕ → Option Role
-untyped_role (role.Content repeats) bytes = type_alone (role.Content repeats) bytes
+untyped_role role.Content bytes = type_alone role.Content bytes
 untyped_role role.NamedSchema bytes = type_alone role.NamedSchema bytes
 untyped_role (role.Schema part) bytes = type_alone (role.Schema part) bytes
-untyped_role (role.Localized which) bytes = Some (role.LocalizedText which (is_language bytes))
+untyped_role (role.Localized which) bytes = Some (role.LocalizedText which)
 untyped_role other bytes = None
 
 abbrev pub element_member : Role → Members Number → Option Element → List ℕ → Option Role
@@ -189,47 +165,17 @@ abbrev pub member_role : Role → Members Number → List ℕ → Option Role
 member_role r ms bytes = element_member r ms (element_of r ms) bytes
 
 -- ---- entries of lists
--- Whether the entry at a position has what an earlier one has too.
-abbrev pub holds_some : {X : Type 0} → (X → Bool) → Option X → Bool
-holds_some test None = false
-holds_some test (Some x) = test x
-
-abbrev pub is_among : {X : Type 0} → (X → X → Bool) → List (Option X) → Option X → Bool
-is_among same earlier None = false
-is_among same earlier (Some x) = list_any (holds_some (λ y. same y x)) earlier
-
-abbrev pub repeats : {X : Type 0} → (X → X → Bool) → List (Option X) → ℕ → Bool
-repeats same xs i = is_among same (take i xs) (option_and_then (λ x. x) (slice_get xs i))
-
-abbrev pub name_in : Json → Option (List ℕ)
-name_in v = option_and_then text_in (value_in (codes "name") v)
-
-abbrev pub repeats_name : List Json → ℕ → Bool
-repeats_name vs i = repeats bytes_eq (map name_in vs) i
-
--- Enum values are equal as numbers or as texts.
-abbrev pub number_eq : Number → Number → Bool
-number_eq a b = beq a.negative b.negative && nat_eq a.coefficient b.coefficient && int_eq a.exponent b.exponent
-
-abbrev pub same_value : Json → Json → Bool
-same_value (number a) (number b) = number_eq a b
-same_value (text a) (text b) = bytes_eq a b
-same_value other another = false
-
-abbrev pub repeats_value : List Json → ℕ → Bool
-repeats_value vs i = repeats same_value (map (value_in (codes "enumValue")) vs) i
-
--- The role of the entry at a position of a list that stands in a role.
-abbrev pub entry_role : Role → List Json → ℕ → Option Role
-entry_role role.Contents vs i = Some (role.Content (repeats_name vs i))
-entry_role role.Schemas vs i = Some role.NamedSchema
-entry_role role.Properties vs i = Some (role.RelationshipProperty (repeats_name vs i))
-entry_role role.Fields vs i = Some (role.Field (repeats_name vs i))
-entry_role (role.EnumValues k) vs i = Some (role.EnumEntry k (repeats_name vs i) (repeats_value vs i))
-entry_role role.Context vs i = Some role.Entry
-entry_role (role.Type p) vs i = Some role.Entry
-entry_role role.Extends vs i = Some (role.Parent (repeats bytes_eq (map text_in vs) i))
-entry_role other vs i = None
+-- The role of each entry of a list that stands in a role.
+abbrev pub entry_role : Role → Option Role
+entry_role role.Contents = Some role.Content
+entry_role role.Schemas = Some role.NamedSchema
+entry_role role.Properties = Some role.RelationshipProperty
+entry_role role.Fields = Some role.Field
+entry_role (role.EnumValues k) = Some (role.EnumEntry k)
+entry_role role.Context = Some role.ListedText
+entry_role (role.Type p) = Some role.ListedText
+entry_role role.Extends = Some role.Parent
+entry_role other = None
 
 -- The role of a part of a value that stands in a role.
 abbrev pub part_role : Role → Json → ℕ → Option Role
@@ -237,7 +183,7 @@ part_role r null i = None
 part_role r (truth b) i = None
 part_role r (number n) i = None
 part_role r (text bytes) i = None
-part_role r (array vs) i = entry_role r (list_of vs) i
+part_role r (array vs) i = entry_role r
 part_role r (object ms) i = option_and_then (λ m. member_role r ms m.0) (member_at ms i)
 
 -- At a place of a value that stands in the first role stands this part, in the second role.

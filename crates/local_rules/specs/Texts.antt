@@ -1,5 +1,5 @@
 -- Rules on comments, localized texts, units and command types.
-use Rattle.std.specs.Prelude.{◌≡◌, ◌≢◌, ℕ, ◌<◌, ◌⊎◌, List, Bool, false, not, ◌&&◌, nat_le, nat_lt, count_by, codes}
+use Rattle.std.specs.Prelude.{◌≡◌, ◌≢◌, ℕ, ◌<◌, ◌⊎◌, List, not, ◌&&◌, nat_le, nat_lt, count_by, codes}
 use Rattle.json_tree.specs.Values.{Json, text}
 use Rattle.local_rules.specs.Identifiers.{OfText}
 use Rattle.local_rules.specs.Types.{IsName}
@@ -14,7 +14,7 @@ scalar_values bytes = count_by (λ b. not (nat_le 128 b && nat_lt b 192)) bytes
 
 -- The role is that of a localized text, or of one of its texts.
 abbrev pub IsTextOf : Localized → Role → Type 0
-IsTextOf which r = (r ≡ role.Localized which) ⊎ ((tagged : Bool) × (r ≡ role.LocalizedText which tagged))
+IsTextOf which r = (r ≡ role.Localized which) ⊎ (r ≡ role.LocalizedText which)
 
 -- A text of `displayName` has more than 64 scalar values (DTDL v2, "Interface").
 abbrev pub LongDisplayName : Role → Json → Type 0
@@ -27,10 +27,6 @@ LongDescription r v = IsTextOf localized.Description r × OfText (λ bytes. 512 
 -- `comment` has more than 512.
 abbrev pub LongComment : Role → Json → Type 0
 LongComment r v = (r ≡ role.Comment) × OfText (λ bytes. 512 < scalar_values bytes) v
-
--- The key of a localized text is no language code.
-abbrev pub BadLanguage : Role → Type 0
-BadLanguage r = (which : Localized) × (r ≡ role.LocalizedText which false)
 
 -- The type of a command is neither `synchronous` nor `asynchronous`.
 abbrev pub BadCommandType : Role → Json → Type 0

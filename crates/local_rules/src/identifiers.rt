@@ -2,8 +2,8 @@
 
 ghost use Rattle.std.specs.Prelude.{◌≡◌, ◌↔◌, IsTrue};
 ghost use Rattle.json_tree.specs.View.{view};
-ghost use Rattle.local_rules.specs.Choices.{BreaksAlone};
-ghost use Rattle.local_rules.specs.Firsts.{IdBreaks, IdBreaksAt, IsFirstAmong, further_rules, id_rules, schema_id_use};
+ghost use Rattle.local_rules.specs.Breaches.{BreaksAlone};
+ghost use Rattle.local_rules.specs.Machinery.Firsts.{IdBreaks, IdBreaksAt, IsFirstAmong, further_rules, id_rules, schema_id_use};
 ghost use Rattle.local_rules.specs.Identifiers.{HasForm, of_element, of_interface};
 
 use crate::lists::has_too_many_parents;
@@ -95,15 +95,5 @@ pub fn parents_rule(tree: &Tree) -> Option<LocalRule>
     match interface_id_rule(tree) {
         Some(rule) => Some(rule),
         None => has_too_many_parents(tree).then_some(LocalRule::TooManyParents),
-    }
-}
-
-/// The first rule that an entry of `extends` breaks.
-pub fn parent_rule(repeats: bool, tree: &Tree) -> Option<LocalRule>
-    ensures { IsFirstAmong (λ broken. BreaksAlone broken (Role.Parent repeats) (view tree.now)) (further_rules (Role.Parent repeats)) result }
-{
-    match interface_id_rule(tree) {
-        Some(rule) => Some(rule),
-        None => repeats.then_some(LocalRule::RepeatedParent),
     }
 }

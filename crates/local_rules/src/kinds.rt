@@ -20,10 +20,10 @@ pub fn kind_of(role: Role) -> Kind
 {
     match role {
         Role::Interface
-        | Role::Content { .. }
-        | Role::RelationshipProperty { .. }
+        | Role::Content
+        | Role::RelationshipProperty
         | Role::Payload { .. }
-        | Role::Field { .. }
+        | Role::Field
         | Role::EnumEntry { .. }
         | Role::NamedSchema => Kind::Object,
         Role::Schema { .. } | Role::Localized { .. } => Kind::TextOrObject,
@@ -34,13 +34,13 @@ pub fn kind_of(role: Role) -> Kind
         | Role::EnumValues { .. } => Kind::List,
         Role::Context | Role::Type { .. } | Role::Extends => Kind::TextOrList,
         Role::LocalizedText { .. }
-        | Role::Entry
-        | Role::Parent { .. }
+        | Role::ListedText
+        | Role::Parent
         | Role::InterfaceId
         | Role::ElementId
         | Role::InterfaceReference
         | Role::Comment
-        | Role::Name { .. }
+        | Role::Name
         | Role::CommandType
         | Role::Unit
         | Role::ValueSchema => Kind::Text,
@@ -125,7 +125,7 @@ fn lacks_type(role: Role, members: &[Member]) -> bool
     ensures { IsTrue result ↔ LacksKeyOf (needed_keys role None) (members_view members.now) }
 {
     match role {
-        Role::Content { .. } | Role::NamedSchema | Role::Schema { .. } => {
+        Role::Content | Role::NamedSchema | Role::Schema { .. } => {
             lacks_one_of(&[Key::Type], members)
         }
         _ => false,

@@ -4,7 +4,7 @@ ghost use Rattle.std.specs.Prelude.{◌≡◌, ◌==◌, ◌<◌, ◌&&◌, ◌�
 ghost use Rattle.std.specs.List.{list_all, slice_split};
 ghost use Rattle.std.specs.Option.{option_map_or};
 ghost use Rattle.std.specs.Char.{is_ascii_alphabetic, is_ascii_alphanumeric};
-ghost use Rattle.local_rules.specs.Roles.{is_language, is_subtag};
+ghost use Rattle.local_rules.specs.Languages.{is_language, is_subtag};
 
 /// Whether a text is a language code: 1 to 8 letters, and then subtags of 1 to 8 letters or digits, each behind a
 /// `-`. The form is this project's own.
@@ -12,7 +12,7 @@ pub fn is_language(text: &str) -> bool
     ensures { result ≡ is_language text.now }
 {
     let (first, mut rest) = first_subtag(text.as_bytes());
-    if !is_word(first) {
+    if !is_primary_subtag(first) {
         return false;
     }
     'subtags: while let Some(bytes) = rest {
@@ -26,7 +26,7 @@ pub fn is_language(text: &str) -> bool
 }
 
 /// Whether these are 1 to 8 letters.
-fn is_word(bytes: &[u8]) -> bool
+fn is_primary_subtag(bytes: &[u8]) -> bool
     ensures { result ≡ is_subtag is_ascii_alphabetic bytes.now }
 {
     has_subtag_length(bytes) && are_letters(bytes)

@@ -3,9 +3,9 @@
 ghost use Rattle.std.specs.Prelude.{◌≡◌, ◌↔◌, ◌<◌, length, IsTrue};
 ghost use Rattle.json_tree.specs.View.{view};
 ghost use Rattle.local_rules.specs.Lists.{TooManyContents, TooManyFields, TooManyParents};
-ghost use Rattle.local_rules.specs.Members.{elements_in};
+ghost use Rattle.local_rules.specs.Members.{entries_in};
 
-use crate::members::elements_in;
+use crate::members::entries_in;
 use crate::role::Role;
 use json_tree::Tree;
 
@@ -23,9 +23,9 @@ const MOST_ENUM_VALUES: usize = 100;
 
 /// Whether a value is a list with more entries than this.
 fn has_more(tree: &Tree, most: usize) -> bool
-    ensures { IsTrue result ↔ (most < length (elements_in (view tree.now))) }
+    ensures { IsTrue result ↔ (most < length (entries_in (view tree.now))) }
 {
-    elements_in(tree).len() > most
+    entries_in(tree).len() > most
 }
 
 /// Whether `contents` has too many entries.
@@ -51,7 +51,7 @@ pub fn has_too_many_fields(tree: &Tree) -> bool
 
 /// Whether `enumValues` has too many entries.
 pub fn has_too_many_enum_values(tree: &Tree) -> bool
-    ensures { IsTrue result ↔ (100 < length (elements_in (view tree.now))) }
+    ensures { IsTrue result ↔ (100 < length (entries_in (view tree.now))) }
 {
     has_more(tree, MOST_ENUM_VALUES)
 }

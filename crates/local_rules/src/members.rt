@@ -3,7 +3,7 @@
 ghost use Rattle.std.specs.Prelude.{◌≡◌, map, option_and_then};
 ghost use Rattle.std.specs.Option.{option_map};
 ghost use Rattle.json_tree.specs.View.{view, members_view};
-ghost use Rattle.local_rules.specs.Members.{elements_in, members_in, text_in, value_at, value_in};
+ghost use Rattle.local_rules.specs.Members.{entries_in, members_in, text_in, value_at, value_in};
 
 use json_tree::{Member, Tree};
 
@@ -31,8 +31,8 @@ pub fn members_in(tree: &Tree) -> &[Member]
 
 /// The elements that a value has: none where it is no array.
 #[tactic(auto, using(crate::proofs::Views::views, crate::proofs::Views::lists))]
-pub fn elements_in(tree: &Tree) -> &[Tree]
-    ensures { map view result.now ≡ elements_in (view tree.now) }
+pub fn entries_in(tree: &Tree) -> &[Tree]
+    ensures { map view result.now ≡ entries_in (view tree.now) }
 {
     match tree {
         Tree::List(elements) => elements.as_slice(),

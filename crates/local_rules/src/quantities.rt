@@ -4,12 +4,9 @@ ghost use Rattle.std.specs.Prelude.{◌≡◌, ◌↔◌, IsTrue, codes};
 ghost use Rattle.json_decimal.specs.Decimals.{number_of};
 ghost use Rattle.json_tree.specs.Values.{number as number_value, text};
 ghost use Rattle.json_tree.specs.View.{view};
-ghost use Rattle.local_rules.specs.Choices.{BreaksAlone};
-ghost use Rattle.local_rules.specs.Firsts.{IsFirstAmong, further_rules};
-ghost use Rattle.local_rules.specs.Quantities.{BadMapKey, BadMultiplicity, BadValueSchema, IsInteger, IsMultiplicity, IsNoneOf, IsWord};
+ghost use Rattle.local_rules.specs.Quantities.{BadMapKey, BadMultiplicity, BadValueSchema, IsInteger, IsMultiplicity, IsNoneOf, IsString};
 
-use crate::role::{Role, SchemaUse, ValueKind};
-use crate::rule::LocalRule;
+use crate::role::{Role, SchemaUse, ValueSchema};
 use crate::texts::is_text;
 use json_decimal::Decimal;
 use json_tree::Tree;
@@ -44,8 +41,8 @@ fn is_small(number: &Decimal) -> bool
 
 /// Whether a value is a text.
 #[tactic(auto, using(crate::proofs::Views::views))]
-fn is_word(tree: &Tree) -> bool
-    ensures { IsTrue result ↔ IsWord (view tree.now) }
+fn is_string(tree: &Tree) -> bool
+    ensures { IsTrue result ↔ IsString (view tree.now) }
 {
     match tree {
         Tree::Text(_) => true,
@@ -54,24 +51,14 @@ fn is_word(tree: &Tree) -> bool
 }
 
 /// Whether an enum value is not of the kind that its `valueSchema` asks for.
-fn is_none_of(kind: ValueKind, tree: &Tree) -> bool
-    ensures { IsTrue result ↔ IsNoneOf kind (view tree.now) }
+pub fn is_none_of(value_schema: ValueSchema, tree: &Tree) -> bool
+    ensures { IsTrue result ↔ IsNoneOf value_schema (view tree.now) }
 {
-    match kind {
-        ValueKind::Integer => !is_integer(tree),
-        ValueKind::Word => !is_word(tree),
-        ValueKind::Neither => false,
+    match value_schema {
+        ValueSchema::Integer => !is_integer(tree),
+        ValueSchema::String => !is_string(tree),
+        ValueSchema::Neither => false,
     }
-}
-
-/// The first rule that an enum value breaks.
-pub fn enum_value_rule(kind: ValueKind, same_value: bool, tree: &Tree) -> Option<LocalRule>
-    ensures { IsFirstAmong (λ broken. BreaksAlone broken (Role.EnumValue kind same_value) (view tree.now)) (further_rules (Role.EnumValue kind same_value)) result }
-{
-    if same_value {
-        return Some(LocalRule::DuplicateEnumValue);
-    }
-    is_none_of(kind, tree).then_some(LocalRule::BadEnumValue)
 }
 
 /// Whether a schema is that of a map's key, and not `string`.
@@ -107,7 +94,7 @@ fn is_positive(number: &Decimal) -> bool
 
 /// Whether `minMultiplicity` is not 0.
 #[tactic(auto, using(crate::proofs::Views::views))]
-pub fn is_bad_least(tree: &Tree) -> bool
+pub fn is_bad_min_multiplicity(tree: &Tree) -> bool
     ensures { IsTrue result ↔ BadMultiplicity Role.MinMultiplicity (view tree.now) }
 {
     match tree {
@@ -117,7 +104,7 @@ pub fn is_bad_least(tree: &Tree) -> bool
 }
 
 /// Whether `maxMultiplicity` is no whole number from 1 to 2,147,483,647.
-pub fn is_bad_most(tree: &Tree) -> bool
+pub fn is_bad_max_multiplicity(tree: &Tree) -> bool
     ensures { IsTrue result ↔ BadMultiplicity Role.MaxMultiplicity (view tree.now) }
 {
     !is_multiplicity(tree)

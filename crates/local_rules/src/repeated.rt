@@ -6,8 +6,8 @@ ghost use Rattle.std.specs.List.{list_any};
 ghost use Rattle.json_decimal.specs.Decimals.{number_of};
 ghost use Rattle.json_tree.specs.Values.{text};
 ghost use Rattle.json_tree.specs.View.{view, members_view};
-ghost use Rattle.local_rules.specs.Repeated.{AreRepeats, HasSeen, comparable, compared, number_by, repeats_by, value_by};
-ghost use Rattle.local_rules.specs.Roles.{holds_some, name_in, same_value};
+ghost use Rattle.local_rules.specs.Machinery.Repeated.{AreRepeats, HasSeen, comparable, compared, number_by, repeats_by, value_by};
+ghost use Rattle.local_rules.specs.Repeats.{holds_some, name_in, same_value};
 
 use crate::members::{members_in, text_at, text_in, value_in};
 use dt_base::OutOfMemory;
@@ -26,14 +26,14 @@ pub(crate) struct Digits {
 
 /// What may stand twice, in an order of no meaning.
 #[derive(Clone, Copy, PartialEq, Eq, PartialOrd, Ord)]
-pub(crate) enum Mark<'a> {
+pub(crate) enum ComparisonKey<'a> {
     Number(Digits),
     Text(&'a str),
 }
 
 /// By what entries are compared.
 #[derive(Clone, Copy)]
-pub(crate) enum Sort {
+pub(crate) enum Comparison {
     /// By their names.
     Name,
     /// As texts themselves.
@@ -61,61 +61,61 @@ pub fn name_in(tree: &Tree) -> Option<&str>
 
 /// A value that is a number or a text.
 #[tactic(auto, using(crate::proofs::Views::views))]
-fn mark_in(tree: &Tree) -> Option<Mark<'_>>
+fn comparison_key_in(tree: &Tree) -> Option<ComparisonKey<'_>>
     ensures { option_map value_by result ≡ comparable (view tree.now) }
 {
     match tree {
-        Tree::Number(decimal) => Some(Mark::Number(digits_of(decimal))),
-        Tree::Text(text) => Some(Mark::Text(text.as_str())),
+        Tree::Number(decimal) => Some(ComparisonKey::Number(digits_of(decimal))),
+        Tree::Text(text) => Some(ComparisonKey::Text(text.as_str())),
         Tree::Null | Tree::Bool(_) | Tree::List(_) | Tree::Members(_) => None,
     }
 }
 
-fn text_mark(said: Option<&str>) -> Option<Mark<'_>>
+fn text_key(said: Option<&str>) -> Option<ComparisonKey<'_>>
     ensures { option_map value_by result ≡ option_map (λ t. text t.now) said.entry }
 {
     match said {
-        Some(text) => Some(Mark::Text(text)),
+        Some(text) => Some(ComparisonKey::Text(text)),
         None => None,
     }
 }
 
-fn value_mark(value: Option<&Tree>) -> Option<Mark<'_>>
+fn value_key(value: Option<&Tree>) -> Option<ComparisonKey<'_>>
     ensures { option_map value_by result ≡ option_and_then comparable (option_map (λ t. view t.now) value.entry) }
 {
     match value {
-        Some(value) => mark_in(value),
+        Some(value) => comparison_key_in(value),
         None => None,
     }
 }
 
 /// What an entry is compared by.
-fn mark_of(sort: Sort, entry: &Tree) -> Option<Mark<'_>>
-    ensures { option_map value_by result ≡ compared sort (view entry.now) }
+fn comparison_key_of(comparison: Comparison, entry: &Tree) -> Option<ComparisonKey<'_>>
+    ensures { option_map value_by result ≡ compared comparison (view entry.now) }
 {
-    match sort {
-        Sort::Name => text_mark(name_in(entry)),
-        Sort::Whole => text_mark(text_in(entry)),
-        Sort::Value => value_mark(value_in(entry, "enumValue")),
+    match comparison {
+        Comparison::Name => text_key(name_in(entry)),
+        Comparison::Whole => text_key(text_in(entry)),
+        Comparison::Value => value_key(value_in(entry, "enumValue")),
     }
 }
 
 /// Whether an entry is compared by this.
-fn has_mark(sort: Sort, entry: &Tree, mark: Mark<'_>) -> bool
-    ensures { result ≡ holds_some (λ v. same_value v (value_by mark.entry)) (compared sort (view entry.now)) }
+fn has_key(comparison: Comparison, entry: &Tree, key: ComparisonKey<'_>) -> bool
+    ensures { result ≡ holds_some (λ v. same_value v (value_by key.entry)) (compared comparison (view entry.now)) }
 {
-    match mark_of(sort, entry) {
-        Some(other) => other == mark,
+    match comparison_key_of(comparison, entry) {
+        Some(other) => other == key,
         None => false,
     }
 }
 
 /// Whether one of the entries is compared by this.
-fn any_has_mark(sort: Sort, entries: &[Tree], mark: Mark<'_>) -> bool
-    ensures { result ≡ list_any (holds_some (λ v. same_value v (value_by mark.entry))) (map (compared sort) (map view entries.now)) }
+fn any_has_key(comparison: Comparison, entries: &[Tree], key: ComparisonKey<'_>) -> bool
+    ensures { result ≡ list_any (holds_some (λ v. same_value v (value_by key.entry))) (map (compared comparison) (map view entries.now)) }
 {
     for entry in entries {
-        if has_mark(sort, entry, mark) {
+        if has_key(comparison, entry, key) {
             return true;
         }
     }
@@ -123,22 +123,25 @@ fn any_has_mark(sort: Sort, entries: &[Tree], mark: Mark<'_>) -> bool
 }
 
 /// Whether the entry at a position repeats an earlier one. It compares with each.
-pub(crate) fn repeats_one(sort: Sort, entries: &[Tree], at: usize) -> bool
+pub(crate) fn repeats_one(comparison: Comparison, entries: &[Tree], at: usize) -> bool
     requires { at < length entries.now }
-    ensures { result ≡ repeats_by sort (map view entries.now) at }
+    ensures { result ≡ repeats_by comparison (map view entries.now) at }
 {
-    match mark_of(sort, &entries[at]) {
-        Some(mark) => any_has_mark(sort, &entries[..at], mark),
+    match comparison_key_of(comparison, &entries[at]) {
+        Some(key) => any_has_key(comparison, &entries[..at], key),
         None => false,
     }
 }
 
 /// Puts what an entry is compared by among what was seen, and answers whether it was there.
-fn was_seen<'a>(seen: &mut BTreeSet<Mark<'a>>, mark: Option<Mark<'a>>) -> Result<bool, OutOfMemory>
-    ensures { IfOk result (λ b. HasSeen seen.old seen.new b mark.entry) }
+fn was_seen<'a>(
+    seen: &mut BTreeSet<ComparisonKey<'a>>,
+    key: Option<ComparisonKey<'a>>,
+) -> Result<bool, OutOfMemory>
+    ensures { IfOk result (λ b. HasSeen seen.old seen.new b key.entry) }
 {
-    match mark {
-        Some(mark) => Ok(!seen.insert(mark)?),
+    match key {
+        Some(key) => Ok(!seen.insert(key)?),
         None => Ok(false),
     }
 }
@@ -146,16 +149,16 @@ fn was_seen<'a>(seen: &mut BTreeSet<Mark<'a>>, mark: Option<Mark<'a>>) -> Result
 /// Of each entry whether it repeats an earlier one.
 pub(crate) fn repeats_of_many(
     alloc: Global,
-    sort: Sort,
+    comparison: Comparison,
     entries: &[Tree],
 ) -> Result<Vec<bool>, OutOfMemory>
-    ensures { IfOk result (λ marks. AreRepeats sort (map view entries.now) marks.items) }
+    ensures { IfOk result (λ repeated. AreRepeats comparison (map view entries.now) repeated.items) }
 {
-    let mut marks = Vec::with_capacity(alloc, entries.len())?;
+    let mut repeated = Vec::with_capacity(alloc, entries.len())?;
     let mut seen = BTreeSet::new(alloc);
     for entry in entries {
-        let repeats = was_seen(&mut seen, mark_of(sort, entry))?;
-        marks.push(repeats)?;
+        let repeats = was_seen(&mut seen, comparison_key_of(comparison, entry))?;
+        repeated.push(repeats)?;
     }
-    Ok(marks)
+    Ok(repeated)
 }

@@ -34,19 +34,6 @@ pub enum Position {
     Free,
 }
 
-/// Of which list an element is an entry whose name may repeat an earlier one's.
-#[derive(Clone, Copy, Debug, PartialEq, Eq)]
-pub enum Naming {
-    /// The name of a payload of a command, or of a map's key or value, which stands alone.
-    Alone,
-    /// An entry of `contents` or `properties`.
-    Content,
-    /// An entry of `fields`.
-    Field,
-    /// An entry of `enumValues`.
-    EnumEntry,
-}
-
 /// What a payload describes.
 #[derive(Clone, Copy, Debug, PartialEq, Eq)]
 pub enum PayloadUse {
@@ -73,9 +60,9 @@ pub enum SchemaUse {
 
 /// What the `valueSchema` of an enum asks of its values.
 #[derive(Clone, Copy, Debug, PartialEq, Eq)]
-pub enum ValueKind {
+pub enum ValueSchema {
     Integer,
-    Word,
+    String,
     /// There is no `valueSchema`, or it is neither `integer` nor `string`.
     Neither,
 }
@@ -89,65 +76,37 @@ pub enum Localized {
 
 /// What a place of an interface is for: which kind of value it wants, and which rules hold there. A place that is
 /// under an unknown key, or under a value of a wrong kind, has no role.
-///
-/// `repeats` tells that an earlier entry of the same list has the same name, `same_value` that an earlier enum
-/// entry has the same value.
 #[derive(Clone, Copy, Debug, PartialEq, Eq)]
 pub enum Role {
     Interface,
     /// An entry of `contents`.
-    Content {
-        repeats: bool,
-    },
+    Content,
     /// An entry of a relationship's `properties`.
-    RelationshipProperty {
-        repeats: bool,
-    },
-    Payload {
-        part: PayloadUse,
-    },
+    RelationshipProperty,
+    Payload { part: PayloadUse },
     /// An entry of an object schema's `fields`.
-    Field {
-        repeats: bool,
-    },
+    Field,
     /// An entry of `enumValues`.
-    EnumEntry {
-        kind: ValueKind,
-        repeats: bool,
-        same_value: bool,
-    },
+    EnumEntry { value_schema: ValueSchema },
     /// An entry of an interface's `schemas`.
     NamedSchema,
-    Schema {
-        part: SchemaUse,
-    },
+    Schema { part: SchemaUse },
     Contents,
     Schemas,
     Properties,
     Fields,
-    EnumValues {
-        kind: ValueKind,
-    },
+    EnumValues { value_schema: ValueSchema },
     Context,
-    Type {
-        position: Position,
-    },
+    Type { position: Position },
     Extends,
     /// `displayName` or `description`.
-    Localized {
-        text: Localized,
-    },
-    /// A member of one of these; `tagged` tells that its key is a language code.
-    LocalizedText {
-        text: Localized,
-        tagged: bool,
-    },
+    Localized { text: Localized },
+    /// A member of one of these.
+    LocalizedText { text: Localized },
     /// An entry of a list that is the value of `@type` or `@context`.
-    Entry,
-    /// An entry of `extends`; `repeats` tells that an earlier entry is the same text.
-    Parent {
-        repeats: bool,
-    },
+    ListedText,
+    /// An entry of `extends`.
+    Parent,
     /// The `@id` of an interface.
     InterfaceId,
     /// Any other `@id`.
@@ -155,20 +114,14 @@ pub enum Role {
     /// The `target` of a relationship or the `schema` of a component.
     InterfaceReference,
     Comment,
-    Name {
-        naming: Naming,
-        repeats: bool,
-    },
+    Name,
     CommandType,
     Unit,
     ValueSchema,
     Writable,
     MinMultiplicity,
     MaxMultiplicity,
-    EnumValue {
-        kind: ValueKind,
-        same_value: bool,
-    },
+    EnumValue { value_schema: ValueSchema },
     /// A member whose key is none of its object's.
     Unknown,
 }

@@ -3,12 +3,11 @@
 ghost use Rattle.std.specs.Prelude.{◌≡◌, map, filter_map};
 ghost use Rattle.std.specs.Option.{option_map};
 ghost use Rattle.json_tree.specs.View.{view, members_view};
-ghost use Rattle.local_rules.specs.Roles.{content_schema_role, element_member, element_of, enum_value_role, id_role, key_of, key_role, kind_named, name_role, named_by, only, payload_schema_role, position_of, role_of_key, schema_role, type_alone, type_in, type_of, untyped_role, value_kind};
+ghost use Rattle.local_rules.specs.Roles.{content_schema_role, element_member, element_of, entry_role, enum_value_role, id_role, key_of, key_role, schema_of_values_named, named_by, only, payload_schema_role, position_of, role_of_key, schema_role, type_alone, type_in, type_of, untyped_role, schema_of_values};
 
 use crate::key::Key;
-use crate::languages::is_language;
 use crate::members::{text_at, text_in, value_at};
-use crate::role::{Element, Localized, Naming, PayloadUse, Position, Role, SchemaUse, ValueKind};
+use crate::role::{Element, Localized, PayloadUse, Position, Role, SchemaUse, ValueSchema};
 use crate::tables::{element_named, key_of};
 use json_tree::{Member, Tree};
 
@@ -69,9 +68,9 @@ pub fn element_of(role: Role, members: &[Member]) -> Option<Element>
 {
     match role {
         Role::Interface => Some(Element::Interface),
-        Role::Content { .. } => type_of(Position::Content, members),
-        Role::RelationshipProperty { .. } => Some(Element::Property),
-        Role::Payload { .. } | Role::Field { .. } => Some(Element::Payload),
+        Role::Content => type_of(Position::Content, members),
+        Role::RelationshipProperty => Some(Element::Property),
+        Role::Payload { .. } | Role::Field => Some(Element::Payload),
         Role::EnumEntry { .. } => Some(Element::EnumEntry),
         Role::NamedSchema | Role::Schema { .. } => type_of(Position::Schema, members),
         _ => None,
@@ -84,53 +83,29 @@ pub fn position_of(role: Role) -> Position
 {
     match role {
         Role::Interface => Position::Interface,
-        Role::Content { .. } => Position::Content,
-        Role::RelationshipProperty { .. } => Position::Property,
+        Role::Content => Position::Content,
+        Role::RelationshipProperty => Position::Property,
         Role::NamedSchema | Role::Schema { .. } => Position::Schema,
         _ => Position::Free,
     }
 }
 
 /// What the text of `valueSchema` asks of the values of an enum.
-fn kind_named(text: Option<&str>) -> ValueKind
-    ensures { result ≡ kind_named (option_map (λ t. t.now) text.entry) }
+fn schema_of_values_named(text: Option<&str>) -> ValueSchema
+    ensures { result ≡ schema_of_values_named (option_map (λ t. t.now) text.entry) }
 {
     match text {
-        Some("integer") => ValueKind::Integer,
-        Some("string") => ValueKind::Word,
-        _ => ValueKind::Neither,
+        Some("integer") => ValueSchema::Integer,
+        Some("string") => ValueSchema::String,
+        _ => ValueSchema::Neither,
     }
 }
 
 /// What the `valueSchema` of an enum asks of its values.
-fn value_kind(members: &[Member]) -> ValueKind
-    ensures { result ≡ value_kind (members_view members.now) }
+fn schema_of_values(members: &[Member]) -> ValueSchema
+    ensures { result ≡ schema_of_values (members_view members.now) }
 {
-    kind_named(text_at(members, "valueSchema"))
-}
-
-/// The role of the name of an element in this role.
-fn name_role(role: Role) -> Role
-    ensures { result ≡ name_role role }
-{
-    match role {
-        Role::Content { repeats } | Role::RelationshipProperty { repeats } => Role::Name {
-            naming: Naming::Content,
-            repeats,
-        },
-        Role::Field { repeats } => Role::Name {
-            naming: Naming::Field,
-            repeats,
-        },
-        Role::EnumEntry { repeats, .. } => Role::Name {
-            naming: Naming::EnumEntry,
-            repeats,
-        },
-        _ => Role::Name {
-            naming: Naming::Alone,
-            repeats: false,
-        },
-    }
+    schema_of_values_named(text_at(members, "valueSchema"))
 }
 
 /// The role of the `enumValue` of an element in this role.
@@ -138,14 +113,9 @@ fn enum_value_role(role: Role) -> Role
     ensures { result ≡ enum_value_role role }
 {
     match role {
-        Role::EnumEntry {
-            kind,
-            same_value,
-            ..
-        } => Role::EnumValue { kind, same_value },
+        Role::EnumEntry { value_schema } => Role::EnumValue { value_schema },
         _ => Role::EnumValue {
-            kind: ValueKind::Neither,
-            same_value: false,
+            value_schema: ValueSchema::Neither,
         },
     }
 }
@@ -182,8 +152,8 @@ fn schema_role(role: Role, element: Element) -> Role
     ensures { result ≡ schema_role role element }
 {
     match role {
-        Role::Content { .. } => content_schema_role(element),
-        Role::RelationshipProperty { .. } => Role::Schema {
+        Role::Content => content_schema_role(element),
+        Role::RelationshipProperty => Role::Schema {
             part: SchemaUse::Property,
         },
         Role::Payload { part } => payload_schema_role(part),
@@ -227,7 +197,7 @@ pub fn key_role(role: Role, element: Element, members: &[Member], key: Key) -> R
         },
         Key::EnumValue => enum_value_role(role),
         Key::EnumValues => Role::EnumValues {
-            kind: value_kind(members),
+            value_schema: schema_of_values(members),
         },
         Key::Extends => Role::Extends,
         Key::Fields => Role::Fields,
@@ -239,7 +209,7 @@ pub fn key_role(role: Role, element: Element, members: &[Member], key: Key) -> R
         },
         Key::MaxMultiplicity => Role::MaxMultiplicity,
         Key::MinMultiplicity => Role::MinMultiplicity,
-        Key::Name => name_role(role),
+        Key::Name => Role::Name,
         Key::Properties => Role::Properties,
         Key::Request | Key::Response => Role::Payload {
             part: PayloadUse::Command,
@@ -258,11 +228,8 @@ fn untyped_role(role: Role, key: &str) -> Option<Role>
     ensures { result ≡ untyped_role role key.now }
 {
     match role {
-        Role::Content { .. } | Role::NamedSchema | Role::Schema { .. } => type_alone(role, key),
-        Role::Localized { text } => Some(Role::LocalizedText {
-            text,
-            tagged: is_language(key),
-        }),
+        Role::Content | Role::NamedSchema | Role::Schema { .. } => type_alone(role, key),
+        Role::Localized { text } => Some(Role::LocalizedText { text }),
         _ => None,
     }
 }
@@ -303,5 +270,21 @@ pub fn member_role(
     match element {
         Some(element) => Some(typed_role(role, element, members, key)),
         None => untyped_role(role, key),
+    }
+}
+
+/// The role of each entry of a list in this role.
+pub fn entry_role(list: Role) -> Option<Role>
+    ensures { result ≡ entry_role list }
+{
+    match list {
+        Role::Contents => Some(Role::Content),
+        Role::Schemas => Some(Role::NamedSchema),
+        Role::Properties => Some(Role::RelationshipProperty),
+        Role::Fields => Some(Role::Field),
+        Role::EnumValues { value_schema } => Some(Role::EnumEntry { value_schema }),
+        Role::Context | Role::Type { .. } => Some(Role::ListedText),
+        Role::Extends => Some(Role::Parent),
+        _ => None,
     }
 }

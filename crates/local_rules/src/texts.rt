@@ -5,12 +5,12 @@ ghost use Rattle.dtmi_name.specs.Grammar.{NameText};
 ghost use Rattle.json_tree.specs.Values.{text};
 ghost use Rattle.json_tree.specs.View.{view};
 ghost use Rattle.local_rules.specs.Identifiers.{OfText};
-ghost use Rattle.local_rules.specs.Choices.{BreaksAlone};
-ghost use Rattle.local_rules.specs.Firsts.{IsFirstAmong, further_rules};
+ghost use Rattle.local_rules.specs.Breaches.{BreaksAlone};
+ghost use Rattle.local_rules.specs.Machinery.Firsts.{IsFirstAmong, further_rules};
 ghost use Rattle.local_rules.specs.Texts.{BadCommandType, BadUnit, LongComment, scalar_values};
 ghost use Rattle.local_rules.specs.Types.{IsName};
 
-use crate::role::{Localized, Naming, Role};
+use crate::role::{Localized, Role};
 use crate::rule::LocalRule;
 use dtmi_name::is_name as is_name_text;
 use json_tree::Tree;
@@ -45,30 +45,12 @@ pub fn is_name(tree: &Tree) -> bool
 
 /// Whether a name is a text that is none of the name grammar.
 #[tactic(auto, using(crate::proofs::Views::views))]
-fn is_bad_name(tree: &Tree) -> bool
+pub fn is_bad_name(tree: &Tree) -> bool
     ensures { IsTrue result ↔ OfText (λ bytes. NameText bytes → ⊥) (view tree.now) }
 {
     match tree {
         Tree::Text(text) => !is_name_text(text.as_str()),
         Tree::Null | Tree::Bool(_) | Tree::Number(_) | Tree::List(_) | Tree::Members(_) => false,
-    }
-}
-
-/// The first rule that a name breaks.
-pub fn name_rule(naming: Naming, repeats: bool, tree: &Tree) -> Option<LocalRule>
-    ensures { IsFirstAmong (λ broken. BreaksAlone broken (Role.Name naming repeats) (view tree.now)) (further_rules (Role.Name naming repeats)) result }
-{
-    if is_bad_name(tree) {
-        return Some(LocalRule::BadName);
-    }
-    if !repeats {
-        return None;
-    }
-    match naming {
-        Naming::Alone => None,
-        Naming::Content => Some(LocalRule::DuplicateName),
-        Naming::Field => Some(LocalRule::DuplicateField),
-        Naming::EnumEntry => Some(LocalRule::DuplicateEnumName),
     }
 }
 
@@ -122,17 +104,17 @@ pub fn localized_rule(which: Localized, tree: &Tree) -> Option<LocalRule>
     }
 }
 
-/// The first rule that a member of a localized text breaks; `tagged` tells that its key is a language code.
-pub fn localized_text_rule(which: Localized, tagged: bool, tree: &Tree) -> Option<LocalRule>
-    ensures { IsFirstAmong (λ broken. BreaksAlone broken (Role.LocalizedText which tagged) (view tree.now)) (further_rules (Role.LocalizedText which tagged)) result }
+/// The first rule that a member of a localized text breaks.
+pub fn localized_text_rule(which: Localized, tree: &Tree) -> Option<LocalRule>
+    ensures { IsFirstAmong (λ broken. BreaksAlone broken (Role.LocalizedText which) (view tree.now)) (further_rules (Role.LocalizedText which)) result }
 {
-    if let Some(rule) = localized_rule(which, tree) {
-        return Some(rule);
-    }
-    if tagged {
-        None
-    } else {
-        Some(LocalRule::BadLanguage)
+    match which {
+        Localized::DisplayName => {
+            is_long_text(tree, MOST_OF_DISPLAY_NAME).then_some(LocalRule::LongDisplayName)
+        }
+        Localized::Description => {
+            is_long_text(tree, MOST_OF_DESCRIPTION).then_some(LocalRule::LongDescription)
+        }
     }
 }
 

@@ -2,8 +2,8 @@
 
 ghost use Rattle.std.specs.Prelude.{◌≡◌, ◌≢◌, ◌↔◌, [], ◌∷◌, length, map, IsTrue, MatchOption, Some};
 ghost use Rattle.json_tree.specs.View.{view};
-ghost use Rattle.local_rules.specs.Choices.{BreaksAlone};
-ghost use Rattle.local_rules.specs.Firsts.{IsFirstAmong, further_rules, has_semantic_type};
+ghost use Rattle.local_rules.specs.Breaches.{BreaksAlone};
+ghost use Rattle.local_rules.specs.Machinery.Firsts.{IsFirstAmong, further_rules, has_semantic_type};
 ghost use Rattle.local_rules.specs.Types.{BadContext, BadSemanticType, BadType, MayHaveBeside, NamesNothing, further};
 
 use crate::role::{Element, Position, Role};

@@ -18,21 +18,23 @@ use Rattle.dtdl_terms.specs.declared.enumeration.EnumEntry.{EnumEntry}
 use Rattle.dtdl_terms.specs.declared.interface.Interface.{Interface}
 use Rattle.dtdl_terms.specs.declared.schema.Schema.{Schema}
 use Rattle.local_rules.specs.Members.{list_of, members_in, pairs_of, text_in, value_at, value_in}
-use Rattle.local_rules.specs.Roles.{HasRole, id_role, key_of, name_in, repeats, repeats_name, repeats_value, schema_role, type_of, value_kind}
+use Rattle.local_rules.specs.Roles.{HasRole, element_of, entry_role, id_role, key_of, schema_role, type_of, schema_of_values}
+use Rattle.local_rules.specs.Repeats.{IsInEntry, name_in, repeats_name, repeats_text}
+use Rattle.local_rules.specs.Breaches.{BreaksByPlace}
+use Rattle.local_rules.specs.declared.rule.LocalRule.{LocalRule}
 use Rattle.local_rules.specs.Kinds.{LacksKeyOf, needed_keys}
 use Rattle.local_rules.specs.declared.key.Key.{Key}
 use Rattle.local_rules.specs.declared.key.Key.TheVariants as key
 use Rattle.local_rules.specs.declared.rule.LocalRule.TheVariants as rule
 use Rattle.local_rules.specs.declared.role.Element.{Element}
 use Rattle.local_rules.specs.declared.role.Element.TheVariants as element_kind
-use Rattle.local_rules.specs.declared.role.Naming.TheVariants as naming
 use Rattle.local_rules.specs.declared.role.PayloadUse.TheVariants as payload_use
 use Rattle.local_rules.specs.declared.role.Position.TheVariants as position
 use Rattle.local_rules.specs.declared.role.Role.{Role}
 use Rattle.local_rules.specs.declared.role.Role.TheVariants as role
 use Rattle.local_rules.specs.declared.role.SchemaUse.{SchemaUse}
-use Rattle.local_rules.specs.declared.role.SchemaUse.TheVariants as place
-use Rattle.local_rules.specs.declared.role.ValueKind.{ValueKind}
+use Rattle.local_rules.specs.declared.role.SchemaUse.TheVariants as schema_use
+use Rattle.local_rules.specs.declared.role.ValueSchema.{ValueSchema}
 use Rattle.local_rules.proofs.Keyed.{position_of_key}
 use Rattle.local_rules.proofs.Named.{id_is}
 use Rattle.model_read.specs.Declarations.{ArePayloads, AreProperties, AreEntriesOf, AreKind, DeclaresEnumEntry, DeclaresInterface, HasCommon, HasContents, HasKindOf, HasLocalized, HasOptionalId, HasOptionalPayload, HasParents, HasSchema, HasSchemas, HasString, IsContent, IsContentEntry, IsEnumEntry, IsIdentifier, IsLocalized, IsLocalizedBy, IsPayload, IsPropertyTerm, IsSchema, IsTextOfLanguage, type_of_kind}
@@ -126,49 +128,43 @@ property_at (more_contents c cs) (element v vs) (suc i) n all at = property_at c
 -- ---- in an interface in which no rule is broken
 module _ (whole : Json) (none : BreaksNowhere whole) where
   -- no entry of these lists repeats an earlier one
+  name_again : (r s : Role) (e : Element) (broken : LocalRule) (vs : Elements Number) (i : ℕ) (v : Json) (ms : Members Number) (n : List ℕ)
+      → entry_role r ≡ Some s → element_of s ms ≡ Some e → key_of e (codes "name") ≡ Some key.Name
+      → ((place : List ℕ) → IsInEntry whole r repeats_name place → BreaksByPlace whole place broken role.Name)
+      → Stands whole r (array vs) → element_at vs i ≡ Some v → v ≡ object ms → HasString (codes "name") ms n → repeats_name (list_of vs) i ≡ true → ⊥
+  name_again r s e broken vs i v ms n entries is known breaks stands at same has again =
+      let entry = subst (λ (w : Json). HasRole role.Interface whole (stands.place ++ i ∷ []) s w) same (entry_at whole stands.place r vs i s v entries at stands.there) in
+      let named = key_at whole (stands.place ++ i ∷ []) s ms e key.Name (codes "name") (text n) is known has entry in
+      let in_list : IsInEntry whole r repeats_name ((stands.place ++ i ∷ []) ++ named.0 ∷ []) =
+      (stands.place ++ i ∷ [], named.0, refl, (stands.place, i, refl, record { entries = vs; stands = stands.there; holds = again })) in
+      none ((stands.place ++ i ∷ []) ++ named.0 ∷ []) broken (role.Name, text n, named.1, inr (inl (breaks ((stands.place ++ i ∷ []) ++ named.0 ∷ []) in_list)))
+
   fields_apart : (vs : Elements Number) (i : ℕ) (v : Json) (ms : Members Number) (n : List ℕ) → Stands whole role.Fields (array vs) → element_at vs i ≡ Some v
       → v ≡ object ms → HasString (codes "name") ms n → repeats_name (list_of vs) i ≡ true → ⊥
-  fields_apart vs i v ms n stands at is has again =
-      let r : Role = role.Field (repeats_name (list_of vs) i) in
-      let entry = subst (Stands whole r) is (entry_stands whole role.Fields vs i r v refl at stands) in
-      let named = key_stands whole r ms element_kind.Payload key.Name (codes "name") (text n) refl refl has entry in
-      let r_name : Role = role.Name naming.Field (repeats_name (list_of vs) i) in
-      here r_name (text n) rule.DuplicateField (stands_valid whole none r_name (text n) named) (ap (role.Name naming.Field) again)
+  fields_apart vs i v ms n = name_again role.Fields role.Field element_kind.Payload rule.DuplicateField vs i v ms n refl refl refl (λ place entry. (refl, entry))
 
   properties_apart : (vs : Elements Number) (i : ℕ) (v : Json) (ms : Members Number) (n : List ℕ) → Stands whole role.Properties (array vs) → element_at vs i ≡ Some v
       → v ≡ object ms → HasString (codes "name") ms n → repeats_name (list_of vs) i ≡ true → ⊥
-  properties_apart vs i v ms n stands at is has again =
-      let r : Role = role.RelationshipProperty (repeats_name (list_of vs) i) in
-      let entry = subst (Stands whole r) is (entry_stands whole role.Properties vs i r v refl at stands) in
-      let named = key_stands whole r ms element_kind.Property key.Name (codes "name") (text n) refl refl has entry in
-      let r_name : Role = role.Name naming.Content (repeats_name (list_of vs) i) in
-      here r_name (text n) rule.DuplicateName (stands_valid whole none r_name (text n) named) (ap (role.Name naming.Content) again)
+  properties_apart vs i v ms n =
+      name_again role.Properties role.RelationshipProperty element_kind.Property rule.DuplicateName vs i v ms n refl refl refl (λ place entry. (refl, inr entry))
 
   contents_apart : (vs : Elements Number) (i : ℕ) (v : Json) (ms : Members Number) (k : KindTerm) (n : List ℕ) → Stands whole role.Contents (array vs)
       → element_at vs i ≡ Some v → v ≡ object ms → type_of position.Content ms ≡ Some (type_of_kind k) → HasString (codes "name") ms n
       → repeats_name (list_of vs) i ≡ true → ⊥
-  contents_apart vs i v ms k n stands at is typed has again =
-      let r : Role = role.Content (repeats_name (list_of vs) i) in
-      let entry = subst (Stands whole r) is (entry_stands whole role.Contents vs i r v refl at stands) in
-      let named = key_stands whole r ms (type_of_kind k) key.Name (codes "name") (text n) typed (name_known whole none k) has entry in
-      let r_name : Role = role.Name naming.Content (repeats_name (list_of vs) i) in
-      here r_name (text n) rule.DuplicateName (stands_valid whole none r_name (text n) named) (ap (role.Name naming.Content) again)
+  contents_apart vs i v ms k n stands at is typed = name_again role.Contents role.Content (type_of_kind k) rule.DuplicateName vs i v ms n refl typed
+      (name_known whole none k) (λ place entry. (refl, inl entry)) stands at is
 
-  enum_entries_apart : (k : ValueKind) (vs : Elements Number) (i : ℕ) (v : Json) (ms : Members Number) (n : List ℕ) → Stands whole (role.EnumValues k) (array vs)
+  enum_entries_apart : (k : ValueSchema) (vs : Elements Number) (i : ℕ) (v : Json) (ms : Members Number) (n : List ℕ) → Stands whole (role.EnumValues k) (array vs)
       → element_at vs i ≡ Some v → v ≡ object ms → HasString (codes "name") ms n → repeats_name (list_of vs) i ≡ true → ⊥
-  enum_entries_apart k vs i v ms n stands at is has again =
-      let r : Role = role.EnumEntry k (repeats_name (list_of vs) i) (repeats_value (list_of vs) i) in
-      let entry = subst (Stands whole r) is (entry_stands whole (role.EnumValues k) vs i r v refl at stands) in
-      let named = key_stands whole r ms element_kind.EnumEntry key.Name (codes "name") (text n) refl refl has entry in
-      let r_name : Role = role.Name naming.EnumEntry (repeats_name (list_of vs) i) in
-      here r_name (text n) rule.DuplicateEnumName (stands_valid whole none r_name (text n) named) (ap (role.Name naming.EnumEntry) again)
+  enum_entries_apart k vs i v ms n = name_again (role.EnumValues k) (role.EnumEntry k) element_kind.EnumEntry rule.DuplicateEnumName vs i v ms n refl refl refl
+      (λ place entry. (refl, (k, entry)))
 
   parents_apart : (vs : Elements Number) (i : ℕ) (v : Json) → Stands whole role.Extends (array vs) → element_at vs i ≡ Some v
-      → repeats bytes_eq (map text_in (list_of vs)) i ≡ true → ⊥
+      → repeats_text (list_of vs) i ≡ true → ⊥
   parents_apart vs i v stands at again =
-      let r : Role = role.Parent (repeats bytes_eq (map text_in (list_of vs)) i) in
-      let entry = entry_stands whole role.Extends vs i r v refl at stands in
-      here r v rule.RepeatedParent (stands_valid whole none r v entry) (ap role.Parent again)
+      let entry = entry_at whole stands.place role.Extends vs i role.Parent v refl at stands.there in
+      none (stands.place ++ i ∷ []) rule.RepeatedParent
+      (role.Parent, v, entry, inr (inl (stands.place, i, refl, record { entries = vs; stands = stands.there; holds = again })))
 
   -- ---- enums
   enum_texts_apart : (vs : Elements Number) (es : List EnumEntry) → ElementsHaveDistinctKeys vs → AllZip IsEnumEntry (list_of vs) es
@@ -180,17 +176,17 @@ module _ (whole : Json) (none : BreaksNowhere whole) where
       let g = all.0 in
       (common_apart g.0 e.common (subst HasDistinctKeys g.1 keys.0) g.2.common, enum_texts_apart vs es keys.1 all.1)
 
-  enum_names_apart : (k : ValueKind) (vs : Elements Number) (es : List EnumEntry) → AllZip IsEnumEntry (list_of vs) es → Stands whole (role.EnumValues k) (array vs)
+  enum_names_apart : (k : ValueSchema) (vs : Elements Number) (es : List EnumEntry) → AllZip IsEnumEntry (list_of vs) es → Stands whole (role.EnumValues k) (array vs)
       → AreDistinct (map (λ e. e.name) es)
   enum_names_apart k vs es all stands = apart (λ (n : List ℕ). n) name_in vs (map (λ e. e.name) es)
       (λ i n at.
-      let e = mapped_back (λ (x : EnumEntry). x.name) es i n at in
-      let v = zip_at IsEnumEntry vs es i e.0 all e.1 in
-      (v.0, v.1, name_of v.0 v.2.0 e.0.name v.2.1 v.2.2.name ∙ ap (λ (t : List ℕ). Some t) e.2))
+          let e = mapped_back (λ (x : EnumEntry). x.name) es i n at in
+          let v = zip_at IsEnumEntry vs es i e.0 all e.1 in
+          (v.0, v.1, name_of v.0 v.2.0 e.0.name v.2.1 v.2.2.name ∙ ap (λ (t : List ℕ). Some t) e.2))
       (λ i n at again.
-      let e = mapped_back (λ (x : EnumEntry). x.name) es i n at in
-      let v = zip_at IsEnumEntry vs es i e.0 all e.1 in
-      enum_entries_apart k vs i v.0 v.2.0 e.0.name stands v.1 v.2.1 v.2.2.name again)
+          let e = mapped_back (λ (x : EnumEntry). x.name) es i n at in
+          let v = zip_at IsEnumEntry vs es i e.0 all e.1 in
+          enum_entries_apart k vs i v.0 v.2.0 e.0.name stands v.1 v.2.1 v.2.2.name again)
 
   -- ---- schemas and payloads
   field_names_apart : (ps : PayloadTerms) (vs : Elements Number) → ArePayloads ps vs → Stands whole role.Fields (array vs) → AreDistinct (payload_names ps)
@@ -207,7 +203,7 @@ module _ (whole : Json) (none : BreaksNowhere whole) where
         let inside = subst HasDistinctKeys g.2.0 keys in
         let e = schema_element whole none r is g.0 ∙ g.2.1 in (
           common_apart g.0 c inside g.3,
-          schema_apart s (role.Schema place.Inner) g.1 (inr (place.Inner, refl)) (keyed_distinct (codes "elementSchema") g.0 g.1 g.4 inside) g.5
+          schema_apart s (role.Schema schema_use.Inner) g.1 (inr (schema_use.Inner, refl)) (keyed_distinct (codes "elementSchema") g.0 g.1 g.4 inside) g.5
               (key_stands whole r g.0 element_kind.Array key.ElementSchema (codes "elementSchema") g.1 e refl g.4 stands),
         )
     schema_apart (enumeration c of_text es) r v is keys g there =
@@ -216,7 +212,7 @@ module _ (whole : Json) (none : BreaksNowhere whole) where
         let e = schema_element whole none r is g.0 ∙ g.2.1 in
         let listed = key_stands whole r g.0 element_kind.Enumeration key.EnumValues (codes "enumValues") (array g.1) e refl g.5 stands in (
           common_apart g.0 c inside g.3,
-          (enum_names_apart (value_kind g.0) g.1 es g.6 listed, enum_texts_apart g.1 es (listed_distinct (codes "enumValues") g.0 g.1 g.5 inside) g.6),
+          (enum_names_apart (schema_of_values g.0) g.1 es g.6 listed, enum_texts_apart g.1 es (listed_distinct (codes "enumValues") g.0 g.1 g.5 inside) g.6),
         )
     schema_apart (map_of c k e) r v is keys g there =
         let stands = subst (Stands whole r) g.3.0 there in
@@ -236,7 +232,7 @@ module _ (whole : Json) (none : BreaksNowhere whole) where
           common_apart g.0 c inside g.3,
           field_names_apart fs g.1 g.5 listed,
           payloads_apart fs g.1 (listed_distinct (codes "fields") g.0 g.1 g.4 inside) g.5
-              (λ i w at. (repeats_name (list_of g.1) i, entry_stands whole role.Fields g.1 i (role.Field (repeats_name (list_of g.1) i)) w refl at listed)),
+              (λ i w at. entry_stands whole role.Fields g.1 i role.Field w refl at listed),
         )
 
     payload_apart : (p : PayloadTerm) (r : Role) (v : Json) → IsPayloadRole whole none r → HasDistinctKeys v → IsPayload p v → Stands whole r v → PayloadIsDistinct p
@@ -250,36 +246,36 @@ module _ (whole : Json) (none : BreaksNowhere whole) where
         )
 
     payloads_apart : (ps : PayloadTerms) (vs : Elements Number) → ElementsHaveDistinctKeys vs → ArePayloads ps vs
-        → ((i : ℕ) (v : Json) → element_at vs i ≡ Some v → (repeats : Bool) × Stands whole (role.Field repeats) v) → PayloadsAreDistinct ps
+        → ((i : ℕ) (v : Json) → element_at vs i ≡ Some v → Stands whole role.Field v) → PayloadsAreDistinct ps
     payloads_apart no_payloads vs keys all stands = tt
     payloads_apart (more_payloads p ps) no_elements keys all stands = absurd all
     payloads_apart (more_payloads p ps) (element v vs) keys all stands =
         let first = stands zero v refl in (
-          payload_apart p (role.Field first.0) v (inr (first.0, refl)) keys.0 all.0 first.1,
+          payload_apart p role.Field v (inr refl) keys.0 all.0 first,
           payloads_apart ps vs keys.1 all.1 (λ i w at. stands (suc i) w at),
         )
 
   -- ---- contents
-  property_apart : (c : ContentTerm) (repeats : Bool) (v : Json) → HasDistinctKeys v → IsContent position.Property c v → IsPropertyTerm c
-      → Stands whole (role.RelationshipProperty repeats) v → ContentIsDistinct c
-  property_apart (content n c (property s semantic unit writable)) repeats v keys g is there =
-      let r : Role = role.RelationshipProperty repeats in
+  property_apart : (c : ContentTerm) (v : Json) → HasDistinctKeys v → IsContent position.Property c v → IsPropertyTerm c
+      → Stands whole role.RelationshipProperty v → ContentIsDistinct c
+  property_apart (content n c (property s semantic unit writable)) v keys g is there =
+      let r : Role = role.RelationshipProperty in
       let stands = subst (Stands whole r) g.1 there in
       let inside = subst HasDistinctKeys g.1 keys in
       let schema = g.4.0 in (
         common_apart g.0 c inside g.3,
-        schema_apart s (role.Schema place.Property) schema.0 (inr (place.Property, refl)) (keyed_distinct (codes "schema") g.0 schema.0 schema.1 inside) schema.2
+        schema_apart s (role.Schema schema_use.Property) schema.0 (inr (schema_use.Property, refl)) (keyed_distinct (codes "schema") g.0 schema.0 schema.1 inside) schema.2
             (key_stands whole r g.0 element_kind.Property key.Schema (codes "schema") schema.0 refl refl schema.1 stands),
       )
-  property_apart (content n c other) repeats v keys g is there = absurd cc
+  property_apart (content n c other) v keys g is there = absurd cc
 
   each_property_apart : (cs : ContentTerms) (vs : Elements Number) → ElementsHaveDistinctKeys vs → AreProperties cs vs
-      → ((i : ℕ) (v : Json) → element_at vs i ≡ Some v → (repeats : Bool) × Stands whole (role.RelationshipProperty repeats) v) → ContentsAreDistinct cs
+      → ((i : ℕ) (v : Json) → element_at vs i ≡ Some v → Stands whole role.RelationshipProperty v) → ContentsAreDistinct cs
   each_property_apart no_contents vs keys all stands = tt
   each_property_apart (more_contents c cs) no_elements keys all stands = absurd all
   each_property_apart (more_contents c cs) (element v vs) keys all stands =
       let first = stands zero v refl in (
-        property_apart c first.0 v keys.0 all.0.0 all.0.1 first.1,
+        property_apart c v keys.0 all.0.0 all.0.1 first,
         each_property_apart cs vs keys.1 all.1 (λ i w at. stands (suc i) w at),
       )
 
@@ -294,8 +290,7 @@ module _ (whole : Json) (none : BreaksNowhere whole) where
         apart (λ (n : List ℕ). n) name_in g.0 (content_names cs)
             (λ i n at. let v = property_at cs g.0 i n g.2 at in (v.0, v.1, name_of v.0 v.2.0 n v.2.1 v.2.2))
             (λ i n at again. let v = property_at cs g.0 i n g.2 at in properties_apart g.0 i v.0 v.2.0 n listed v.1 v.2.1 v.2.2 again),
-        each_property_apart cs g.0 inside g.2 (λ i v at.
-            (repeats_name (list_of g.0) i, entry_stands whole role.Properties g.0 i (role.RelationshipProperty (repeats_name (list_of g.0) i)) v refl at listed)),
+        each_property_apart cs g.0 inside g.2 (λ i v at. entry_stands whole role.Properties g.0 i role.RelationshipProperty v refl at listed),
       )
 
   optional_payload_apart : (k : List ℕ) (ms : Members Number) (o : Option PayloadTerm) → MembersHaveDistinctKeys ms
@@ -304,47 +299,47 @@ module _ (whole : Json) (none : BreaksNowhere whole) where
   optional_payload_apart k ms (Some p) keys stands has = payload_apart p (role.Payload payload_use.Command) has.0 (inl (payload_use.Command, refl))
       (keyed_distinct k ms has.0 has.1 keys) has.2 (stands has.0 has.1)
 
-  kind_apart : (k : KindTerm) (repeats : Bool) (ms : Members Number) → type_of position.Content ms ≡ Some (type_of_kind k) → MembersHaveDistinctKeys ms
-      → AreKind position.Content k ms → Stands whole (role.Content repeats) (object ms) → KindIsDistinct k
-  kind_apart (telemetry s semantic unit) repeats ms is keys g stands =
+  kind_apart : (k : KindTerm) (ms : Members Number) → type_of position.Content ms ≡ Some (type_of_kind k) → MembersHaveDistinctKeys ms
+      → AreKind position.Content k ms → Stands whole role.Content (object ms) → KindIsDistinct k
+  kind_apart (telemetry s semantic unit) ms is keys g stands =
       let schema = g.0 in
-      schema_apart s (role.Schema place.Outer) schema.0 (inr (place.Outer, refl)) (keyed_distinct (codes "schema") ms schema.0 schema.1 keys) schema.2
-      (key_stands whole (role.Content repeats) ms element_kind.Telemetry key.Schema (codes "schema") schema.0 is refl schema.1 stands)
-  kind_apart (property s semantic unit writable) repeats ms is keys g stands =
+      schema_apart s (role.Schema schema_use.Outer) schema.0 (inr (schema_use.Outer, refl)) (keyed_distinct (codes "schema") ms schema.0 schema.1 keys) schema.2
+      (key_stands whole role.Content ms element_kind.Telemetry key.Schema (codes "schema") schema.0 is refl schema.1 stands)
+  kind_apart (property s semantic unit writable) ms is keys g stands =
       let schema = g.0 in
-      schema_apart s (role.Schema place.Property) schema.0 (inr (place.Property, refl)) (keyed_distinct (codes "schema") ms schema.0 schema.1 keys) schema.2
-      (key_stands whole (role.Content repeats) ms element_kind.Property key.Schema (codes "schema") schema.0 is refl schema.1 stands)
-  kind_apart (command request response) repeats ms is keys g stands =
-      let r : Role = role.Content repeats in
+      schema_apart s (role.Schema schema_use.Property) schema.0 (inr (schema_use.Property, refl)) (keyed_distinct (codes "schema") ms schema.0 schema.1 keys) schema.2
+      (key_stands whole role.Content ms element_kind.Property key.Schema (codes "schema") schema.0 is refl schema.1 stands)
+  kind_apart (command request response) ms is keys g stands =
+      let r : Role = role.Content in
       let e = element_kind.Command in (
         optional_payload_apart (codes "request") ms request keys (λ w at. key_stands whole r ms e key.Request (codes "request") w is refl at stands) g.0,
         optional_payload_apart (codes "response") ms response keys (λ w at. key_stands whole r ms e key.Response (codes "response") w is refl at stands) g.1,
       )
-  kind_apart (relationship target cs most writable) repeats ms is keys g stands = listed_properties_apart cs (value_at (codes "properties") ms) g.1
+  kind_apart (relationship target cs most writable) ms is keys g stands = listed_properties_apart cs (value_at (codes "properties") ms) g.1
       (λ w at. keyed_distinct (codes "properties") ms w at keys)
-      (λ w at. key_stands whole (role.Content repeats) ms element_kind.Relationship key.Properties (codes "properties") w is refl at stands)
-  kind_apart (component id) repeats ms is keys g stands = tt
+      (λ w at. key_stands whole role.Content ms element_kind.Relationship key.Properties (codes "properties") w is refl at stands)
+  kind_apart (component id) ms is keys g stands = tt
 
   content_type : (k : KindTerm) (v : Json) (ms : Members Number) → v ≡ object ms → type_of position.Content (members_in v) ≡ Some (type_of_kind k)
       → type_of position.Content ms ≡ Some (type_of_kind k)
   content_type k v ms is typed = subst (λ (w : Json). type_of position.Content (members_in w) ≡ Some (type_of_kind k)) is typed
 
-  content_apart : (c : ContentTerm) (repeats : Bool) (v : Json) → HasDistinctKeys v → HasKindOf c v → IsContent position.Content c v
-      → Stands whole (role.Content repeats) v → ContentIsDistinct c
-  content_apart (content n c k) repeats v keys typed g there =
-      let stands = subst (Stands whole (role.Content repeats)) g.1 there in
+  content_apart : (c : ContentTerm) (v : Json) → HasDistinctKeys v → HasKindOf c v → IsContent position.Content c v
+      → Stands whole role.Content v → ContentIsDistinct c
+  content_apart (content n c k) v keys typed g there =
+      let stands = subst (Stands whole role.Content) g.1 there in
       let inside = subst HasDistinctKeys g.1 keys in
-      (common_apart g.0 c inside g.3, kind_apart k repeats g.0 (content_type k v g.0 g.1 typed) inside g.4 stands)
+      (common_apart g.0 c inside g.3, kind_apart k g.0 (content_type k v g.0 g.1 typed) inside g.4 stands)
 
   each_content_apart : (vs : Elements Number) (cs : List Content) → ElementsHaveDistinctKeys vs → AllZip IsContentEntry (list_of vs) cs
-      → ((i : ℕ) (v : Json) → element_at vs i ≡ Some v → (repeats : Bool) × Stands whole (role.Content repeats) v)
+      → ((i : ℕ) (v : Json) → element_at vs i ≡ Some v → Stands whole role.Content v)
       → AllByRecursion (λ c. ContentIsDistinct (content_term c)) cs
   each_content_apart no_elements [] keys all stands = tt
   each_content_apart no_elements (c ∷ cs) keys all stands = absurd all
   each_content_apart (element v vs) [] keys all stands = absurd all
   each_content_apart (element v vs) (c ∷ cs) keys all stands =
       let first = stands zero v refl in (
-        content_apart (content_term c) first.0 v keys.0 all.0.0 all.0.1 first.1,
+        content_apart (content_term c) v keys.0 all.0.0 all.0.1 first,
         each_content_apart vs cs keys.1 all.1 (λ i w at. stands (suc i) w at),
       )
 
@@ -356,17 +351,16 @@ module _ (whole : Json) (none : BreaksNowhere whole) where
   list_of_contents_apart vs cs keys all stands = (
     apart (λ (n : List ℕ). n) name_in vs (map (λ c. c.name) cs)
         (λ i n at.
-        let c = mapped_back (λ (x : Content). x.name) cs i n at in
-        let v = zip_at IsContentEntry vs cs i c.0 all c.1 in
-        let g = v.2.1 in
-        (v.0, v.1, name_of v.0 g.0 c.0.name g.1 g.2 ∙ ap (λ (t : List ℕ). Some t) c.2))
+            let c = mapped_back (λ (x : Content). x.name) cs i n at in
+            let v = zip_at IsContentEntry vs cs i c.0 all c.1 in
+            let g = v.2.1 in
+            (v.0, v.1, name_of v.0 g.0 c.0.name g.1 g.2 ∙ ap (λ (t : List ℕ). Some t) c.2))
         (λ i n at again.
-        let c = mapped_back (λ (x : Content). x.name) cs i n at in
-        let v = zip_at IsContentEntry vs cs i c.0 all c.1 in
-        let g = v.2.1 in
-        contents_apart vs i v.0 g.0 (kind_term c.0.kind) c.0.name stands v.1 g.1 (content_type (kind_term c.0.kind) v.0 g.0 g.1 v.2.0) g.2 again),
-    each_content_apart vs cs keys all (λ i v at.
-        (repeats_name (list_of vs) i, entry_stands whole role.Contents vs i (role.Content (repeats_name (list_of vs) i)) v refl at stands)),
+            let c = mapped_back (λ (x : Content). x.name) cs i n at in
+            let v = zip_at IsContentEntry vs cs i c.0 all c.1 in
+            let g = v.2.1 in
+            contents_apart vs i v.0 g.0 (kind_term c.0.kind) c.0.name stands v.1 g.1 (content_type (kind_term c.0.kind) v.0 g.0 g.1 v.2.0) g.2 again),
+    each_content_apart vs cs keys all (λ i v at. entry_stands whole role.Contents vs i role.Content v refl at stands),
   )
 
   no_contents_apart : (vs : Elements Number) (cs : List Content) → vs ≡ no_elements → AllZip IsContentEntry (list_of vs) cs → AreApart cs
@@ -449,7 +443,7 @@ module _ (whole : Json) (none : BreaksNowhere whole) where
   ids_apart : (first second bytes : List ℕ) → IsBefore first second → HasRole role.Interface whole first role.ElementId (text bytes)
       → HasRole role.Interface whole second role.ElementId (text bytes) → ⊥
   ids_apart first second bytes before one two = none second rule.RepeatedId
-      (role.ElementId, text bytes, two, (inr refl, (first, role.ElementId, before, one, inr refl)))
+      (role.ElementId, text bytes, two, inr (inr (inr (inr refl, (first, role.ElementId, before, one, inr refl)))))
 
   schemas_named : (vs : Elements Number) (ss : List Schema) (place : List ℕ) (i : ℕ) (s : Schema) → AllZip (λ v s. IsSchema (schema_term s) v) (list_of vs) ss
       → HasRole role.Interface whole place role.Schemas (array vs) → slice_get ss i ≡ Some s → Named (place ++ i ∷ []) (schema_term s)

@@ -7,7 +7,7 @@ use Rattle.json_tree.specs.Values.{Json, array, object, Elements, no_elements, e
 use Rattle.dtdl_terms.specs.Terms.{SchemaTerm, primitive, named, array_of, enumeration, map_of, object_of, PayloadTerm, payload, PayloadTerms, no_payloads, more_payloads}
 use Rattle.local_rules.specs.Members.{list_of, members_in, value_at, value_in}
 use Rattle.local_rules.specs.Roles.{type_of}
-use Rattle.local_rules.specs.Levels.{HasLevel, IsComplex, elements_under, parts_by, schema_parts, schema_type}
+use Rattle.local_rules.specs.Levels.{HasLevel, IsComplex, entries_under, parts_by, schema_parts, schema_type}
 use Rattle.local_rules.specs.declared.role.Element.{Element}
 use Rattle.local_rules.specs.declared.role.Element.TheVariants as element_kind
 use Rattle.local_rules.specs.declared.role.Position.TheVariants as position
@@ -72,9 +72,9 @@ module _ (ms : Members Number) where
           | inr low ↦ (value.0, contains_later key.0 value.0 (value.0 ∷ []) (contains_here value.0 []), value.2 n low)
         ]))
     has_levels (object_of c fs) v g (suc zero) le =
-        object_level element_kind.Object g.0 v (filter_map (value_in (codes "schema")) (elements_under (value_at (codes "fields") g.0))) zero g.2.0 g.2.1 refl (inl refl)
+        object_level element_kind.Object g.0 v (filter_map (value_in (codes "schema")) (entries_under (value_at (codes "fields") g.0))) zero g.2.0 g.2.1 refl (inl refl)
     has_levels (object_of c fs) v g (suc (suc n)) le =
-        let parted = ap (λ (o : Option Json). filter_map (value_in (codes "schema")) (elements_under o)) g.4 in
+        let parted = ap (λ (o : Option Json). filter_map (value_in (codes "schema")) (entries_under o)) g.4 in
         object_level element_kind.Object g.0 v (filter_map (value_in (codes "schema")) (list_of g.1)) (suc n) g.2.0 g.2.1 parted
         (inr (payloads_have_levels fs g.1 g.5 n (omega arith)))
 

@@ -7,28 +7,27 @@ use Rattle.json_tree.specs.Values.{Json, truth, text, array, object, Elements}
 use Rattle.local_rules.specs.Members.{list_of}
 use Rattle.local_rules.specs.Identifiers.{HasForm, IdUse, IsBadId, IsReservedId, of_interface, of_element, no_id, id_use}
 use Rattle.local_rules.specs.Kinds.{kind_of, is_of_kind}
-use Rattle.local_rules.specs.Quantities.{IsWord}
-use Rattle.local_rules.specs.Roles.{is_language, type_in}
+use Rattle.local_rules.specs.Quantities.{IsString}
+use Rattle.local_rules.specs.Roles.{type_in}
 use Rattle.local_rules.specs.Types.{MayHaveBeside, NamesNothing, further}
 use Rattle.local_rules.specs.declared.role.Element.{Element}
 use Rattle.local_rules.specs.declared.role.Element.TheVariants as element_kind
 use Rattle.local_rules.specs.declared.role.Kind.{Kind}
 use Rattle.local_rules.specs.declared.role.Kind.TheVariants as kind
 use Rattle.local_rules.specs.declared.role.Localized.{Localized}
-use Rattle.local_rules.specs.declared.role.Naming.{Naming}
 use Rattle.local_rules.specs.declared.role.Position.{Position}
 use Rattle.local_rules.specs.declared.role.Position.TheVariants as position
 use Rattle.local_rules.specs.declared.role.Role.{Role}
 use Rattle.local_rules.specs.declared.role.Role.TheVariants as role
-use Rattle.local_rules.specs.declared.role.ValueKind.{ValueKind}
-use Rattle.local_rules.specs.declared.role.ValueKind.TheVariants as value_kind
+use Rattle.local_rules.specs.declared.role.ValueSchema.{ValueSchema}
+use Rattle.local_rules.specs.declared.role.ValueSchema.TheVariants as value_schemas
 use Rattle.local_rules.specs.declared.rule.LocalRule.TheVariants as rule
 use Rattle.model_read.specs.Machinery.Shapes.{CanBe, CanBeId, CanBeName, CanBeMultiplicity, CanBeEnumValue, CanBeValueSchema, CanBeTypes, IsParents, IsTruth, IsWords, IsValid}
 use Rattle.model_read.proofs.Valid.{here, of_kind, placed_valid, entry_valid}
 
 -- ---- kinds
 -- a value of the kind of texts is a text
-pub word : (v : Json) → is_of_kind kind.Text v ≡ true → IsWord v
+pub word : (v : Json) → is_of_kind kind.Text v ≡ true → IsString v
 word (text bytes) is = (bytes, refl)
 word other is = absurd (false≢true is)
 
@@ -84,15 +83,15 @@ parents (array vs) valid = λ i v at. word_id _ v refl (λ bytes e. cc) (entry_v
 parents other valid = absurd (false≢true (of_kind role.Extends other valid))
 
 -- ---- texts
-pub name : (naming : Naming) (repeats : Bool) (v : Json) → IsValid (role.Name naming repeats) v → CanBeName v
-name naming repeats (text bytes) valid = λ none.
-    here (role.Name naming repeats) (text bytes) rule.BadName valid (naming, repeats, refl, λ good. none (bytes, refl, good))
-name naming repeats other valid = absurd (false≢true (of_kind (role.Name naming repeats) other valid))
+pub name : (v : Json) → IsValid role.Name v → CanBeName v
+name (text bytes) valid = λ none.
+    here role.Name (text bytes) rule.BadName valid (refl, λ good. none (bytes, refl, good))
+name other valid = absurd (false≢true (of_kind role.Name other valid))
 
 pub unit : (v : Json) → IsValid role.Unit v → CanBeName v
 unit v valid = λ none. here role.Unit v rule.BadUnit valid (refl, none)
 
-pub comment : (v : Json) → IsValid role.Comment v → IsWord v
+pub comment : (v : Json) → IsValid role.Comment v → IsString v
 comment v valid = word v (of_kind role.Comment v valid)
 
 pub localized : (which : Localized) (v : Json) → IsValid (role.Localized which) v → IsWords v
@@ -101,8 +100,7 @@ localized which (object ms) valid = inr (
   ms,
   refl,
   λ i key v at.
-      let tagged : Role = role.LocalizedText which (is_language key) in
-      word v (of_kind tagged v (placed_valid (role.Localized which) ms i tagged key v at refl valid)),
+      word v (of_kind (role.LocalizedText which) v (placed_valid (role.Localized which) ms i (role.LocalizedText which) key v at refl valid)),
 )
 localized which other valid = absurd (false≢true (of_kind (role.Localized which) other valid))
 
@@ -114,12 +112,12 @@ writable other valid = absurd (false≢true (of_kind role.Writable other valid))
 pub multiplicity : (v : Json) → IsValid role.MaxMultiplicity v → CanBeMultiplicity v
 multiplicity v valid = λ none. here role.MaxMultiplicity v rule.BadMultiplicity valid (inr (refl, none))
 
-pub enum_value : (k : ValueKind) (same_value : Bool) (v : Json) → k ≢ value_kind.Neither → IsValid (role.EnumValue k same_value) v → CanBeEnumValue v
-enum_value value_kind.Integer same_value v is valid = λ none.
-    here (role.EnumValue value_kind.Integer same_value) v rule.BadEnumValue valid (value_kind.Integer, same_value, refl, λ good. none (inl good))
-enum_value value_kind.Word same_value v is valid = λ none.
-    here (role.EnumValue value_kind.Word same_value) v rule.BadEnumValue valid (value_kind.Word, same_value, refl, λ good. none (inr good))
-enum_value value_kind.Neither same_value v is valid = absurd (is refl)
+pub enum_value : (k : ValueSchema) (v : Json) → k ≢ value_schemas.Neither → IsValid (role.EnumValue k) v → CanBeEnumValue v
+enum_value value_schemas.Integer v is valid = λ none.
+    here (role.EnumValue value_schemas.Integer) v rule.BadEnumValue valid (value_schemas.Integer, refl, λ good. none (inl good))
+enum_value value_schemas.String v is valid = λ none.
+    here (role.EnumValue value_schemas.String) v rule.BadEnumValue valid (value_schemas.String, refl, λ good. none (inr good))
+enum_value value_schemas.Neither v is valid = absurd (is refl)
 
 pub value_schema : (v : Json) → IsValid role.ValueSchema v → CanBeValueSchema v
 value_schema v valid = λ none. here role.ValueSchema v rule.BadValueSchema valid (refl, λ integer. none (inr integer), λ string. none (inl string))

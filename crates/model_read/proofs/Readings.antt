@@ -14,7 +14,7 @@ use Rattle.json_tree.specs.Values.{Json, null, truth, number, text, array, objec
 use Rattle.json_tree.specs.View.{view, elements_view}
 use Rattle.json_tree.specs.declared.tree.Tree.{Tree}
 use Rattle.json_tree.specs.declared.tree.Tree as variants
-use Rattle.local_rules.specs.Quantities.{IsWord}
+use Rattle.local_rules.specs.Quantities.{IsString}
 use Rattle.local_rules.specs.Types.{MayHaveBeside, further}
 use Rattle.local_rules.specs.declared.role.Element.TheVariants as element_kind
 use Rattle.local_rules.specs.declared.role.Position.{Position}
@@ -24,7 +24,7 @@ use Rattle.json_tree.proofs.Parts.{item_part}
 use Rattle.model_read.specs.Machinery.Shapes.{CanBe, CanBeId, CanBeName, CanBeMultiplicity, CanBeTypes, EachIs, IsListOf}
 
 -- ---- texts
-pub word_of : (P : List ℕ → Type 0) (v : Json) → CanBe ((bytes : List ℕ) × (v ≡ text bytes) × P bytes) → IsWord v
+pub word_of : (P : List ℕ → Type 0) (v : Json) → CanBe ((bytes : List ℕ) × (v ≡ text bytes) × P bytes) → IsString v
 word_of P (text bytes) can = (bytes, refl)
 word_of P null can = absurd (can (λ is. let e = is.1 in absurd cc))
 word_of P (truth b) can = absurd (can (λ is. let e = is.1 in absurd cc))
@@ -32,7 +32,7 @@ word_of P (number n) can = absurd (can (λ is. let e = is.1 in absurd cc))
 word_of P (array vs) can = absurd (can (λ is. let e = is.1 in absurd cc))
 word_of P (object ms) can = absurd (can (λ is. let e = is.1 in absurd cc))
 
-pub id_word : (v : Json) → CanBeId v → IsWord v
+pub id_word : (v : Json) → CanBeId v → IsString v
 id_word v can = word_of (λ bytes. Unit {0}) v (λ none. can (λ is. none (dtmi_text is.0, is.1.0, tt)))
 
 -- a text of the grammar is refused for want of memory alone

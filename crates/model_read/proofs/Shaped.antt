@@ -4,25 +4,24 @@ use Rattle.json_decimal.specs.Number.{Number}
 use Rattle.json_tree.specs.Values.{Json, null, truth, number, text, array, object, Members}
 use Rattle.local_rules.specs.Members.{list_of, text_in, value_at}
 use Rattle.local_rules.specs.Tables.{key_text, required, types_of}
-use Rattle.local_rules.specs.Roles.{element_member, element_of, entry_role, key_of, key_role, kind_named, position_of, repeats_name, repeats_value, schema_role, type_in, type_of, untyped_role, value_kind}
+use Rattle.local_rules.specs.Roles.{element_member, element_of, entry_role, key_of, key_role, schema_of_values_named, position_of, schema_role, type_in, type_of, untyped_role, schema_of_values}
 use Rattle.local_rules.specs.Kinds.{LacksKeyOf, is_of_kind, kind_of, needed_keys}
 use Rattle.local_rules.specs.Types.{NamesNothing}
 use Rattle.local_rules.specs.Levels.{IsPrimitive}
-use Rattle.local_rules.specs.Quantities.{IsWord}
+use Rattle.local_rules.specs.Quantities.{IsString}
 use Rattle.local_rules.specs.declared.key.Key.{Key}
 use Rattle.local_rules.specs.declared.key.Key.TheVariants as key
 use Rattle.local_rules.specs.declared.role.Element.{Element}
 use Rattle.local_rules.specs.declared.role.Element.TheVariants as element
 use Rattle.local_rules.specs.declared.role.Kind.TheVariants as kind
 use Rattle.local_rules.specs.declared.role.Localized.TheVariants as localized
-use Rattle.local_rules.specs.declared.role.Naming.TheVariants as naming
 use Rattle.local_rules.specs.declared.role.PayloadUse.TheVariants as payload
 use Rattle.local_rules.specs.declared.role.Position.{Position}
 use Rattle.local_rules.specs.declared.role.Position.TheVariants as position
 use Rattle.local_rules.specs.declared.role.Role.{Role}
 use Rattle.local_rules.specs.declared.role.Role.TheVariants as role
-use Rattle.local_rules.specs.declared.role.SchemaUse.TheVariants as place
-use Rattle.local_rules.specs.declared.role.ValueKind.TheVariants as value_kinds
+use Rattle.local_rules.specs.declared.role.SchemaUse.TheVariants as schema_use
+use Rattle.local_rules.specs.declared.role.ValueSchema.TheVariants as value_schemas
 use Rattle.local_rules.specs.declared.rule.LocalRule.TheVariants as rule
 use Rattle.local_rules.proofs.Among.{Among}
 use Rattle.local_rules.proofs.Typed.{type_of_among}
@@ -51,10 +50,10 @@ is_object r v of valid = object_kind v (ap (λ k. is_of_kind k v) (sym of) ∙ o
 
 -- each entry of a list in this role is of the property that its own role gives
 abbrev Entries : Role → (Json → Type 0) → Type 0
-Entries r P = (vs : List Json) (i : ℕ) → (s : Role) × (entry_role r vs i ≡ Some s) × ((w : Json) → IsValid s w → P w)
+Entries r P = (s : Role) × (entry_role r ≡ Some s) × ((w : Json) → IsValid s w → P w)
 
 list_kind : (r : Role) (P : Json → Type 0) (v : Json) → Entries r P → is_of_kind kind.List v ≡ true → IsValid r v → IsListOf P v
-list_kind r P (array vs) entry is valid = (vs, refl, λ i w at. let e = entry (list_of vs) i in e.2 w (entry_valid r vs i e.0 w e.1 at valid))
+list_kind r P (array vs) entry is valid = (vs, refl, λ i w at. entry.2 w (entry_valid r vs i entry.0 w entry.1 at valid))
 list_kind r P null entry is valid = absurd cc
 list_kind r P (truth b) entry is valid = absurd cc
 list_kind r P (number n) entry is valid = absurd cc
@@ -80,7 +79,7 @@ module _ (r : Role) (ms : Members Number) (valid : IsValid r (object ms)) where
   common_shape element.Interface is other = absurd (other refl)
   common_shape e is other = record {
     id = may_have e key.Id CanBeId is refl leaves.element_id;
-    comment = may_have e key.Comment IsWord is refl leaves.comment;
+    comment = may_have e key.Comment IsString is refl leaves.comment;
     description = may_have e key.Description IsWords is refl (leaves.localized localized.Description);
     display_name = may_have e key.DisplayName IsWords is refl (leaves.localized localized.DisplayName);
   }
@@ -104,18 +103,18 @@ module _ (r : Role) (ms : Members Number) (valid : IsValid r (object ms)) where
   array_shape : element_of r ms ≡ Some element.Array → ArrayShape ms
   array_shape is = record {
     common = common_shape element.Array is (λ other. absurd cc);
-    element = has element.Array key.ElementSchema IsValidSchema is refl (1, lit≤ tt, refl) (λ v s. inr (place.Inner, s));
+    element = has element.Array key.ElementSchema IsValidSchema is refl (1, lit≤ tt, refl) (λ v s. inr (schema_use.Inner, s));
   }
 
   -- the `valueSchema` of an enum asks for one kind of values
-  kind_at : (v : Json) → value_at (codes "valueSchema") ms ≡ Some v → IsValid role.ValueSchema v → value_kind ms ≢ value_kinds.Neither
+  kind_at : (v : Json) → value_at (codes "valueSchema") ms ≡ Some v → IsValid role.ValueSchema v → schema_of_values ms ≢ value_schemas.Neither
   kind_at v at schema neither = leaves.value_schema v schema (λ is. elim is [
-    | inl word ↦ (let given = ap (λ o. kind_named (option_and_then text_in o)) (at ∙ ap (λ w. Some w) word) in cc)
-    | inr integer ↦ (let given = ap (λ o. kind_named (option_and_then text_in o)) (at ∙ ap (λ w. Some w) integer) in cc)
+    | inl word ↦ (let given = ap (λ o. schema_of_values_named (option_and_then text_in o)) (at ∙ ap (λ w. Some w) word) in cc)
+    | inr integer ↦ (let given = ap (λ o. schema_of_values_named (option_and_then text_in o)) (at ∙ ap (λ w. Some w) integer) in cc)
   ])
 
-  asks_kind : element_of r ms ≡ Some element.Enumeration → value_kind ms ≢ value_kinds.Neither
-  asks_kind is = elim (value_at (codes "valueSchema") ms) as (λ o. value_at (codes "valueSchema") ms ≡ o → value_kind ms ≢ value_kinds.Neither) [
+  asks_kind : element_of r ms ≡ Some element.Enumeration → schema_of_values ms ≢ value_schemas.Neither
+  asks_kind is = elim (value_at (codes "valueSchema") ms) as (λ o. value_at (codes "valueSchema") ms ≡ o → schema_of_values ms ≢ value_schemas.Neither) [
     | None ↦ λ none. absurd (has_key r ms element.Enumeration key.ValueSchema is (2, lit≤ tt, refl) valid none)
     | Some v ↦ λ at. kind_at v at (member_valid r ms element.Enumeration key.ValueSchema (codes "valueSchema") v is refl at valid)
   ] refl
@@ -125,11 +124,11 @@ module _ (r : Role) (ms : Members Number) (valid : IsValid r (object ms)) where
     common = common_shape element.Enumeration is (λ other. absurd cc);
     value_schema = has element.Enumeration key.ValueSchema CanBeValueSchema is refl (2, lit≤ tt, refl) leaves.value_schema;
     values = has element.Enumeration key.EnumValues (IsListOf IsValidEnumEntry) is refl (1, lit≤ tt, refl)
-        (is_list (role.EnumValues (value_kind ms)) IsValidEnumEntry refl (λ vs i. (
-          role.EnumEntry (value_kind ms) (repeats_name vs i) (repeats_value vs i),
+        (is_list (role.EnumValues (schema_of_values ms)) IsValidEnumEntry refl (
+          role.EnumEntry (schema_of_values ms),
           refl,
-          λ w s. (value_kind ms, repeats_name vs i, repeats_value vs i, asks_kind is, s),
-        )));
+          λ w s. (schema_of_values ms, asks_kind is, s),
+        ));
   }
 
   map_shape : element_of r ms ≡ Some element.Map → MapShape ms
@@ -143,7 +142,7 @@ module _ (r : Role) (ms : Members Number) (valid : IsValid r (object ms)) where
   object_shape is = record {
     common = common_shape element.Object is (λ other. absurd cc);
     fields = has element.Object key.Fields (IsListOf IsValidPayload) is refl (1, lit≤ tt, refl)
-        (is_list role.Fields IsValidPayload refl (λ vs i. (role.Field (repeats_name vs i), refl, λ w s. inr (repeats_name vs i, s))));
+        (is_list role.Fields IsValidPayload refl (role.Field, refl, λ w s. inr s));
   }
 
   schema_as : (e : Element) → Among e (types_of position.Schema) → element_of r ms ≡ Some e → SchemaShape (Some e) ms
@@ -180,15 +179,15 @@ module _ (r : Role) (ms : Members Number) (valid : IsValid r (object ms)) where
   }
 
 -- ---- schemas
-pub schema_kind : (v : Json) → IsValidSchema v → IsWord v ⊎ IsObject v
+pub schema_kind : (v : Json) → IsValidSchema v → IsString v ⊎ IsObject v
 schema_kind v (inl valid) = inr (is_object role.NamedSchema v refl valid)
 schema_kind (text bytes) (inr valid) = inl (bytes, refl)
 schema_kind (object ms) (inr valid) = inr (ms, refl)
 schema_kind other (inr valid) = let is = of_kind (role.Schema valid.0) other valid.1 in absurd cc
 
 -- so no other value is a schema
-no_other : (v w : Json) → v ≡ w → (IsWord w ⊎ IsObject w → ⊥) → IsValidSchema v → ⊥
-no_other v w is other valid = other (subst (λ (u : Json). IsWord u ⊎ IsObject u) is (schema_kind v valid))
+no_other : (v w : Json) → v ≡ w → (IsString w ⊎ IsObject w → ⊥) → IsValidSchema v → ⊥
+no_other v w is other valid = other (subst (λ (u : Json). IsString u ⊎ IsObject u) is (schema_kind v valid))
 
 pub no_schema : (t : Tree) → (t ≡ variants.Null) ⊎ ((b : Bool) × (t ≡ variants.Bool b)) ⊎ ((d : Decimal) × (t ≡ variants.Number d)) ⊎ ((ts : List Tree) × (t ≡ variants.List ts))
     → IsValidSchema (view t) → ⊥
@@ -210,49 +209,49 @@ schema_shape ms (inr valid) = schema_by (role.Schema valid.0) ms valid.1 refl re
 
 pub payload_object : (v : Json) → IsValidPayload v → IsObject v
 payload_object v (inl valid) = is_object (role.Payload valid.0) v refl valid.1
-payload_object v (inr valid) = is_object (role.Field valid.0) v refl valid.1
+payload_object v (inr valid) = is_object role.Field v refl valid
 
 pub payload_shape : (ms : Members Number) → IsValidPayload (object ms) → PayloadShape ms
 payload_shape ms (inl (payload.Command, valid)) =
-    payload_by (role.Payload payload.Command) ms valid refl (leaves.name naming.Alone false) (λ v s. inr (place.Outer, s))
+    payload_by (role.Payload payload.Command) ms valid refl leaves.name (λ v s. inr (schema_use.Outer, s))
 payload_shape ms (inl (payload.MapKey, valid)) =
-    payload_by (role.Payload payload.MapKey) ms valid refl (leaves.name naming.Alone false) (λ v s. inr (place.MapKey, s))
+    payload_by (role.Payload payload.MapKey) ms valid refl leaves.name (λ v s. inr (schema_use.MapKey, s))
 payload_shape ms (inl (payload.MapValue, valid)) =
-    payload_by (role.Payload payload.MapValue) ms valid refl (leaves.name naming.Alone false) (λ v s. inr (place.Inner, s))
-payload_shape ms (inr (repeats, valid)) = payload_by (role.Field repeats) ms valid refl (leaves.name naming.Field repeats) (λ v s. inr (place.Inner, s))
+    payload_by (role.Payload payload.MapValue) ms valid refl leaves.name (λ v s. inr (schema_use.Inner, s))
+payload_shape ms (inr valid) = payload_by role.Field ms valid refl leaves.name (λ v s. inr (schema_use.Inner, s))
 
 pub enum_entry_object : (v : Json) → IsValidEnumEntry v → IsObject v
-enum_entry_object v (k, repeats, same_value, asks, valid) = is_object (role.EnumEntry k repeats same_value) v refl valid
+enum_entry_object v (k, asks, valid) = is_object (role.EnumEntry k) v refl valid
 
 pub enum_entry_shape : (ms : Members Number) → IsValidEnumEntry (object ms) → EnumEntryShape ms
-enum_entry_shape ms (k, repeats, same_value, asks, valid) =
-    let r = role.EnumEntry k repeats same_value in
+enum_entry_shape ms (k, asks, valid) =
+    let r = role.EnumEntry k in
     record {
-      name = has r ms valid element.EnumEntry key.Name CanBeName refl refl (1, lit≤ tt, refl) (leaves.name naming.EnumEntry repeats);
+      name = has r ms valid element.EnumEntry key.Name CanBeName refl refl (1, lit≤ tt, refl) leaves.name;
       common = common_shape r ms valid element.EnumEntry refl (λ other. absurd cc);
-      value = has r ms valid element.EnumEntry key.EnumValue CanBeEnumValue refl refl (0, lit≤ tt, refl) (λ v s. leaves.enum_value k same_value v asks s);
+      value = has r ms valid element.EnumEntry key.EnumValue CanBeEnumValue refl refl (0, lit≤ tt, refl) (λ v s. leaves.enum_value k v asks s);
     }
 
 -- ---- contents
 pub content_object : (v : Json) → IsValidContent v → IsObject v
-content_object v (repeats, valid) = is_object (role.Content repeats) v refl valid
+content_object v valid = is_object role.Content v refl valid
 
-module _ (repeats : Bool) (ms : Members Number) (valid : IsValid (role.Content repeats) (object ms)) where
+module _ (ms : Members Number) (valid : IsValid role.Content (object ms)) where
   telemetry_shape : type_of position.Content ms ≡ Some element.Telemetry → TelemetryShape position.Content ms
   telemetry_shape is =
-      let r = role.Content repeats in
+      let r = role.Content in
       record {
-        schema = has r ms valid element.Telemetry key.Schema IsValidSchema is refl (2, lit≤ tt, refl) (λ v s. inr (place.Outer, s));
+        schema = has r ms valid element.Telemetry key.Schema IsValidSchema is refl (2, lit≤ tt, refl) (λ v s. inr (schema_use.Outer, s));
         semantic = may_have r ms valid element.Telemetry key.Type (CanBeTypes position.Content) is refl leaves.content_types;
         unit = may_have r ms valid element.Telemetry key.Unit CanBeName is refl leaves.unit;
       }
 
   content_property_shape : type_of position.Content ms ≡ Some element.Property → PropertyShape position.Content ms
-  content_property_shape is = property_by (role.Content repeats) ms valid position.Content is (λ v s. inr (place.Property, s)) leaves.content_types
+  content_property_shape is = property_by role.Content ms valid position.Content is (λ v s. inr (schema_use.Property, s)) leaves.content_types
 
   command_shape : type_of position.Content ms ≡ Some element.Command → CommandShape ms
   command_shape is =
-      let r = role.Content repeats in
+      let r = role.Content in
       record {
         request = may_have r ms valid element.Command key.Request IsValidPayload is refl (λ v s. inl (payload.Command, s));
         response = may_have r ms valid element.Command key.Response IsValidPayload is refl (λ v s. inl (payload.Command, s));
@@ -260,25 +259,25 @@ module _ (repeats : Bool) (ms : Members Number) (valid : IsValid (role.Content r
 
   relationship_shape : type_of position.Content ms ≡ Some element.Relationship → RelationshipShape ms
   relationship_shape is =
-      let r = role.Content repeats in
+      let r = role.Content in
       record {
         target = may_have r ms valid element.Relationship key.Target CanBeId is refl leaves.interface_reference;
         properties = may_have r ms valid element.Relationship key.Properties (IsListOf IsValidProperty) is refl
-            (is_list role.Properties IsValidProperty refl (λ vs i. (role.RelationshipProperty (repeats_name vs i), refl, λ w s. (repeats_name vs i, s))));
+            (is_list role.Properties IsValidProperty refl (role.RelationshipProperty, refl, λ w s. s));
         most = may_have r ms valid element.Relationship key.MaxMultiplicity CanBeMultiplicity is refl leaves.multiplicity;
         writable = may_have r ms valid element.Relationship key.Writable IsTruth is refl leaves.writable;
       }
 
   component_shape : type_of position.Content ms ≡ Some element.Component → ComponentShape ms
   component_shape is = record {
-    of = has (role.Content repeats) ms valid element.Component key.Schema CanBeId is refl (2, lit≤ tt, refl) leaves.interface_reference;
+    of = has role.Content ms valid element.Component key.Schema CanBeId is refl (2, lit≤ tt, refl) leaves.interface_reference;
   }
 
   content_as : (e : Element) → type_of position.Content ms ≡ Some e → key_of e (key_text key.Name) ≡ Some key.Name → Contains (required e) key.Name
       → e ≢ element.Interface → KindShape (Some e) ms → ContentShape ms
   content_as e is known needed other shape = record {
-    name = has (role.Content repeats) ms valid e key.Name CanBeName is known needed (leaves.name naming.Content repeats);
-    common = common_shape (role.Content repeats) ms valid e is other;
+    name = has role.Content ms valid e key.Name CanBeName is known needed leaves.name;
+    common = common_shape role.Content ms valid e is other;
     kind = subst (λ o. KindShape o ms) (sym is) shape;
   }
 
@@ -301,21 +300,21 @@ module _ (repeats : Bool) (ms : Members Number) (valid : IsValid (role.Content r
   content_by e (inr (inr (inr (inr (inr none))))) named = absurd none
 
 pub content_shape : (ms : Members Number) → IsValidContent (object ms) → ContentShape ms
-content_shape ms (repeats, valid) = elim (type_of position.Content ms) as (λ o. type_of position.Content ms ≡ o → ContentShape ms) [
-  | None ↦ λ none. absurd (named_type (role.Content repeats) ms valid position.Content refl refl refl (λ v nothing. nothing) none)
-  | Some e ↦ λ is. content_by repeats ms valid e (type_of_among position.Content ms e is) is
+content_shape ms valid = elim (type_of position.Content ms) as (λ o. type_of position.Content ms ≡ o → ContentShape ms) [
+  | None ↦ λ none. absurd (named_type role.Content ms valid position.Content refl refl refl (λ v nothing. nothing) none)
+  | Some e ↦ λ is. content_by ms valid e (type_of_among position.Content ms e is) is
 ] refl
 
 pub property_object : (v : Json) → IsValidProperty v → IsObject v
-property_object v (repeats, valid) = is_object (role.RelationshipProperty repeats) v refl valid
+property_object v valid = is_object role.RelationshipProperty v refl valid
 
 pub property_shape : (ms : Members Number) → IsValidProperty (object ms) → RelationshipPropertyShape ms
-property_shape ms (repeats, valid) =
-    let r = role.RelationshipProperty repeats in
+property_shape ms valid =
+    let r = role.RelationshipProperty in
     record {
-      name = has r ms valid element.Property key.Name CanBeName refl refl (1, lit≤ tt, refl) (leaves.name naming.Content repeats);
+      name = has r ms valid element.Property key.Name CanBeName refl refl (1, lit≤ tt, refl) leaves.name;
       common = common_shape r ms valid element.Property refl (λ other. absurd cc);
-      kind = property_by r ms valid position.Property refl (λ v s. inr (place.Property, s)) leaves.property_types;
+      kind = property_by r ms valid position.Property refl (λ v s. inr (schema_use.Property, s)) leaves.property_types;
     }
 
 -- ---- interfaces
@@ -328,12 +327,12 @@ interface_shape ms valid =
     let e = element.Interface in
     record {
       id = has r ms valid e key.Id CanBeId refl refl (1, lit≤ tt, refl) leaves.interface_id;
-      comment = may_have r ms valid e key.Comment IsWord refl refl leaves.comment;
+      comment = may_have r ms valid e key.Comment IsString refl refl leaves.comment;
       description = may_have r ms valid e key.Description IsWords refl refl (leaves.localized localized.Description);
       display_name = may_have r ms valid e key.DisplayName IsWords refl refl (leaves.localized localized.DisplayName);
       parents = may_have r ms valid e key.Extends IsParents refl refl leaves.parents;
       contents = may_have r ms valid e key.Contents (IsListOf IsValidContent) refl refl
-          (is_list role.Contents IsValidContent refl (λ vs i. (role.Content (repeats_name vs i), refl, λ w s. (repeats_name vs i, s))));
+          (is_list role.Contents IsValidContent refl (role.Content, refl, λ w s. s));
       schemas = may_have r ms valid e key.Schemas (IsListOf IsValidSchema) refl refl
-          (is_list role.Schemas IsValidSchema refl (λ vs i. (role.NamedSchema, refl, λ w s. inl s)));
+          (is_list role.Schemas IsValidSchema refl (role.NamedSchema, refl, λ w s. inl s));
     }

@@ -1,5 +1,5 @@
 -- What stands in the roles of an interface in which no rule is broken.
-use Rattle.std.proofs.Common.{◌≡◌, ℕ, List, [], ◌∷◌, ◌++◌, Option, Some, None, option_and_then, refl, sym, ap, subst, ◌∙◌}
+use Rattle.std.proofs.Common.{◌≡◌, ℕ, inl, inr, List, [], ◌∷◌, ◌++◌, Option, Some, None, option_and_then, refl, sym, ap, subst, ◌∙◌}
 use Rattle.json_decimal.specs.Number.{Number}
 use Rattle.json_tree.specs.Values.{Json, array, object, Elements, Members}
 use Rattle.json_tree.specs.Places.{IsPart, element_at, member_at}
@@ -70,14 +70,14 @@ key_stands whole r ms e k key v element known at s =
     record { place = s.place ++ there.0 ∷ []; there = there.1 }
 
 -- the entry of a list
-pub entry_at : (whole : Json) (place : List ℕ) (r : Role) (vs : Elements Number) (i : ℕ) (s : Role) (v : Json) → entry_role r (list_of vs) i ≡ Some s
+pub entry_at : (whole : Json) (place : List ℕ) (r : Role) (vs : Elements Number) (i : ℕ) (s : Role) (v : Json) → entry_role r ≡ Some s
     → element_at vs i ≡ Some v → HasRole role.Interface whole place r (array vs) → HasRole role.Interface whole (place ++ i ∷ []) s v
 entry_at whole place r vs i s v entry at there = part_stands place role.Interface whole r (array vs) i s v there at entry
 
-pub entry_stands : (whole : Json) (r : Role) (vs : Elements Number) (i : ℕ) (s : Role) (v : Json) → entry_role r (list_of vs) i ≡ Some s → element_at vs i ≡ Some v
+pub entry_stands : (whole : Json) (r : Role) (vs : Elements Number) (i : ℕ) (s : Role) (v : Json) → entry_role r ≡ Some s → element_at vs i ≡ Some v
     → Stands whole r (array vs) → Stands whole s v
 entry_stands whole r vs i s v entry at t = record { place = t.place ++ i ∷ []; there = entry_at whole t.place r vs i s v entry at t.there }
 
 -- no schema there is too deep
 pub not_deep : (whole : Json) → BreaksNowhere whole → (r : Role) (v : Json) → Stands whole r v → TooDeep (members_in whole) r v → ⊥
-not_deep whole none r v s deep = none s.place rule.TooDeep (r, v, s.there, deep)
+not_deep whole none r v s deep = none s.place rule.TooDeep (r, v, s.there, inr (inr (inl deep)))

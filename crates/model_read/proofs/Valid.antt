@@ -9,7 +9,7 @@ use Rattle.local_rules.specs.Members.{list_of, value_at}
 use Rattle.local_rules.specs.Tables.{key_text, required}
 use Rattle.local_rules.specs.Roles.{element_member, element_of, entry_role, key_of, key_role, member_role, part_role, role_of_key}
 use Rattle.local_rules.specs.Kinds.{LacksKeyOf, kind_of, is_of_kind, needed_keys}
-use Rattle.local_rules.specs.Choices.{BreaksAlone}
+use Rattle.local_rules.specs.Breaches.{BreaksAlone}
 use Rattle.local_rules.specs.declared.key.Key.{Key}
 use Rattle.local_rules.specs.declared.rule.LocalRule.{LocalRule}
 use Rattle.local_rules.specs.declared.rule.LocalRule.TheVariants as rule
@@ -58,6 +58,6 @@ has_key r ms e k element needed valid none = here r (object ms) rule.MissingKey 
     (subst (λ (o : Option Element). LacksKeyOf (needed_keys r o) ms) (sym element) (lacks_needed r e ms (k, needed, none)))
 
 -- the entry of a list
-pub entry_valid : (r : Role) (vs : Elements Number) (i : ℕ) (s : Role) (v : Json) → entry_role r (list_of vs) i ≡ Some s → element_at vs i ≡ Some v
+pub entry_valid : (r : Role) (vs : Elements Number) (i : ℕ) (s : Role) (v : Json) → entry_role r ≡ Some s → element_at vs i ≡ Some v
     → IsValid r (array vs) → IsValid s v
 entry_valid r vs i s v entry at valid = part_valid r (array vs) i s v at entry valid

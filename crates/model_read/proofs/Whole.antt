@@ -9,8 +9,8 @@ use Rattle.local_rules.specs.Roles.{HasRole, element_member, id_role, key_of, me
 use Rattle.local_rules.specs.Kinds.{LacksKeyOf, needed_keys}
 use Rattle.local_rules.specs.Identifiers.{OfText}
 use Rattle.local_rules.specs.Levels.{IsPrimitive, has_id, schema_named}
-use Rattle.local_rules.specs.Choices.{BreaksAlone}
-use Rattle.local_rules.specs.Breaches.{IsBroken, IsBreach, IsEarlierId}
+use Rattle.local_rules.specs.Breaches.{BreaksAlone}
+use Rattle.local_rules.specs.Breaches.{IsBroken, IsBreach}
 use Rattle.local_rules.specs.declared.key.Key.TheVariants as key
 use Rattle.local_rules.specs.declared.rule.LocalRule.{LocalRule}
 use Rattle.local_rules.specs.declared.rule.LocalRule.TheVariants as rule
@@ -30,7 +30,6 @@ use Rattle.json_tree.specs.declared.tree.Member.{Member}
 use Rattle.local_rules.proofs.Keyed.{position_of_key}
 use Rattle.local_rules.proofs.Named.{found_under, id_is}
 use Rattle.local_rules.proofs.Wanted.{lacks_first}
-use Rattle.local_faults.proofs.Rules.{alone_breaks}
 use Rattle.model_read.specs.Machinery.Shapes.{CanBeId, EachIs, IsValid, IsValidInterface, NamesSchema}
 use Rattle.model_read.proofs.Leaves.{element_id, interface_id}
 use Rattle.model_read.proofs.Seen.{seen_list, seen_members}
@@ -111,13 +110,13 @@ pub interface : (v : Json) → ((place : List ℕ) (broken : LocalRule) → IsBr
 interface v none = record { alone = alone; named = named }
   where
     alone : BreaksNone role.Interface v
-    alone place q w there broken breaks = none place broken (q, w, there, alone_breaks (members_in v) (IsEarlierId v place) broken q w breaks)
+    alone place q w there broken breaks = none place broken (q, w, there, inl breaks)
 
     named : (place : List ℕ) (q : Role) (w : Json) → HasRole role.Interface v place q w → NamesSchema q w
     named place q w there part bytes is same other =
         let Unknown : List ℕ → Type 0 = λ t. (IsPrimitive t → ⊥) × (schema_named (members_in v) t ≡ None) in
         let known = λ (lacks : schema_named (members_in v) bytes ≡ None).
-        none place rule.UnknownSchema (q, w, there, (part, is, subst (OfText Unknown) (sym same) (other, lacks))) in
+        none place rule.UnknownSchema (q, w, there, inr (inr (inl (part, is, subst (OfText Unknown) (sym same) (other, lacks))))) in
         subst CanBeId (sym same) (named_can_be v bytes (schema_named (members_in v) bytes) refl known alone)
 
 -- no rule is broken in a document

@@ -17,7 +17,7 @@ use Rattle.dtdl_terms.specs.declared.enumeration.EnumEntry.{EnumEntry}
 use Rattle.dtdl_terms.specs.declared.interface.Interface.{Interface}
 use Rattle.dtdl_terms.specs.declared.schema.Schema.{Schema}
 use Rattle.local_rules.specs.Members.{list_of, members_in, pairs_of, text_in, value_at}
-use Rattle.local_rules.specs.Roles.{element_of, is_language, key_of, name_role, repeats, repeats_name, repeats_value, schema_role, type_of, value_kind}
+use Rattle.local_rules.specs.Roles.{element_of, key_of, schema_role, type_of, schema_of_values}
 use Rattle.local_rules.specs.Identifiers.{id_use, of_interface}
 use Rattle.local_rules.specs.Levels.{HasLevel, IsOuter}
 use Rattle.local_rules.specs.Texts.{IsTextOf, scalar_values}
@@ -28,8 +28,6 @@ use Rattle.local_rules.specs.declared.role.Element.{Element}
 use Rattle.local_rules.specs.declared.role.Element.TheVariants as element_kind
 use Rattle.local_rules.specs.declared.role.Localized.{Localized}
 use Rattle.local_rules.specs.declared.role.Localized.TheVariants as localized
-use Rattle.local_rules.specs.declared.role.Naming.{Naming}
-use Rattle.local_rules.specs.declared.role.Naming.TheVariants as naming
 use Rattle.local_rules.specs.declared.role.PayloadUse.{PayloadUse}
 use Rattle.local_rules.specs.declared.role.PayloadUse.TheVariants as payload_use
 use Rattle.local_rules.specs.declared.role.Position.{Position}
@@ -37,8 +35,8 @@ use Rattle.local_rules.specs.declared.role.Position.TheVariants as position
 use Rattle.local_rules.specs.declared.role.Role.{Role}
 use Rattle.local_rules.specs.declared.role.Role.TheVariants as role
 use Rattle.local_rules.specs.declared.role.SchemaUse.{SchemaUse}
-use Rattle.local_rules.specs.declared.role.SchemaUse.TheVariants as place
-use Rattle.local_rules.specs.declared.role.ValueKind.{ValueKind}
+use Rattle.local_rules.specs.declared.role.SchemaUse.TheVariants as schema_use
+use Rattle.local_rules.specs.declared.role.ValueSchema.{ValueSchema}
 use Rattle.model_read.specs.Declarations.{ArePayloads, AreProperties, AreEntriesOf, AreKind, DeclaresEnumEntry, DeclaresInterface, HasCommon, HasContents, HasKindOf, HasSchemas, HasOptionalId, HasOptionalPayload, HasOptionalString, HasParents, HasSchema, HasSemantic, HasString, IsContent, IsContentEntry, IsEnumEntry, IsIdentifier, IsLocalized, IsLocalizedBy, IsPayload, IsPropertyTerm, IsSchema, IsSemantic, IsTextOfLanguage, type_of_kind}
 use Rattle.model_read.specs.Limits.{AreShortTexts, ContentIsWithin, ContentsAreWithin, EnumEntryIsWithin, HasShortTexts, IsShortId, IsShortInterfaceId, IsShortName, IsShortText, IsWithinLimits, KindIsWithin, OuterPayloadIsWithin, OuterSchemaIsWithin, PayloadIsWithin, PayloadsAreWithin, SchemaIsWithin, levels, payload_levels}
 use Rattle.model_read.specs.Machinery.Shapes.{CanBeName, CanBeTypes, IsValid}
@@ -104,8 +102,8 @@ short_localized which (text bytes) es is valid = subst
     (short_text which (role.Localized which) bytes (inl refl) valid, tt)
 short_localized which (object ms) es is valid = short_texts which ms es
     (λ i k v at.
-    let r : Role = role.LocalizedText which (is_language k) in
-    (r, inr (is_language k, refl), placed_valid (role.Localized which) ms i r k v at refl valid))
+        let r : Role = role.LocalizedText which in
+        (r, inr refl, placed_valid (role.Localized which) ms i r k v at refl valid))
     is
 short_localized which null es is valid = absurd is
 short_localized which (truth b) es is valid = absurd is
@@ -116,10 +114,6 @@ short_optional : (which : Localized) (o : Option Json) (es : List Entry) → IsL
     → AllByRecursion (λ e. IsShortText (limit_of which) e.text) es
 short_optional which None es is valid = subst (λ (xs : List Entry). AllByRecursion (λ e. IsShortText (limit_of which) e.text) xs) (sym is) tt
 short_optional which (Some v) es is valid = short_localized which v es is (valid v refl)
-
--- whether an entry of `extends` repeats an earlier one
-abbrev repeats_parent : Elements Number → ℕ → Bool
-repeats_parent vs i = repeats bytes_eq (map text_in (list_of vs)) i
 
 -- ---- in an interface in which no rule is broken
 module _ (whole : Json) (none : BreaksNowhere whole) where
@@ -146,33 +140,32 @@ module _ (whole : Json) (none : BreaksNowhere whole) where
   }
 
   -- a name in its role
-  name_within : (n : Naming) (repeats : Bool) (name : List ℕ) → Stands whole (role.Name n repeats) (text name) → IsShortName name
-  name_within n repeats name stands =
-      short_name name (leaves.name n repeats (text name) (stands_valid whole none (role.Name n repeats) (text name) stands))
+  name_within : (name : List ℕ) → Stands whole role.Name (text name) → IsShortName name
+  name_within name stands = short_name name (leaves.name (text name) (stands_valid whole none role.Name (text name) stands))
 
   -- ---- enums
-  enum_entry_within : (k : ValueKind) (repeats same : Bool) (v : Json) (e : EnumEntry) → IsEnumEntry v e → Stands whole (role.EnumEntry k repeats same) v
+  enum_entry_within : (k : ValueSchema) (v : Json) (e : EnumEntry) → IsEnumEntry v e → Stands whole (role.EnumEntry k) v
       → EnumEntryIsWithin e
-  enum_entry_within k repeats same v e has there =
-      let r : Role = role.EnumEntry k repeats same in
+  enum_entry_within k v e has there =
+      let r : Role = role.EnumEntry k in
       let stands = subst (Stands whole r) has.1 there in
       record {
-        name = name_within naming.EnumEntry repeats e.name
+        name = name_within e.name
             (key_stands whole r has.0 element_kind.EnumEntry key.Name (codes "name") (text e.name) refl refl has.2.name stands);
         common = common_within element_kind.EnumEntry r has.0 e.common refl (λ other. absurd cc) stands has.2.common;
       }
 
-  enum_entries_within : (k : ValueKind) (vs : Elements Number) (es : List EnumEntry)
-      → ((i : ℕ) (v : Json) → element_at vs i ≡ Some v → (repeats : Bool) × (same : Bool) × Stands whole (role.EnumEntry k repeats same) v)
+  enum_entries_within : (k : ValueSchema) (vs : Elements Number) (es : List EnumEntry)
+      → ((i : ℕ) (v : Json) → element_at vs i ≡ Some v → Stands whole (role.EnumEntry k) v)
       → AllZip IsEnumEntry (list_of vs) es → AllByRecursion EnumEntryIsWithin es
   enum_entries_within k no_elements [] stands all = tt
   enum_entries_within k no_elements (e ∷ es) stands all = absurd all
   enum_entries_within k (element v vs) [] stands all = absurd all
   enum_entries_within k (element v vs) (e ∷ es) stands all =
       let first = stands zero v refl in
-      (enum_entry_within k first.0 first.1 v e all.0 first.2, enum_entries_within k vs es (λ i w at. stands (suc i) w at) all.1)
+      (enum_entry_within k v e all.0 first, enum_entries_within k vs es (λ i w at. stands (suc i) w at) all.1)
 
-  few_enum_entries : (k : ValueKind) (vs : Elements Number) (es : List EnumEntry) → AllZip IsEnumEntry (list_of vs) es → Stands whole (role.EnumValues k) (array vs)
+  few_enum_entries : (k : ValueSchema) (vs : Elements Number) (es : List EnumEntry) → AllZip IsEnumEntry (list_of vs) es → Stands whole (role.EnumValues k) (array vs)
       → length es ≤ 100
   few_enum_entries k vs es all stands =
       let long = AllZip-long IsEnumEntry (list_of vs) es all in
@@ -189,31 +182,25 @@ module _ (whole : Json) (none : BreaksNowhere whole) where
   schema_element r (inr is) ms = ap (λ (q : Role). element_of q ms) is.1
 
   abbrev pub IsPayloadRole : Role → Type 0
-  IsPayloadRole r = ((part : PayloadUse) × (r ≡ role.Payload part)) ⊎ ((repeats : Bool) × (r ≡ role.Field repeats))
+  IsPayloadRole r = ((part : PayloadUse) × (r ≡ role.Payload part)) ⊎ (r ≡ role.Field)
 
   pub payload_element : (r : Role) → IsPayloadRole r → (ms : Members Number) → element_of r ms ≡ Some element_kind.Payload
   payload_element r (inl is) ms = ap (λ (q : Role). element_of q ms) is.1
-  payload_element r (inr is) ms = ap (λ (q : Role). element_of q ms) is.1
+  payload_element r (inr is) ms = ap (λ (q : Role). element_of q ms) is
 
   payload_schema_part : (part : PayloadUse) → IsSchemaRole (schema_role (role.Payload part) element_kind.Payload)
-  payload_schema_part payload_use.Command = inr (place.Outer, refl)
-  payload_schema_part payload_use.MapKey = inr (place.MapKey, refl)
-  payload_schema_part payload_use.MapValue = inr (place.Inner, refl)
+  payload_schema_part payload_use.Command = inr (schema_use.Outer, refl)
+  payload_schema_part payload_use.MapKey = inr (schema_use.MapKey, refl)
+  payload_schema_part payload_use.MapValue = inr (schema_use.Inner, refl)
 
   pub payload_schema : (r : Role) → IsPayloadRole r → IsSchemaRole (schema_role r element_kind.Payload)
   payload_schema r (inl is) = subst (λ (q : Role). IsSchemaRole (schema_role q element_kind.Payload)) (sym is.1) (payload_schema_part is.0)
-  payload_schema r (inr is) = subst (λ (q : Role). IsSchemaRole (schema_role q element_kind.Payload)) (sym is.1) (inr (place.Inner, refl))
-
-  payload_name_role : (r : Role) → IsPayloadRole r → (n : Naming) × (repeats : Bool) × (name_role r ≡ role.Name n repeats)
-  payload_name_role r (inl is) = (naming.Alone, false, ap name_role is.1)
-  payload_name_role r (inr is) = (naming.Field, is.0, ap name_role is.1)
+  payload_schema r (inr is) = subst (λ (q : Role). IsSchemaRole (schema_role q element_kind.Payload)) (sym is) (inr (schema_use.Inner, refl))
 
   payload_name_within : (r : Role) (ms : Members Number) (name : List ℕ) → IsPayloadRole r → HasString (codes "name") ms name → Stands whole r (object ms)
       → IsShortName name
   payload_name_within r ms name is has stands =
-      let named = payload_name_role r is in
-      let there = key_stands whole r ms element_kind.Payload key.Name (codes "name") (text name) (payload_element r is ms) refl has stands in
-      name_within named.0 named.1 name (subst (λ (q : Role). Stands whole q (text name)) named.2 there)
+      name_within name (key_stands whole r ms element_kind.Payload key.Name (codes "name") (text name) (payload_element r is ms) refl has stands)
 
   field_count : (ps : PayloadTerms) (vs : Elements Number) → ArePayloads ps vs → length (payload_names ps) ≡ length (list_of vs)
   field_count no_payloads no_elements all = refl
@@ -236,21 +223,17 @@ module _ (whole : Json) (none : BreaksNowhere whole) where
         let stands = subst (Stands whole r) g.2.0 there in
         let e = schema_element r is g.0 ∙ g.2.1 in (
           common_within element_kind.Array r g.0 c e (λ other. absurd cc) stands g.3,
-          schema_within s (role.Schema place.Inner) g.1 (inr (place.Inner, refl)) g.5
+          schema_within s (role.Schema schema_use.Inner) g.1 (inr (schema_use.Inner, refl)) g.5
               (key_stands whole r g.0 element_kind.Array key.ElementSchema (codes "elementSchema") g.1 e refl g.4 stands),
         )
     schema_within (enumeration c of_text es) r v is g there =
         let stands = subst (Stands whole r) g.2.0 there in
         let e = schema_element r is g.0 ∙ g.2.1 in
-        let k = value_kind g.0 in
+        let k = schema_of_values g.0 in
         let listed = key_stands whole r g.0 element_kind.Enumeration key.EnumValues (codes "enumValues") (array g.1) e refl g.5 stands in (
           common_within element_kind.Enumeration r g.0 c e (λ other. absurd cc) stands g.3,
           few_enum_entries k g.1 es g.6 listed,
-          enum_entries_within k g.1 es (λ i w at. (
-            repeats_name (list_of g.1) i,
-            repeats_value (list_of g.1) i,
-            entry_stands whole (role.EnumValues k) g.1 i (role.EnumEntry k (repeats_name (list_of g.1) i) (repeats_value (list_of g.1) i)) w refl at listed,
-          )) g.6,
+          enum_entries_within k g.1 es (λ i w at. entry_stands whole (role.EnumValues k) g.1 i (role.EnumEntry k) w refl at listed) g.6,
         )
     schema_within (map_of c k e) r v is g there =
         let stands = subst (Stands whole r) g.3.0 there in
@@ -268,7 +251,7 @@ module _ (whole : Json) (none : BreaksNowhere whole) where
           common_within element_kind.Object r g.0 c e (λ other. absurd cc) stands g.3,
           few_fields fs g.1 g.5 listed,
           payloads_within fs g.1 g.5
-              (λ i w at. (repeats_name (list_of g.1) i, entry_stands whole role.Fields g.1 i (role.Field (repeats_name (list_of g.1) i)) w refl at listed)),
+              (λ i w at. entry_stands whole role.Fields g.1 i role.Field w refl at listed),
         )
 
     payload_within : (p : PayloadTerm) (r : Role) (v : Json) → IsPayloadRole r → IsPayload p v → Stands whole r v → PayloadIsWithin p
@@ -282,17 +265,17 @@ module _ (whole : Json) (none : BreaksNowhere whole) where
         )
 
     payloads_within : (ps : PayloadTerms) (vs : Elements Number) → ArePayloads ps vs
-        → ((i : ℕ) (v : Json) → element_at vs i ≡ Some v → (repeats : Bool) × Stands whole (role.Field repeats) v) → PayloadsAreWithin ps
+        → ((i : ℕ) (v : Json) → element_at vs i ≡ Some v → Stands whole role.Field v) → PayloadsAreWithin ps
     payloads_within no_payloads vs all stands = tt
     payloads_within (more_payloads p ps) no_elements all stands = absurd all
     payloads_within (more_payloads p ps) (element v vs) all stands =
         let first = stands zero v refl in
-        (payload_within p (role.Field first.0) v (inr (first.0, refl)) all.0 first.1, payloads_within ps vs all.1 (λ i w at. stands (suc i) w at))
+        (payload_within p role.Field v (inr refl) all.0 first, payloads_within ps vs all.1 (λ i w at. stands (suc i) w at))
 
   -- a schema that lies in no other
   outer_role : (r : Role) → IsOuter r → IsSchemaRole r
-  outer_role r (inl is) = inr (place.Outer, is)
-  outer_role r (inr (inl is)) = inr (place.Property, is)
+  outer_role r (inl is) = inr (schema_use.Outer, is)
+  outer_role r (inr (inl is)) = inr (schema_use.Property, is)
   outer_role r (inr (inr is)) = inl is
 
   not_many_levels : (s : SchemaTerm) (r : Role) (v : Json) → IsOuter r → IsSchema s v → Stands whole r v → levels s ≤ 5
@@ -309,7 +292,7 @@ module _ (whole : Json) (none : BreaksNowhere whole) where
       let r : Role = role.Payload payload_use.Command in
       let stands = subst (Stands whole r) g.2 there in
       let outer = key_stands whole r g.0 element_kind.Payload key.Schema (codes "schema") g.1 refl refl g.5 stands in
-      (not_many_levels s (role.Schema place.Outer) g.1 (inl refl) g.6 outer, payload_within (payload n c s) r v (inl (payload_use.Command, refl)) g there)
+      (not_many_levels s (role.Schema schema_use.Outer) g.1 (inl refl) g.6 outer, payload_within (payload n c s) r v (inl (payload_use.Command, refl)) g there)
 
   -- ---- contents
   unit_within : (ms : Members Number) (o : Option (List ℕ)) → ((v : Json) → value_at (codes "unit") ms ≡ Some v → Stands whole role.Unit v)
@@ -344,28 +327,28 @@ module _ (whole : Json) (none : BreaksNowhere whole) where
   nothing_in (element w vs) i v is at = cc
 
   -- an entry of a relationship's `properties`
-  property_within : (c : ContentTerm) (repeats : Bool) (v : Json) → IsContent position.Property c v → IsPropertyTerm c → Stands whole (role.RelationshipProperty repeats) v
+  property_within : (c : ContentTerm) (v : Json) → IsContent position.Property c v → IsPropertyTerm c → Stands whole role.RelationshipProperty v
       → ContentIsWithin c
-  property_within (content n c (property s semantic unit writable)) repeats v g is there =
-      let r : Role = role.RelationshipProperty repeats in
+  property_within (content n c (property s semantic unit writable)) v g is there =
+      let r : Role = role.RelationshipProperty in
       let e = element_kind.Property in
       let stands = subst (Stands whole r) g.1 there in (
-        name_within naming.Content repeats n (key_stands whole r g.0 e key.Name (codes "name") (text n) refl refl g.2 stands),
+        name_within n (key_stands whole r g.0 e key.Name (codes "name") (text n) refl refl g.2 stands),
         common_within e r g.0 c refl (λ other. absurd cc) stands g.3,
         data_within position.Property r e g.0 s semantic unit
-            (λ w at. (role.Schema place.Property, inr (inl refl), key_stands whole r g.0 e key.Schema (codes "schema") w refl refl at stands))
+            (λ w at. (role.Schema schema_use.Property, inr (inl refl), key_stands whole r g.0 e key.Schema (codes "schema") w refl refl at stands))
             (λ w at. leaves.property_types w (stands_valid whole none (role.Type position.Property) w (key_stands whole r g.0 e key.Type (codes "@type") w refl refl at stands)))
             (λ w at. key_stands whole r g.0 e key.Unit (codes "unit") w refl refl at stands) g.4.0 g.4.1 g.4.2,
       )
-  property_within (content n c other) repeats v g is there = absurd cc
+  property_within (content n c other) v g is there = absurd cc
 
   properties_within : (cs : ContentTerms) (vs : Elements Number) → AreProperties cs vs
-      → ((i : ℕ) (v : Json) → element_at vs i ≡ Some v → (repeats : Bool) × Stands whole (role.RelationshipProperty repeats) v) → ContentsAreWithin cs
+      → ((i : ℕ) (v : Json) → element_at vs i ≡ Some v → Stands whole role.RelationshipProperty v) → ContentsAreWithin cs
   properties_within no_contents vs all stands = tt
   properties_within (more_contents c cs) no_elements all stands = absurd all
   properties_within (more_contents c cs) (element v vs) all stands =
       let first = stands zero v refl in
-      (property_within c first.0 v all.0.0 all.0.1 first.1, properties_within cs vs all.1 (λ i w at. stands (suc i) w at))
+      (property_within c v all.0.0 all.0.1 first, properties_within cs vs all.1 (λ i w at. stands (suc i) w at))
 
   optional_payload_within : (k : List ℕ) (ms : Members Number) (o : Option PayloadTerm)
       → ((v : Json) → value_at k ms ≡ Some v → Stands whole (role.Payload payload_use.Command) v) → HasOptionalPayload k ms o → IfSome o OuterPayloadIsWithin
@@ -384,38 +367,38 @@ module _ (whole : Json) (none : BreaksNowhere whole) where
   listed_within cs (Some w) g stands =
       let listed = subst (Stands whole role.Properties) g.1 (stands w refl) in
       properties_within cs g.0 g.2
-      (λ i v at. (repeats_name (list_of g.0) i, entry_stands whole role.Properties g.0 i (role.RelationshipProperty (repeats_name (list_of g.0) i)) v refl at listed))
+      (λ i v at. entry_stands whole role.Properties g.0 i role.RelationshipProperty v refl at listed)
 
-  kind_within : (k : KindTerm) (repeats : Bool) (ms : Members Number) → type_of position.Content ms ≡ Some (type_of_kind k) → AreKind position.Content k ms
-      → Stands whole (role.Content repeats) (object ms) → KindIsWithin k
-  kind_within (telemetry s semantic unit) repeats ms is g stands =
-      let r : Role = role.Content repeats in
+  kind_within : (k : KindTerm) (ms : Members Number) → type_of position.Content ms ≡ Some (type_of_kind k) → AreKind position.Content k ms
+      → Stands whole role.Content (object ms) → KindIsWithin k
+  kind_within (telemetry s semantic unit) ms is g stands =
+      let r : Role = role.Content in
       let e = element_kind.Telemetry in
       data_within position.Content r e ms s semantic unit
-      (λ w at. (role.Schema place.Outer, inl refl, key_stands whole r ms e key.Schema (codes "schema") w is refl at stands))
+      (λ w at. (role.Schema schema_use.Outer, inl refl, key_stands whole r ms e key.Schema (codes "schema") w is refl at stands))
       (λ w at. leaves.content_types w (stands_valid whole none (role.Type position.Content) w (key_stands whole r ms e key.Type (codes "@type") w is refl at stands)))
       (λ w at. key_stands whole r ms e key.Unit (codes "unit") w is refl at stands) g.0 g.1 g.2
-  kind_within (property s semantic unit writable) repeats ms is g stands =
-      let r : Role = role.Content repeats in
+  kind_within (property s semantic unit writable) ms is g stands =
+      let r : Role = role.Content in
       let e = element_kind.Property in
       data_within position.Content r e ms s semantic unit
-      (λ w at. (role.Schema place.Property, inr (inl refl), key_stands whole r ms e key.Schema (codes "schema") w is refl at stands))
+      (λ w at. (role.Schema schema_use.Property, inr (inl refl), key_stands whole r ms e key.Schema (codes "schema") w is refl at stands))
       (λ w at. leaves.content_types w (stands_valid whole none (role.Type position.Content) w (key_stands whole r ms e key.Type (codes "@type") w is refl at stands)))
       (λ w at. key_stands whole r ms e key.Unit (codes "unit") w is refl at stands) g.0 g.1 g.2
-  kind_within (command request response) repeats ms is g stands =
-      let r : Role = role.Content repeats in
+  kind_within (command request response) ms is g stands =
+      let r : Role = role.Content in
       let e = element_kind.Command in (
         optional_payload_within (codes "request") ms request (λ w at. key_stands whole r ms e key.Request (codes "request") w is refl at stands) g.0,
         optional_payload_within (codes "response") ms response (λ w at. key_stands whole r ms e key.Response (codes "response") w is refl at stands) g.1,
       )
-  kind_within (relationship target cs most writable) repeats ms is g stands =
-      let r : Role = role.Content repeats in
+  kind_within (relationship target cs most writable) ms is g stands =
+      let r : Role = role.Content in
       let e = element_kind.Relationship in (
         target_within (codes "target") ms target (λ w at. key_stands whole r ms e key.Target (codes "target") w is refl at stands) g.0,
         listed_within cs (value_at (codes "properties") ms) g.1 (λ w at. key_stands whole r ms e key.Properties (codes "properties") w is refl at stands),
       )
-  kind_within (component id) repeats ms is g stands =
-      let r : Role = role.Content repeats in
+  kind_within (component id) ms is g stands =
+      let r : Role = role.Content in
       let there = key_stands whole r ms element_kind.Component key.Schema (codes "schema") g.0 is refl g.1 stands in
       short_interface_id role.InterfaceReference g.0 id (λ bytes. refl) g.2 (stands_valid whole none role.InterfaceReference g.0 there)
 
@@ -434,26 +417,26 @@ module _ (whole : Json) (none : BreaksNowhere whole) where
   no_interface (relationship a b m w) is = cc
   no_interface (component id) is = cc
 
-  content_within : (c : ContentTerm) (repeats : Bool) (v : Json) → HasKindOf c v → IsContent position.Content c v → Stands whole (role.Content repeats) v
+  content_within : (c : ContentTerm) (v : Json) → HasKindOf c v → IsContent position.Content c v → Stands whole role.Content v
       → ContentIsWithin c
-  content_within (content n c k) repeats v typed g there =
-      let r : Role = role.Content repeats in
+  content_within (content n c k) v typed g there =
+      let r : Role = role.Content in
       let stands = subst (Stands whole r) g.1 there in
       let is : type_of position.Content g.0 ≡ Some (type_of_kind k) = subst (λ (w : Json). type_of position.Content (members_in w) ≡ Some (type_of_kind k)) g.1 typed in (
-        name_within naming.Content repeats n (key_stands whole r g.0 (type_of_kind k) key.Name (codes "name") (text n) is (name_known k) g.2 stands),
+        name_within n (key_stands whole r g.0 (type_of_kind k) key.Name (codes "name") (text n) is (name_known k) g.2 stands),
         common_within (type_of_kind k) r g.0 c is (no_interface k) stands g.3,
-        kind_within k repeats g.0 is g.4 stands,
+        kind_within k g.0 is g.4 stands,
       )
 
   -- ---- interfaces
   parents_within : (vs : Elements Number) (ids : List Identifier) → AllZip IsIdentifier (list_of vs) ids
-      → ((i : ℕ) (v : Json) → element_at vs i ≡ Some v → (repeats : Bool) × Stands whole (role.Parent repeats) v) → AllByRecursion IsShortInterfaceId ids
+      → ((i : ℕ) (v : Json) → element_at vs i ≡ Some v → Stands whole role.Parent v) → AllByRecursion IsShortInterfaceId ids
   parents_within no_elements [] all stands = tt
   parents_within no_elements (id ∷ ids) all stands = absurd all
   parents_within (element v vs) [] all stands = absurd all
   parents_within (element v vs) (id ∷ ids) all stands =
       let first = stands zero v refl in (
-        short_interface_id (role.Parent first.0) v id (λ bytes. refl) all.0 (stands_valid whole none (role.Parent first.0) v first.1),
+        short_interface_id role.Parent v id (λ bytes. refl) all.0 (stands_valid whole none role.Parent v first),
         parents_within vs ids all.1 (λ i w at. stands (suc i) w at),
       )
 
@@ -464,7 +447,7 @@ module _ (whole : Json) (none : BreaksNowhere whole) where
       let valid = stands_valid whole none role.Extends (array vs) stands in
       let not_many : 2 < length (list_of vs) → ⊥ = λ many. here role.Extends (array vs) rule.TooManyParents valid (refl, many) in (
         omega (arith, not_many),
-        parents_within vs ids all (λ i v at. (repeats_parent vs i, entry_stands whole role.Extends vs i (role.Parent (repeats_parent vs i)) v refl at stands)),
+        parents_within vs ids all (λ i v at. entry_stands whole role.Extends vs i role.Parent v refl at stands),
       )
 
   extends_within : (o : Option Json) (ids : List Identifier) → HasParents o ids → ((v : Json) → o ≡ Some v → Stands whole role.Extends v)
@@ -477,14 +460,14 @@ module _ (whole : Json) (none : BreaksNowhere whole) where
   extends_within (Some v) ids (inr has) stands = listed_parents_within has.0 ids has.2 (subst (Stands whole role.Extends) has.1 (stands v refl))
 
   contents_within : (vs : Elements Number) (cs : List Content) → AllZip IsContentEntry (list_of vs) cs
-      → ((i : ℕ) (v : Json) → element_at vs i ≡ Some v → (repeats : Bool) × Stands whole (role.Content repeats) v)
+      → ((i : ℕ) (v : Json) → element_at vs i ≡ Some v → Stands whole role.Content v)
       → AllByRecursion (λ c. ContentIsWithin (content_term c)) cs
   contents_within no_elements [] all stands = tt
   contents_within no_elements (c ∷ cs) all stands = absurd all
   contents_within (element v vs) [] all stands = absurd all
   contents_within (element v vs) (c ∷ cs) all stands =
       let first = stands zero v refl in (
-        content_within (content_term c) first.0 v all.0.0 all.0.1 first.1,
+        content_within (content_term c) v all.0.0 all.0.1 first,
         contents_within vs cs all.1 (λ i w at. stands (suc i) w at),
       )
 
@@ -495,8 +478,7 @@ module _ (whole : Json) (none : BreaksNowhere whole) where
       let valid = stands_valid whole none role.Contents (array vs) stands in
       let not_many : 300 < length (list_of vs) → ⊥ = λ many. here role.Contents (array vs) rule.TooManyContents valid (refl, many) in (
         omega (arith, not_many),
-        contents_within vs cs all (λ i v at.
-            (repeats_name (list_of vs) i, entry_stands whole role.Contents vs i (role.Content (repeats_name (list_of vs) i)) v refl at stands)),
+        contents_within vs cs all (λ i v at. entry_stands whole role.Contents vs i role.Content v refl at stands),
       )
 
   no_contents_within : (vs : Elements Number) (cs : List Content) → vs ≡ no_elements → AllZip IsContentEntry (list_of vs) cs
@@ -542,10 +524,10 @@ module _ (whole : Json) (none : BreaksNowhere whole) where
         comment = comment_within ms i.comment (λ v at. key_stands whole r ms e key.Comment (codes "comment") v refl refl at stands) g.comment;
         description = short_optional localized.Description (value_at (codes "description") ms) i.description.entries g.description
             (λ v at. stands_valid whole none (role.Localized localized.Description) v
-            (key_stands whole r ms e key.Description (codes "description") v refl refl at stands));
+              (key_stands whole r ms e key.Description (codes "description") v refl refl at stands));
         display_name = short_optional localized.DisplayName (value_at (codes "displayName") ms) i.display_name.entries g.display_name
             (λ v at. stands_valid whole none (role.Localized localized.DisplayName) v
-            (key_stands whole r ms e key.DisplayName (codes "displayName") v refl refl at stands));
+              (key_stands whole r ms e key.DisplayName (codes "displayName") v refl refl at stands));
         few_parents = extended.0;
         parents = extended.1;
         few_contents = contained.0;

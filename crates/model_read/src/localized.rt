@@ -4,7 +4,7 @@ ghost use Rattle.std.specs.Prelude.{◌≡◌, [], ◌∷◌, Some, IfOk, codes}
 ghost use Rattle.std.specs.List.{AllZip};
 ghost use Rattle.json_tree.specs.View.{view, member_view, members_view};
 ghost use Rattle.local_rules.specs.Members.{pairs_of, value_at};
-ghost use Rattle.local_rules.specs.Quantities.{IsWord};
+ghost use Rattle.local_rules.specs.Quantities.{IsString};
 ghost use Rattle.model_read.specs.Declarations.{HasLocalized, IsLocalizedBy, IsTextOfLanguage};
 ghost use Rattle.model_read.specs.Machinery.Shapes.{AreWords, IsWords, MayHave};
 
@@ -17,7 +17,7 @@ use std::alloc::Global;
 
 /// The text of one language.
 fn entry_of(alloc: Global, member: &Member) -> Result<Entry, OutOfMemory>
-    requires { IsWord (view member.now.value) }
+    requires { IsString (view member.now.value) }
     ensures { IfOk result (λ e. IsTextOfLanguage (member_view member.now) e) }
 {
     let language = member.key.copy(alloc)?;

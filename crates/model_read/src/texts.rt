@@ -4,7 +4,7 @@ ghost use Rattle.std.specs.Prelude.{◌≡◌, IfOk};
 ghost use Rattle.dtmi_name.specs.declared.fault.NameFault.TheVariants as faults;
 ghost use Rattle.json_tree.specs.Values.{text};
 ghost use Rattle.json_tree.specs.View.{view, members_view};
-ghost use Rattle.local_rules.specs.Quantities.{IsWord};
+ghost use Rattle.local_rules.specs.Quantities.{IsString};
 ghost use Rattle.model_read.specs.Declarations.{IsIdentifier, HasString, HasOptionalString, HasId, HasOptionalId};
 ghost use Rattle.model_read.specs.Machinery.Shapes.{CanBeId, CanBeName, Has, MayHave};
 
@@ -18,7 +18,7 @@ use std::alloc::Global;
 /// The text that a value is.
 #[tactic(auto, using(local_rules::proofs::Views::views))]
 pub fn bytes_of(tree: &Tree) -> &str
-    requires { IsWord (view tree.now) }
+    requires { IsString (view tree.now) }
     ensures { view tree.now ≡ text result.now }
 {
     match tree {
@@ -31,7 +31,7 @@ pub fn bytes_of(tree: &Tree) -> &str
 
 /// The text that a value is, in memory of its own.
 pub fn text_of(alloc: Global, tree: &Tree) -> Result<Text, OutOfMemory>
-    requires { IsWord (view tree.now) }
+    requires { IsString (view tree.now) }
     ensures { IfOk result (λ t. view tree.now ≡ text t) }
 {
     let bytes = bytes_of(tree);
@@ -110,7 +110,7 @@ pub fn optional_text(
     members: &[Member],
     key: &str,
 ) -> Result<Option<Text>, OutOfMemory>
-    requires { MayHave IsWord key.now (members_view members.now) }
+    requires { MayHave IsString key.now (members_view members.now) }
     ensures { IfOk result (λ t. HasOptionalString key.now (members_view members.now) t) }
 {
     match value_at(members, key) {

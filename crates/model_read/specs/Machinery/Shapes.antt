@@ -9,9 +9,9 @@ use Rattle.dtmi_name.specs.Grammar.{Identifier}
 use Rattle.local_rules.specs.Members.{list_of, value_at}
 use Rattle.local_rules.specs.Roles.{HasRole, type_of}
 use Rattle.local_rules.specs.Types.{IsName, MayHaveBeside, further}
-use Rattle.local_rules.specs.Quantities.{IsInteger, IsWord, IsMultiplicity}
+use Rattle.local_rules.specs.Quantities.{IsInteger, IsString, IsMultiplicity}
 use Rattle.local_rules.specs.Levels.{IsPrimitive}
-use Rattle.local_rules.specs.Choices.{BreaksAlone}
+use Rattle.local_rules.specs.Breaches.{BreaksAlone}
 use Rattle.local_rules.specs.declared.rule.LocalRule.{LocalRule}
 use Rattle.local_rules.specs.declared.role.Element.{Element}
 use Rattle.local_rules.specs.declared.role.Element.TheVariants as element_kind
@@ -21,8 +21,8 @@ use Rattle.local_rules.specs.declared.role.Position.TheVariants as position
 use Rattle.local_rules.specs.declared.role.Role.{Role}
 use Rattle.local_rules.specs.declared.role.Role.TheVariants as role
 use Rattle.local_rules.specs.declared.role.SchemaUse.{SchemaUse}
-use Rattle.local_rules.specs.declared.role.ValueKind.{ValueKind}
-use Rattle.local_rules.specs.declared.role.ValueKind.TheVariants as kind
+use Rattle.local_rules.specs.declared.role.ValueSchema.{ValueSchema}
+use Rattle.local_rules.specs.declared.role.ValueSchema.TheVariants as value_schemas
 use Rattle.model_read.specs.Declarations.{IsIdentifier}
 
 -- It is not so that it is none.
@@ -49,7 +49,7 @@ abbrev pub CanBeMultiplicity : Json → Type 0
 CanBeMultiplicity v = CanBe (IsMultiplicity v)
 
 abbrev pub CanBeEnumValue : Json → Type 0
-CanBeEnumValue v = CanBe (IsInteger v ⊎ IsWord v)
+CanBeEnumValue v = CanBe (IsInteger v ⊎ IsString v)
 
 abbrev pub CanBeValueSchema : Json → Type 0
 CanBeValueSchema v = CanBe ((v ≡ text (codes "string")) ⊎ (v ≡ text (codes "integer")))
@@ -70,10 +70,10 @@ Has P key ms = (value_at key ms ≢ None) × MayHave P key ms
 
 -- A text, or an object of texts.
 abbrev pub AreWords : Members Number → Type 0
-AreWords ms = (i : ℕ) (key : List ℕ) (v : Json) → member_at ms i ≡ Some (key, v) → IsWord v
+AreWords ms = (i : ℕ) (key : List ℕ) (v : Json) → member_at ms i ≡ Some (key, v) → IsString v
 
 abbrev pub IsWords : Json → Type 0
-IsWords v = IsWord v ⊎ ((ms : Members Number) × (v ≡ object ms) × AreWords ms)
+IsWords v = IsString v ⊎ ((ms : Members Number) × (v ≡ object ms) × AreWords ms)
 
 -- A list `@type` has at most one entry beside the type, which is a name.
 abbrev pub CanBeTypes : Position → Json → Type 0
@@ -99,16 +99,16 @@ abbrev pub IsValidSchema : Json → Type 0
 IsValidSchema v = IsValid role.NamedSchema v ⊎ ((part : SchemaUse) × IsValid (role.Schema part) v)
 
 abbrev pub IsValidPayload : Json → Type 0
-IsValidPayload v = ((part : PayloadUse) × IsValid (role.Payload part) v) ⊎ ((repeats : Bool) × IsValid (role.Field repeats) v)
+IsValidPayload v = ((part : PayloadUse) × IsValid (role.Payload part) v) ⊎ IsValid role.Field v
 
 abbrev pub IsValidEnumEntry : Json → Type 0
-IsValidEnumEntry v = (k : ValueKind) × (repeats same_value : Bool) × (k ≢ kind.Neither) × IsValid (role.EnumEntry k repeats same_value) v
+IsValidEnumEntry v = (k : ValueSchema) × (k ≢ value_schemas.Neither) × IsValid (role.EnumEntry k) v
 
 abbrev pub IsValidContent : Json → Type 0
-IsValidContent v = (repeats : Bool) × IsValid (role.Content repeats) v
+IsValidContent v = IsValid role.Content v
 
 abbrev pub IsValidProperty : Json → Type 0
-IsValidProperty v = (repeats : Bool) × IsValid (role.RelationshipProperty repeats) v
+IsValidProperty v = IsValid role.RelationshipProperty v
 
 abbrev pub IsValidInterface : Json → Type 0
 IsValidInterface v = IsValid role.Interface v
@@ -116,7 +116,7 @@ IsValidInterface v = IsValid role.Interface v
 -- ---- the shapes of elements, by their members
 pub record CommonShape (ms : Members Number) : Type 0 where
   pub id : MayHave CanBeId (codes "@id") ms
-  pub comment : MayHave IsWord (codes "comment") ms
+  pub comment : MayHave IsString (codes "comment") ms
   pub description : MayHave IsWords (codes "description") ms
   pub display_name : MayHave IsWords (codes "displayName") ms
 
@@ -202,7 +202,7 @@ pub record RelationshipPropertyShape (ms : Members Number) : Type 0 where
 
 pub record InterfaceShape (ms : Members Number) : Type 0 where
   pub id : Has CanBeId (codes "@id") ms
-  pub comment : MayHave IsWord (codes "comment") ms
+  pub comment : MayHave IsString (codes "comment") ms
   pub description : MayHave IsWords (codes "description") ms
   pub display_name : MayHave IsWords (codes "displayName") ms
   pub parents : MayHave IsParents (codes "extends") ms

@@ -1,15 +1,15 @@
+use Rattle.std.proofs.Common.{Option, sym, ap, ◌∙◌, subst}
 use Rattle.json_tree.specs.View.{view, members_view}
-use Rattle.local_faults.specs.Walks.{Judges, JudgesId}
-use Rattle.local_faults.proofs.IdSets.{if_ok, judged_alone, judged_schema, judged_id}
+use Rattle.local_rules.specs.Machinery.Firsts.{earlier}
+use Rattle.local_rules.specs.declared.rule.LocalRule.{LocalRule}
+use Rattle.local_faults.specs.Machinery.Walks.{Judges}
+use Rattle.local_faults.proofs.IdSets.{judged_by}
 use Rattle.local_faults.proofs.ids.judge.Goals as goal
-
-pub returns-in-Some : goal.returns-in-Some
-returns-in-Some c = judged_alone (members_view c.args.schemas.now) c.args.ids.now c.args.ids.now c.args.role (view c.args.tree.now) c.in-Some.rule c.in-Some.ensures
-
-pub returns-in-Some-rule : goal.returns-in-Some-rule
-returns-in-Some-rule c = judged_schema (members_view c.args.schemas.now) c.args.ids.now c.args.ids.now c.args.role (view c.args.tree.now) c.in-Some-rule.rule c.in_default.ensures c.in-Some-rule.ensures
 
 pub returns : goal.returns
 returns c =
-    if_ok c.judge_id.result (JudgesId c.args.ids.now c.judge_id.new.ids c.args.role (view c.args.tree.now)) (Judges (members_view c.args.schemas.now) c.args.ids.now c.judge_id.new.ids c.args.role (view c.args.tree.now))
-    (λ found j. judged_id (members_view c.args.schemas.now) c.args.ids.now c.judge_id.new.ids c.args.role (view c.args.tree.now) c.in_default.ensures c.in_default-rule.ensures found j) c.judge_id.ensures
+    let ms = members_view c.args.schemas.now in
+    let v = view c.args.tree.now in
+    let found = c.earlier-2.ensures ∙ ap (λ (o : Option LocalRule). earlier c.marked_rule-by_itself.result o) c.earlier.ensures in
+    subst (λ (o : Option LocalRule). Judges ms c.args.ids.now c.judge_id.new.ids c.args.marked v o) (sym found)
+    (judged_by ms c.args.ids.now c.judge_id.new.ids c.args.marked v c.marked_rule-by_itself.result c.rule-by_schemas.result c.in_ok-by_id.by_id c.marked_rule-by_itself.ensures c.rule-by_schemas.ensures c.in_ok-by_id.ensures)

@@ -1,7 +1,7 @@
 use Rattle.std.proofs.Common.{sym, ap, ◌∙◌}
 use Rattle.std.specs.Option.{option_map}
 use Rattle.json_tree.specs.View.{view}
-use Rattle.local_faults.specs.Walks.{Adds, JudgesId}
+use Rattle.local_faults.specs.Machinery.Walks.{Adds, JudgesId}
 use Rattle.local_faults.proofs.IdSets.{if_ok, with_id, no_id}
 use Rattle.local_faults.proofs.ids.judge_id.Goals as goal
 

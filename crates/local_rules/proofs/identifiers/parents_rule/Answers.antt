@@ -1,7 +1,7 @@
 use Rattle.std.proofs.Common.{[], ◌∷◌, Some, refl, rules}
 use Rattle.json_tree.specs.View.{view}
-use Rattle.local_rules.specs.Choices.{BreaksAlone}
-use Rattle.local_rules.specs.Firsts.{id_rules}
+use Rattle.local_rules.specs.Breaches.{BreaksAlone}
+use Rattle.local_rules.specs.Machinery.Firsts.{id_rules}
 use Rattle.local_rules.specs.declared.rule.LocalRule.TheVariants as rule
 use Rattle.local_rules.specs.declared.role.Role.TheVariants as role
 use Rattle.local_rules.proofs.Firsts.{first_before, first_behind}

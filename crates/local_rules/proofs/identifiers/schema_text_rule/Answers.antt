@@ -1,6 +1,6 @@
 use Rattle.std.proofs.Common.{◌≡◌, Bool, codes, if◌then◌else◌, sym, ap, ◌∙◌, subst}
 use Rattle.std.proofs.lemmas.Str.Pattern.{starts_text}
-use Rattle.local_rules.specs.Firsts.{IdBreaks, IsFirstAmong, id_rules, schema_id_use}
+use Rattle.local_rules.specs.Machinery.Firsts.{IdBreaks, IsFirstAmong, id_rules, schema_id_use}
 use Rattle.local_rules.specs.Identifiers.{IdUse, no_id, of_element}
 use Rattle.local_rules.proofs.identifiers.schema_text_rule.Goals as goal
 

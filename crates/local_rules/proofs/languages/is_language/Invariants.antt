@@ -2,7 +2,7 @@ use Rattle.std.proofs.Common.{◌≡◌, ◌==◌, [], length}
 use Rattle.std.specs.List.{list_all, slice_split}
 use Rattle.std.specs.Option.{option_map_or}
 use Rattle.std.specs.Char.{is_ascii_alphanumeric}
-use Rattle.local_rules.specs.Roles.{is_language, is_subtag}
+use Rattle.local_rules.specs.Languages.{is_language, is_subtag}
 use Rattle.local_rules.proofs.languages.is_language.Given as goal
 
 -- the subtags so far are right, so the rest decides

@@ -1,6 +1,6 @@
 use Rattle.std.proofs.Common.{◌≡◌, inr, sym, subst}
 use Rattle.json_tree.specs.View.{view}
-use Rattle.local_rules.specs.Choices.{BreaksAlone}
+use Rattle.local_rules.specs.Breaches.{BreaksAlone}
 use Rattle.local_rules.specs.Types.{NamesNothing}
 use Rattle.local_rules.specs.declared.role.Position.{Position}
 use Rattle.local_rules.specs.declared.role.Role.TheVariants as role

@@ -6,7 +6,7 @@ use Rattle.json_tree.specs.declared.tree.Tree.{Tree}
 use Rattle.dtdl_terms.specs.TermViews.{schema_term, payloads_term}
 use Rattle.dtdl_terms.specs.declared.schema.Payload.{Payload}
 use Rattle.dtdl_terms.specs.declared.schema.Schema.{Schema}
-use Rattle.schema_levels.proofs.Sizes.{size, part_smaller, item_smaller}
+use Rattle.local_faults.proofs.Sizes.{size, part_smaller, item_smaller}
 use Rattle.model_read.specs.Declarations.{IsSchema, ArePayloads}
 use Rattle.model_read.proofs.Grown.{step, payloads_more}
 use Rattle.model_read.proofs.Seen.{of_members, seen_members, seen_text}

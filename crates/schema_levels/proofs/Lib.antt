@@ -1,6 +1,0 @@
-mod Indexed
-pub mod Sizes
-mod Climbs
-mod Steps
-mod Tabled
-mod Judged
