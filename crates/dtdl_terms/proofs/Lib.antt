@@ -1,2 +1,5 @@
 pub mod TermViews
 pub mod OneTerm
+pub mod SameElements
+pub mod SameDeclarations
+pub mod ByName

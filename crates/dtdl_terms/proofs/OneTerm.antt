@@ -126,18 +126,6 @@ whole_back t s e = schema_back t (out-Schema s) (level_out s t e) ∙ whole s
 pub one_schema : (s u : Schema) → schema_term s ≡ schema_term u → s ≡ u
 one_schema s u e = sym (whole_back (schema_term s) s refl) ∙ whole_back (schema_term s) u (sym e)
 
-one_list : {A B : Type 0} (f : A → B) → ((x y : A) → f x ≡ f y → x ≡ y) → (xs ys : List A) → map f xs ≡ map f ys → xs ≡ ys
-one_list f one [] [] e = refl
-one_list f one [] (y ∷ ys) e = absurd cc
-one_list f one (x ∷ xs) [] e = absurd cc
-one_list {A = A} f one (x ∷ xs) (y ∷ ys) e =
-    let first : f x ≡ f y = cc in
-    let rest : map f xs ≡ map f ys = cc in
-    ap₂ (λ (z : A) (zs : List A). z ∷ zs) (one x y first) (one_list f one xs ys rest)
-
-pub one_schemas : (ss us : List Schema) → map schema_term ss ≡ map schema_term us → ss ≡ us
-one_schemas = one_list schema_term one_schema
-
 -- ---- contents
 -- a content's kind by its variant
 abbrev kind : ContentKind-F ContentKind Content → ContentKind
@@ -246,5 +234,5 @@ mutual
       let rest : contents_term cs ≡ ts = cc in
       ap₂ (λ (x : Content) (xs : List Content). x ∷ xs) (content_back t c first) (contents_back ts cs rest)
 
-pub one_contents : (cs ds : List Content) → contents_term cs ≡ contents_term ds → cs ≡ ds
-one_contents cs ds e = sym (contents_back (contents_term cs) cs refl) ∙ contents_back (contents_term cs) ds (sym e)
+pub one_content : (c d : Content) → content_term c ≡ content_term d → c ≡ d
+one_content c d e = sym (content_back (content_term c) c refl) ∙ content_back (content_term c) d (sym e)

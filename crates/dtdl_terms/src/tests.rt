@@ -75,3 +75,21 @@ fn copies_an_uploaded_interface(rt: HostRuntime) -> Result<(), Fail> {
     assert_eq!(rt; copy.index, 2);
     Ok(())
 }
+
+#[test]
+fn limits_have_their_names(rt: HostRuntime) -> Result<(), Fail> {
+    let names = [
+        (Limit::Models, "models"),
+        (Limit::ModelBytes, "modelBytes"),
+        (Limit::ResolvedBytes, "resolvedBytes"),
+        (Limit::TwinBytes, "twinBytes"),
+        (Limit::RelationshipBytes, "relationshipBytes"),
+        (Limit::Twins, "twins"),
+        (Limit::Relationships, "relationships"),
+        (Limit::GraphBytes, "graphBytes"),
+    ];
+    for (limit, name) in names {
+        assert_eq!(rt; limit.text(), name);
+    }
+    Ok(())
+}

@@ -1,13 +1,13 @@
 -- Marks tell what the places in lists and objects break.
-use Rattle.std.proofs.Common.{◌≡◌, ℕ, ◌⊎◌, inl, inr, List, [], ◌∷◌, ◌++◌, Bool, true, false, Option, Some, None, refl, sym, ap, subst, ◌∙◌}
+use Rattle.std.proofs.Common.{◌≡◌, ℕ, inl, inr, List, [], ◌∷◌, ◌++◌, Bool, true, false, Option, Some, None, refl, sym, ap, subst, ◌∙◌}
 use Rattle.std.specs.Option.{option_map, option_map_or}
 use Rattle.json_decimal.specs.Number.{Number}
 use Rattle.json_tree.specs.Values.{Json, null, truth, number, text, array, object, Elements, Members}
 use Rattle.json_tree.specs.Places.{IsPart, member_at}
 use Rattle.local_rules.specs.Members.{list_of}
 use Rattle.local_rules.specs.Roles.{HasRole, part_role, entry_role}
-use Rattle.local_rules.specs.Languages.{IsNoLanguage, is_language}
-use Rattle.local_rules.specs.Repeats.{HasEntry, IsEntry, IsInEntry, repeats_name, repeats_text, repeats_value}
+use Rattle.local_rules.specs.Languages.{is_language}
+use Rattle.local_rules.specs.Repeats.{IsEntry, IsInEntry, repeats_name, repeats_text, repeats_value}
 use Rattle.local_rules.specs.Breaches.{BreaksByPlace}
 use Rattle.local_rules.specs.Machinery.Marks.{HasMarkedRole, entry_mark, entry_repeats, entry_repeats_value, entry_rule, interface_role, mark_rule, member_mark, member_of_entry, member_rule, name_rule, part_mark, part_marked, value_rule}
 use Rattle.local_rules.specs.declared.marks.Mark.{Mark}

@@ -4,7 +4,7 @@ use Rattle.std.proofs.lemmas.Bool.{cases_lt}
 use Rattle.json_tree.specs.Values.{Json}
 use Rattle.json_tree.specs.Places.{IsBefore}
 use Rattle.local_rules.specs.Codes.{rule_number}
-use Rattle.local_rules.specs.Breaches.{ComesBefore, IsFirstBreach}
+use Rattle.local_rules.specs.Breaches.{IsFirstBreach}
 use Rattle.local_rules.specs.declared.rule.LocalRule.{LocalRule}
 use Rattle.local_rules.specs.declared.rule.LocalRule.TheVariants as rule
 

@@ -1,5 +1,5 @@
 -- The rule on `@id`s, by what is known of the earlier ones.
-use Rattle.std.proofs.Common.{◌≡◌, ℕ, ◌⊎◌, inl, inr, List, Bool, true, false, Option, Some, None, cond, nat_lt}
+use Rattle.std.proofs.Common.{◌≡◌, ℕ, inl, inr, List, Bool, true, false, Option, Some, None, cond, nat_lt}
 use Rattle.json_decimal.specs.Number.{Number}
 use Rattle.json_tree.specs.Values.{Json, null, truth, number, text, array, object, Members}
 use Rattle.local_rules.specs.Codes.{rule_number}

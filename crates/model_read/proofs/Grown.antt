@@ -1,18 +1,19 @@
--- What holds of the items so far and of one more holds of both.
-use Rattle.std.proofs.Common.{◌≡◌, ℕ, ◌+◌, ◌<◌, List, [], ◌∷◌, ◌++◌, length, map, take, get_or, sym, ap, ◌∙◌}
-use Rattle.std.proofs.lemmas.List.{take_more}
-use Rattle.dtmi_name.specs.Grammar.{Identifier}
-use Rattle.json_tree.specs.View.{members_view, elements_view}
+-- What was read of the elements so far, and of one more.
+use Rattle.std.proofs.Common.{◌≡◌, ℕ, suc, ◌+◌, ◌<◌, ◌≤◌, List, [], ◌∷◌, ◌++◌, length, take, get_or, refl, sym, ap, subst, ◌∙◌, arith}
+use Rattle.std.specs.List.{AllZip, enumerate_from}
+use Rattle.std.proofs.lemmas.List.{take_more, length-take-le}
+use Rattle.std.proofs.lemmas.Slice.Zip.{all_zipped_more}
+use Rattle.json_tree.specs.Values.{Json}
+use Rattle.json_tree.specs.View.{view, member_view, elements_view, members_view}
 use Rattle.json_tree.specs.declared.tree.Tree.{Tree}
 use Rattle.json_tree.specs.declared.tree.Member.{Member}
-use Rattle.dtdl_terms.specs.TermViews.{schema_term, payloads_term, contents_term}
-use Rattle.dtdl_terms.specs.declared.common.Entry.{Entry}
-use Rattle.dtdl_terms.specs.declared.enumeration.EnumEntry.{EnumEntry}
+use Rattle.dtdl_terms.specs.TermViews.{payloads_term, contents_term}
 use Rattle.dtdl_terms.specs.declared.schema.Payload.{Payload}
-use Rattle.dtdl_terms.specs.declared.schema.Schema.{Schema}
 use Rattle.dtdl_terms.specs.declared.content.Content.{Content}
-use Rattle.model_read.specs.Declarations.{AreEntries, AreEnumEntries, ArePayloads, AreContents, AreProperties, AreSchemas, AreIdentifiers}
+use Rattle.local_rules.specs.Members.{list_of, pairs_of}
+use Rattle.model_read.specs.Declarations.{ArePayloads, AreProperties}
 
+-- ---- loops
 -- a relation that grows at the end keeps pace with a loop
 pub step : {A X : Type 0} (P : List A → List X → Type 0)
     (more : (ys : List A) (xs : List X) (a : A) (x : X) → P ys xs → P (a ∷ []) (x ∷ []) → P (ys ++ a ∷ []) (xs ++ x ∷ []))
@@ -22,20 +23,50 @@ step P more ys i a xs x within is all one =
     let front : take (i + 1) ys ≡ take i ys ++ a ∷ [] = take_more ys i a within ∙ ap (λ z. take i ys ++ z ∷ []) (sym is) in
     rw front (more (take i ys) xs a x all one)
 
-pub entries_more : (ms : List Member) (es : List Entry) (m : Member) (e : Entry) → AreEntries (members_view ms) es → AreEntries (members_view (m ∷ [])) (e ∷ [])
-    → AreEntries (members_view (ms ++ m ∷ [])) (es ++ e ∷ [])
-entries_more [] [] m e all one = one
-entries_more [] (x ∷ es) m e all one = absurd all
-entries_more (n ∷ ms) [] m e all one = absurd all
-entries_more (n ∷ ms) (x ∷ es) m e all one = (all.0, all.1, entries_more ms es m e all.2 one)
+-- the elements of a list, and one more
+listed_more : (ts : List Tree) (t : Tree) → list_of (elements_view (ts ++ t ∷ [])) ≡ list_of (elements_view ts) ++ view t ∷ []
+listed_more [] t = refl
+listed_more (u ∷ ts) t = ap (λ vs. view u ∷ vs) (listed_more ts t)
 
-pub enum_entries_more : (ts : List Tree) (es : List EnumEntry) (t : Tree) (e : EnumEntry) → AreEnumEntries (elements_view ts) es
-    → AreEnumEntries (elements_view (t ∷ [])) (e ∷ []) → AreEnumEntries (elements_view (ts ++ t ∷ [])) (es ++ e ∷ [])
-enum_entries_more [] [] t e all one = one
-enum_entries_more [] (x ∷ es) t e all one = absurd all
-enum_entries_more (u ∷ ts) [] t e all one = absurd all
-enum_entries_more (u ∷ ts) (x ∷ es) t e all one = (all.0, enum_entries_more ts es t e all.1 one)
+-- what each element is, one for one
+pub elements_step : {X : Type 0} (R : Json → X → Type 0) (ts : List Tree) (i : ℕ) (t : Tree) (xs : List X) (x : X) → i < length ts → t ≡ get_or ts i t
+    → AllZip R (list_of (elements_view (take i ts))) xs → R (view t) x → AllZip R (list_of (elements_view (take (i + 1) ts))) (xs ++ x ∷ [])
+elements_step R ts i t xs x within is all one =
+    let front : take (i + 1) ts ≡ take i ts ++ t ∷ [] = take_more ts i t within ∙ ap (λ z. take i ts ++ z ∷ []) (sym is) in
+    rw (front, listed_more (take i ts) t) (all_zipped_more R (list_of (elements_view (take i ts))) xs (view t) x all one)
 
+-- the members of an object
+paired_more : (ms : List Member) (m : Member) → pairs_of (members_view (ms ++ m ∷ [])) ≡ pairs_of (members_view ms) ++ member_view m ∷ []
+paired_more [] m = refl
+paired_more (n ∷ ms) m = ap (λ vs. member_view n ∷ vs) (paired_more ms m)
+
+pub members_step : {X : Type 0} (R : List ℕ × Json → X → Type 0) (ms : List Member) (i : ℕ) (m : Member) (xs : List X) (x : X) → i < length ms → m ≡ get_or ms i m
+    → AllZip R (pairs_of (members_view (take i ms))) xs → R (member_view m) x → AllZip R (pairs_of (members_view (take (i + 1) ms))) (xs ++ x ∷ [])
+members_step R ms i m xs x within is all one =
+    let front : take (i + 1) ms ≡ take i ms ++ m ∷ [] = take_more ms i m within ∙ ap (λ z. take i ms ++ z ∷ []) (sym is) in
+    rw (front, paired_more (take i ms) m) (all_zipped_more R (pairs_of (members_view (take i ms))) xs (member_view m) x all one)
+
+-- the elements beside their positions
+counted_more : (n : ℕ) (ts : List Tree) (t : Tree) → enumerate_from n (list_of (elements_view (ts ++ t ∷ [])))
+    ≡ enumerate_from n (list_of (elements_view ts)) ++ (n + length ts, view t) ∷ []
+counted_more n [] t = let same : n ≡ n + 0 = omega arith in ap (λ (k : ℕ). (k, view t) ∷ []) same
+counted_more n (u ∷ ts) t =
+    let same : n + 1 + length ts ≡ n + length (u ∷ ts) = omega arith in
+    ap (λ (es : List (ℕ × Json)). (n, view u) ∷ es)
+    (counted_more (n + 1) ts t ∙ ap (λ (k : ℕ). enumerate_from (n + 1) (list_of (elements_view ts)) ++ (k, view t) ∷ []) same)
+
+pub counted_step : {X : Type 0} (R : ℕ × Json → X → Type 0) (ts : List Tree) (i : ℕ) (t : Tree) (xs : List X) (x : X) → i < length ts → t ≡ get_or ts i t
+    → AllZip R (enumerate_from 0 (list_of (elements_view (take i ts)))) xs → R (i, view t) x
+    → AllZip R (enumerate_from 0 (list_of (elements_view (take (i + 1) ts)))) (xs ++ x ∷ [])
+counted_step R ts i t xs x within is all one =
+    let front : take (i + 1) ts ≡ take i ts ++ t ∷ [] = take_more ts i t within ∙ ap (λ z. take i ts ++ z ∷ []) (sym is) in
+    let le : i ≤ length ts = omega arith in
+    let long = length-take-le i ts le in
+    let at : i ≡ 0 + length (take i ts) = omega (arith, long) in
+    rw (front, counted_more 0 (take i ts) t)
+    (all_zipped_more R (enumerate_from 0 (list_of (elements_view (take i ts)))) xs (0 + length (take i ts), view t) x all (subst (λ (k : ℕ). R (k, view t) x) at one))
+
+-- ---- fields and properties
 pub payloads_more : (ts : List Tree) (ps : List Payload) (t : Tree) (p : Payload) → ArePayloads (payloads_term ps) (elements_view ts)
     → ArePayloads (payloads_term (p ∷ [])) (elements_view (t ∷ [])) → ArePayloads (payloads_term (ps ++ p ∷ [])) (elements_view (ts ++ t ∷ []))
 payloads_more [] [] t p all one = one
@@ -43,30 +74,9 @@ payloads_more [] (q ∷ ps) t p all one = absurd all
 payloads_more (u ∷ ts) [] t p all one = absurd all
 payloads_more (u ∷ ts) (q ∷ ps) t p all one = (all.0, payloads_more ts ps t p all.1 one)
 
-pub contents_more : (ts : List Tree) (cs : List Content) (t : Tree) (c : Content) → AreContents (contents_term cs) (elements_view ts)
-    → AreContents (contents_term (c ∷ [])) (elements_view (t ∷ [])) → AreContents (contents_term (cs ++ c ∷ [])) (elements_view (ts ++ t ∷ []))
-contents_more [] [] t c all one = one
-contents_more [] (d ∷ cs) t c all one = absurd all
-contents_more (u ∷ ts) [] t c all one = absurd all
-contents_more (u ∷ ts) (d ∷ cs) t c all one = (all.0, contents_more ts cs t c all.1 one)
-
 pub properties_more : (ts : List Tree) (cs : List Content) (t : Tree) (c : Content) → AreProperties (contents_term cs) (elements_view ts)
     → AreProperties (contents_term (c ∷ [])) (elements_view (t ∷ [])) → AreProperties (contents_term (cs ++ c ∷ [])) (elements_view (ts ++ t ∷ []))
 properties_more [] [] t c all one = one
 properties_more [] (d ∷ cs) t c all one = absurd all
 properties_more (u ∷ ts) [] t c all one = absurd all
 properties_more (u ∷ ts) (d ∷ cs) t c all one = (all.0, properties_more ts cs t c all.1 one)
-
-pub schemas_more : (ts : List Tree) (ss : List Schema) (t : Tree) (s : Schema) → AreSchemas (elements_view ts) (map schema_term ss)
-    → AreSchemas (elements_view (t ∷ [])) (map schema_term (s ∷ [])) → AreSchemas (elements_view (ts ++ t ∷ [])) (map schema_term (ss ++ s ∷ []))
-schemas_more [] [] t s all one = one
-schemas_more [] (x ∷ ss) t s all one = absurd all
-schemas_more (u ∷ ts) [] t s all one = absurd all
-schemas_more (u ∷ ts) (x ∷ ss) t s all one = (all.0, schemas_more ts ss t s all.1 one)
-
-pub ids_more : (ts : List Tree) (ids : List Identifier) (t : Tree) (id : Identifier) → AreIdentifiers (elements_view ts) ids
-    → AreIdentifiers (elements_view (t ∷ [])) (id ∷ []) → AreIdentifiers (elements_view (ts ++ t ∷ [])) (ids ++ id ∷ [])
-ids_more [] [] t id all one = one
-ids_more [] (x ∷ ids) t id all one = absurd all
-ids_more (u ∷ ts) [] t id all one = absurd all
-ids_more (u ∷ ts) (x ∷ ids) t id all one = (all.0, ids_more ts ids t id all.1 one)

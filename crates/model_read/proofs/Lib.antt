@@ -1,10 +1,16 @@
 pub mod Grown
 pub mod Placed
 pub mod Seen
-pub mod Sound
+pub mod Valid
 pub mod Leaves
 pub mod Shaped
 pub mod Whole
 pub mod Readings
 pub mod Once
 pub mod OnceUploads
+pub mod Standing
+pub mod Deep
+pub mod Within
+pub mod Pairs
+pub mod Apart
+pub mod Documents

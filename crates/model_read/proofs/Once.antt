@@ -1,13 +1,13 @@
 -- What every element may have, enum entries, schemas and payloads: a JSON value declares each of them at most once.
 use Rattle.std.proofs.Common.{◌≡◌, ℕ, List, [], ◌∷◌, Bool, true, false, if◌then◌else◌, nat_eq, bytes_eq, Option, Some, None, refl, sym, ap, ap₂, subst, ◌∙◌}
 use Rattle.std.specs.Prelude.{codes}
-use Rattle.std.specs.List.{starts_with}
+use Rattle.std.specs.List.{AllZip, starts_with}
 use Rattle.dtmi_name.specs.Grammar.{Identifier, HasDtmiForm, dtmi_text}
 use Rattle.dtmi_name.proofs.Cuts.{HasDtmiForm-unique}
 use Rattle.json_decimal.specs.Number.{Number}
 use Rattle.json_decimal.specs.Comparing.{IsWhole}
 use Rattle.json_decimal.proofs.Wholes.{one_whole}
-use Rattle.json_tree.specs.Values.{Json, null, truth, number, text, array, object, Elements, no_elements, element, Members, no_members, member}
+use Rattle.json_tree.specs.Values.{Json, null, truth, number, text, array, object, Elements, no_elements, element, Members}
 use Rattle.dtdl_terms.specs.Primitives.{primitive_name}
 use Rattle.dtdl_terms.specs.Terms.{SchemaTerm, primitive, named, array_of, enumeration, map_of, object_of, PayloadTerm, payload, PayloadTerms, no_payloads, more_payloads}
 use Rattle.dtdl_terms.specs.declared.common.Common.{Common}
@@ -17,12 +17,12 @@ use Rattle.dtdl_terms.specs.declared.enumeration.EnumValue.{EnumValue}
 use Rattle.dtdl_terms.specs.declared.enumeration.EnumValue.TheVariants as values
 use Rattle.dtdl_terms.specs.declared.primitive.Primitive.{Primitive}
 use Rattle.dtdl_terms.specs.declared.primitive.Primitive.TheVariants as primitives
-use Rattle.local_rules.specs.Members.{value_at}
+use Rattle.local_rules.specs.Members.{list_of, pairs_of, value_at}
 use Rattle.local_rules.specs.Roles.{type_of}
 use Rattle.local_rules.specs.declared.role.Element.{Element}
 use Rattle.local_rules.specs.declared.role.Element.TheVariants as element_kind
 use Rattle.local_rules.specs.declared.role.Position.TheVariants as position
-use Rattle.model_read.specs.Declarations.{HasText, HasOptionalText, IsIdentifier, HasId, HasOptionalId, IsWritable, AreEntries, IsLocalizedBy, IsLocalized, HasLocalized, HasCommon, IsEnumValue, AreEnumEntry, AreEnumEntries, value_schema, IsSchemaObject, IsSchema, IsPayload, ArePayloads, HasOptionalPayload, HasSchema}
+use Rattle.model_read.specs.Declarations.{HasString, HasOptionalString, IsIdentifier, HasId, HasOptionalId, IsWritable, IsTextOfLanguage, IsLocalizedBy, IsLocalized, HasLocalized, HasCommon, IsEnumValue, DeclaresEnumEntry, IsEnumEntry, value_schema, IsSchemaObject, IsSchema, IsPayload, ArePayloads, HasOptionalPayload, HasSchema}
 
 -- ---- forms of relations
 pub same_members : (v : Json) (ms ns : Members Number) → v ≡ object ms → v ≡ object ns → ns ≡ ms
@@ -35,20 +35,16 @@ option_once R some none None (Some b) g h = absurd (none b g h)
 option_once R some none (Some a) None g h = absurd (none a h g)
 option_once {A = A} R some none (Some a) (Some b) g h = ap (λ (x : A). Some x) (some a b g h)
 
--- what the entries of a list are, one by one
-pub list_once : {A : Type 0} (P : Json → A → Type 0) (R : Elements Number → List A → Type 0) → ((a : A) (xs : List A) → R no_elements (a ∷ xs) → ⊥)
-    → ((v : Json) (vs : Elements Number) → R (element v vs) [] → ⊥)
-    → ((v : Json) (vs : Elements Number) (a : A) (xs : List A) → R (element v vs) (a ∷ xs) → P v a × R vs xs)
-    → ((v : Json) (a b : A) → P v a → P v b → a ≡ b) → (vs : Elements Number) (xs ys : List A) → R vs xs → R vs ys → xs ≡ ys
-list_once P R none some split one no_elements [] [] g h = refl
-list_once P R none some split one no_elements [] (b ∷ ys) g h = absurd (none b ys h)
-list_once P R none some split one no_elements (a ∷ xs) ys g h = absurd (none a xs g)
-list_once P R none some split one (element v vs) [] ys g h = absurd (some v vs g)
-list_once P R none some split one (element v vs) (a ∷ xs) [] g h = absurd (some v vs h)
-list_once {A = A} P R none some split one (element v vs) (a ∷ xs) (b ∷ ys) g h =
-    let here = split v vs a xs g in
-    let there = split v vs b ys h in
-    ap₂ (λ (z : A) (zs : List A). z ∷ zs) (one v a b here.0 there.0) (list_once P R none some split one vs xs ys here.1 there.1)
+-- what the elements of a list are, one for one
+pub all_zip_once : {A B : Type 0} (P : B → A → Type 0) → ((v : B) (a b : A) → P v a → P v b → a ≡ b) → (vs : List B) (xs ys : List A) → AllZip P vs xs → AllZip P vs ys
+    → xs ≡ ys
+all_zip_once P one [] [] [] g h = refl
+all_zip_once P one [] [] (b ∷ ys) g h = absurd h
+all_zip_once P one [] (a ∷ xs) ys g h = absurd g
+all_zip_once P one (v ∷ vs) [] ys g h = absurd g
+all_zip_once P one (v ∷ vs) (a ∷ xs) [] g h = absurd h
+all_zip_once {A = A} P one (v ∷ vs) (a ∷ xs) (b ∷ ys) g h =
+    ap₂ (λ (z : A) (zs : List A). z ∷ zs) (one v a b g.0 h.0) (all_zip_once P one vs xs ys g.1 h.1)
 
 -- what a value under a key is
 pub part_once : {A : Type 0} (P : Json → A → Type 0) → ((v : Json) (a b : A) → P v a → P v b → a ≡ b) → (o : Option Json) (a b : A)
@@ -64,11 +60,11 @@ object_once P one v a b g h =
     one g.0 a b g.2 (subst (λ (ms : Members Number). P ms b) (same_members v g.0 h.0 g.1 h.1) h.2)
 
 -- ---- texts, identifiers and truths
-pub text_once : (key : List ℕ) (ms : Members Number) (a b : List ℕ) → HasText key ms a → HasText key ms b → a ≡ b
+pub text_once : (key : List ℕ) (ms : Members Number) (a b : List ℕ) → HasString key ms a → HasString key ms b → a ≡ b
 text_once key ms a b g h = cc
 
-pub optional_text_once : (key : List ℕ) (ms : Members Number) (a b : Option (List ℕ)) → HasOptionalText key ms a → HasOptionalText key ms b → a ≡ b
-optional_text_once key ms = option_once (HasOptionalText key ms) (text_once key ms) (λ a g h. cc)
+pub optional_text_once : (key : List ℕ) (ms : Members Number) (a b : Option (List ℕ)) → HasOptionalString key ms a → HasOptionalString key ms b → a ≡ b
+optional_text_once key ms = option_once (HasOptionalString key ms) (text_once key ms) (λ a g h. cc)
 
 pub identifier_once : (v : Json) (i j : Identifier) → IsIdentifier v i → IsIdentifier v j → i ≡ j
 identifier_once v i j g h =
@@ -86,21 +82,15 @@ writable_once None a b g h = g ∙ sym h
 writable_once (Some v) a b g h = cc
 
 -- ---- localized texts
-entries_once : (ms : Members Number) (es fs : List Entry) → AreEntries ms es → AreEntries ms fs → es ≡ fs
-entries_once no_members [] [] g h = refl
-entries_once no_members [] (f ∷ fs) g h = absurd h
-entries_once no_members (e ∷ es) fs g h = absurd g
-entries_once (member key v ms) [] fs g h = absurd g
-entries_once (member key v ms) (e ∷ es) [] g h = absurd h
-entries_once (member key v ms) (e ∷ es) (f ∷ fs) g h =
+text_of_language_once : (m : List ℕ × Json) (e f : Entry) → IsTextOfLanguage m e → IsTextOfLanguage m f → e ≡ f
+text_of_language_once m e f g h =
     let language : e.language ≡ f.language = sym g.0 ∙ h.0 in
     let words : e.text ≡ f.text = (let left = g.1 in let right = h.1 in cc) in
-    let rest = entries_once ms es fs g.2 h.2 in
-    λ i. record { language = language i; text = words i } ∷ rest i
+    λ i. record { language = language i; text = words i }
 
 localized_by_once : (v : Json) (es fs : List Entry) → IsLocalizedBy v es → IsLocalizedBy v fs → es ≡ fs
 localized_by_once (text bytes) es fs g h = g ∙ sym h
-localized_by_once (object ms) es fs g h = entries_once ms es fs g h
+localized_by_once (object ms) es fs g h = all_zip_once IsTextOfLanguage text_of_language_once (pairs_of ms) es fs g h
 localized_by_once null es fs g h = absurd g
 localized_by_once (truth b) es fs g h = absurd g
 localized_by_once (number n) es fs g h = absurd g
@@ -139,21 +129,15 @@ enum_value_once v (values.Word a) (values.Word b) g h = let same : a ≡ b = cc 
 enum_value_once v (values.Number y) (values.Word b) g h = let left = g.1 in absurd cc
 enum_value_once v (values.Word a) (values.Number z) g h = let right = h.1 in absurd cc
 
-enum_entry_once : (ms : Members Number) (e f : EnumEntry) → AreEnumEntry ms e → AreEnumEntry ms f → e ≡ f
+enum_entry_once : (ms : Members Number) (e f : EnumEntry) → DeclaresEnumEntry ms e → DeclaresEnumEntry ms f → e ≡ f
 enum_entry_once ms e f g h =
     let name = text_once (codes "name") ms e.name f.name g.name h.name in
     let common = common_once ms e.common f.common g.common h.common in
     let value = part_once IsEnumValue enum_value_once (value_at (codes "enumValue") ms) e.value f.value g.value h.value in
     λ i. record { name = name i; common = common i; value = value i }
 
-pub enum_entries_once : (vs : Elements Number) (es fs : List EnumEntry) → AreEnumEntries vs es → AreEnumEntries vs fs → es ≡ fs
-enum_entries_once = list_once
-    (λ v e. (ms : Members Number) × (v ≡ object ms) × AreEnumEntry ms e)
-    AreEnumEntries
-    (λ e es none. none)
-    (λ v vs none. none)
-    (λ v vs e es all. all)
-    (object_once AreEnumEntry enum_entry_once)
+pub enum_entries_once : (vs : Elements Number) (es fs : List EnumEntry) → AllZip IsEnumEntry (list_of vs) es → AllZip IsEnumEntry (list_of vs) fs → es ≡ fs
+enum_entries_once vs = all_zip_once IsEnumEntry (object_once DeclaresEnumEntry enum_entry_once) (list_of vs)
 
 value_schema_once : (a b : Bool) → value_schema a ≡ value_schema b → a ≡ b
 value_schema_once true true e = refl
@@ -259,7 +243,7 @@ mutual
       let names : value_schema a ≡ value_schema b = (let left = g.4 in let right = h.4 in cc) in
       let of_text = value_schema_once a b names in
       let list = same_list (codes "enumValues") g.0 h.0 g.1 h.1 same g.5 h.5 in
-      let entries = enum_entries_once g.1 es fs g.6 (subst (λ (vs : Elements Number). AreEnumEntries vs fs) list h.6) in
+      let entries = enum_entries_once g.1 es fs g.6 (subst (λ (vs : Elements Number). AllZip IsEnumEntry (list_of vs) fs) list h.6) in
       λ i. enumeration (common i) (of_text i) (entries i)
   forms_once (enumeration c a es) other e = absurd cc
   forms_once (map_of c k e) (map_of d l f) _ = λ v g h.

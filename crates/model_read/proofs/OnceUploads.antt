@@ -1,6 +1,7 @@
 -- Contents, interfaces and where they stand: a document declares each of them at most once.
 use Rattle.std.proofs.Common.{◌≡◌, ℕ, suc, ◌<◌, inl, inr, ◌↔◌, List, [], ◌∷◌, map, Bool, true, false, IsTrue, Option, Some, None, refl, sym, ap, ap₂, subst, ◌∙◌, arith}
 use Rattle.std.specs.Prelude.{codes, pos}
+use Rattle.std.specs.List.{AllZip, enumerate_from}
 use Rattle.dtmi_name.specs.Grammar.{Identifier}
 use Rattle.json_decimal.specs.Number.{Number}
 use Rattle.json_decimal.specs.Comparing.{IsWhole}
@@ -8,28 +9,23 @@ use Rattle.json_decimal.proofs.Wholes.{one_whole}
 use Rattle.json_tree.specs.Values.{Json, null, truth, number, text, array, object, Elements, no_elements, element, Members}
 use Rattle.json_tree.specs.Pointers.{HasToken, AreTokens, IsPointerOf, pointer_text}
 use Rattle.dtdl_terms.specs.Terms.{SchemaTerm, KindTerm, telemetry, property, command, relationship, component, ContentTerm, content, ContentTerms, no_contents, more_contents}
-use Rattle.dtdl_terms.specs.TermViews.{schema_term, contents_term}
+use Rattle.dtdl_terms.specs.TermViews.{schema_term, content_term}
 use Rattle.dtdl_terms.specs.declared.content.Content.{Content}
 use Rattle.dtdl_terms.specs.declared.interface.Interface.{Interface}
 use Rattle.dtdl_terms.specs.declared.schema.Schema.{Schema}
 use Rattle.dtdl_terms.specs.declared.uploaded.Uploaded.{Uploaded}
-use Rattle.dtdl_terms.proofs.OneTerm.{one_schemas, one_contents}
-use Rattle.local_rules.specs.Members.{value_at}
+use Rattle.dtdl_terms.proofs.OneTerm.{one_schema, one_content}
+use Rattle.local_rules.specs.Members.{list_of, value_at}
 use Rattle.local_rules.specs.declared.role.Position.{Position}
 use Rattle.local_rules.specs.declared.role.Position.TheVariants as position
-use Rattle.model_read.specs.Declarations.{IsIdentifier, AreEntriesOf, IsSemantic, HasSemantic, HasMax, type_of_kind, AreKind, IsContent, IsPropertyTerm, AreProperties, HasKindOf, AreContents, HasContents, IsSchema, AreSchemas, HasSchemas, AreIdentifiers, HasParents, AreInterface}
-use Rattle.model_read.specs.Uploads.{HasOrdinal, IsUploaded, AreUploadedFrom, AreUploaded}
-use Rattle.model_read.proofs.Once.{same_members, option_once, list_once, optional_text_once, identifier_once, id_once, optional_id_once, writable_once, localized_once, commons_once, schema_once, schema_at_once, optional_payload_once}
+use Rattle.model_read.specs.Declarations.{IsIdentifier, AreEntriesOf, IsSemantic, HasSemantic, HasMax, type_of_kind, AreKind, IsContent, IsPropertyTerm, AreProperties, HasKindOf, IsContentEntry, HasEach, IsSchema, HasParents, DeclaresInterface}
+use Rattle.model_read.specs.Uploads.{HasOrdinal, IsUploaded, IsUploadedAt, AreUploaded}
+use Rattle.model_read.proofs.Once.{same_members, option_once, all_zip_once, optional_text_once, identifier_once, id_once, optional_id_once, writable_once, localized_once, commons_once, schema_once, schema_at_once, optional_payload_once}
 
 -- ---- contents
 entries_of_once : (o : Option Json) (vs ws : Elements Number) → AreEntriesOf o vs → AreEntriesOf o ws → vs ≡ ws
 entries_of_once None vs ws g h = g ∙ sym h
 entries_of_once (Some v) vs ws g h = cc
-
--- what holds of the entries of a list, by a value under a key
-entries_in_once : {A : Type 0} (R : A → Elements Number → Type 0) → ((a b : A) (vs : Elements Number) → R a vs → R b vs → a ≡ b) → (o : Option Json) (a b : A)
-    → ((vs : Elements Number) × AreEntriesOf o vs × R a vs) → ((vs : Elements Number) × AreEntriesOf o vs × R b vs) → a ≡ b
-entries_in_once R one o a b g h = one a b g.0 g.2 (subst (R b) (entries_of_once o h.0 g.0 h.1 g.1) h.2)
 
 semantic_in_once : (p : Position) (o : Option Json) (a b : Option (List ℕ)) → IsSemantic p o a → IsSemantic p o b → a ≡ b
 semantic_in_once p (Some (array vs)) = option_once
@@ -49,13 +45,13 @@ most_once ms a b g h =
 max_once : (ms : Members Number) (a b : Option ℕ) → HasMax ms a → HasMax ms b → a ≡ b
 max_once ms = option_once (HasMax ms) (most_once ms) (λ a g h. let there = h.1 in cc)
 
-abbrev SameKind : ContentTerm → ContentTerm → Type 0
-SameKind (content n c k) (content m d l) = type_of_kind k ≡ type_of_kind l
+abbrev SameType : ContentTerm → ContentTerm → Type 0
+SameType (content n c k) (content m d l) = type_of_kind k ≡ type_of_kind l
 
-both_properties : (c d : ContentTerm) → IsPropertyTerm c → IsPropertyTerm d → SameKind c d
+both_properties : (c d : ContentTerm) → IsPropertyTerm c → IsPropertyTerm d → SameType c d
 both_properties (content n c k) (content m d l) g h = g ∙ sym h
 
-both_of_type : (c d : ContentTerm) (v : Json) → HasKindOf c v → HasKindOf d v → SameKind c d
+both_of_type : (c d : ContentTerm) (v : Json) → HasKindOf c v → HasKindOf d v → SameType c d
 both_of_type (content n c k) (content m d l) v g h = let same : Some (type_of_kind k) ≡ Some (type_of_kind l) = sym g ∙ h in cc
 
 mutual
@@ -87,7 +83,7 @@ mutual
   kind_once p (component a) (component b) ms _ = λ g h. ap component (id_once (codes "schema") ms a b g h)
   kind_once p (component a) other ms e = absurd cc
 
-  content_once : (p : Position) (c d : ContentTerm) (v : Json) → SameKind c d → IsContent p c v → IsContent p d v → c ≡ d
+  content_once : (p : Position) (c d : ContentTerm) (v : Json) → SameType c d → IsContent p c v → IsContent p d v → c ≡ d
   content_once p (content n c k) (content m d l) v kinds g h =
       let same = same_members v g.0 h.0 g.1 h.1 in
       let name : n ≡ m = (let left = g.2 in let right = h.2 in cc) in
@@ -104,30 +100,19 @@ mutual
   properties_once (more_contents c cs) (more_contents d ds) (element v vs) g h =
       ap₂ more_contents (content_once position.Property c d v (both_properties c d g.0.1 h.0.1) g.0.0 h.0.0) (properties_once cs ds vs g.1 h.1)
 
-contents_once : (cs ds : ContentTerms) (vs : Elements Number) → AreContents cs vs → AreContents ds vs → cs ≡ ds
-contents_once no_contents no_contents vs g h = refl
-contents_once no_contents (more_contents d ds) no_elements g h = absurd h
-contents_once no_contents (more_contents d ds) (element v vs) g h = absurd g
-contents_once (more_contents c cs) ds no_elements g h = absurd g
-contents_once (more_contents c cs) no_contents (element v vs) g h = absurd h
-contents_once (more_contents c cs) (more_contents d ds) (element v vs) g h =
-    ap₂ more_contents (content_once position.Content c d v (both_of_type c d v g.0.0 h.0.0) g.0.1 h.0.1) (contents_once cs ds vs g.1 h.1)
+content_entry_once : (v : Json) (c d : Content) → IsContentEntry v c → IsContentEntry v d → c ≡ d
+content_entry_once v c d g h =
+    one_content c d (content_once position.Content (content_term c) (content_term d) v (both_of_type (content_term c) (content_term d) v g.0 h.0) g.1 h.1)
 
 -- ---- interfaces
-schemas_once : (ss us : List SchemaTerm) (vs : Elements Number) → AreSchemas vs ss → AreSchemas vs us → ss ≡ us
-schemas_once ss us vs = list_once
-    (λ v s. IsSchema s v)
-    AreSchemas
-    (λ s ss none. none)
-    (λ v vs none. none)
-    (λ v vs s ss all. all)
-    (λ v s u. schema_once s u v)
-    vs
-    ss
-    us
+-- the elements of a list under a key
+has_each_once : {A : Type 0} (Is : Json → A → Type 0) → ((v : Json) (a b : A) → Is v a → Is v b → a ≡ b) → (o : Option Json) (xs ys : List A) → HasEach Is o xs
+    → HasEach Is o ys → xs ≡ ys
+has_each_once Is one o xs ys g h = all_zip_once Is one (list_of g.0) xs ys g.2
+    (subst (λ (vs : Elements Number). AllZip Is (list_of vs) ys) (entries_of_once o h.0 g.0 h.1 g.1) h.2)
 
-identifiers_once : (vs : Elements Number) (is js : List Identifier) → AreIdentifiers vs is → AreIdentifiers vs js → is ≡ js
-identifiers_once = list_once IsIdentifier AreIdentifiers (λ i is none. none) (λ v vs none. none) (λ v vs i is all. all) identifier_once
+identifiers_once : (vs : Elements Number) (is js : List Identifier) → AllZip IsIdentifier (list_of vs) is → AllZip IsIdentifier (list_of vs) js → is ≡ js
+identifiers_once vs = all_zip_once IsIdentifier identifier_once (list_of vs)
 
 parents_once : (o : Option Json) (is js : List Identifier) → HasParents o is → HasParents o js → is ≡ js
 parents_once None is js g h = g ∙ sym h
@@ -138,24 +123,20 @@ parents_once (Some v) is js (inl g) (inr h) = let left = g.2.0 in let right = h.
 parents_once (Some v) is js (inr g) (inl h) = let left = g.1 in let right = h.2.0 in absurd cc
 parents_once (Some v) is js (inr g) (inr h) =
     let same : h.0 ≡ g.0 = (let left = g.1 in let right = h.1 in cc) in
-    identifiers_once g.0 is js g.2 (subst (λ (vs : Elements Number). AreIdentifiers vs js) same h.2)
+    identifiers_once g.0 is js g.2 (subst (λ (vs : Elements Number). AllZip IsIdentifier (list_of vs) js) same h.2)
 
-content_list_once : (o : Option Json) (cs ds : List Content) → HasContents o (contents_term cs) → HasContents o (contents_term ds) → cs ≡ ds
-content_list_once o cs ds g h = one_contents cs ds (entries_in_once AreContents contents_once o (contents_term cs) (contents_term ds) g h)
+schema_entry_once : (v : Json) (s u : Schema) → IsSchema (schema_term s) v → IsSchema (schema_term u) v → s ≡ u
+schema_entry_once v s u g h = one_schema s u (schema_once (schema_term s) (schema_term u) v g h)
 
-schema_list_once : (o : Option Json) (ss us : List Schema) → HasSchemas o (map schema_term ss) → HasSchemas o (map schema_term us) → ss ≡ us
-schema_list_once o ss us g h =
-    one_schemas ss us (entries_in_once (λ ss vs. AreSchemas vs ss) schemas_once o (map schema_term ss) (map schema_term us) g h)
-
-interface_once : (ms : Members Number) (x y : Interface) → AreInterface ms x → AreInterface ms y → x ≡ y
+interface_once : (ms : Members Number) (x y : Interface) → DeclaresInterface ms x → DeclaresInterface ms y → x ≡ y
 interface_once ms x y g h =
     let id = id_once (codes "@id") ms x.id y.id g.id h.id in
     let comment = optional_text_once (codes "comment") ms x.comment y.comment g.comment h.comment in
     let description = localized_once (codes "description") ms x.description.entries y.description.entries g.description h.description in
     let display_name = localized_once (codes "displayName") ms x.display_name.entries y.display_name.entries g.display_name h.display_name in
     let parents = parents_once (value_at (codes "extends") ms) x.parents y.parents g.parents h.parents in
-    let contents = content_list_once (value_at (codes "contents") ms) x.contents y.contents g.contents h.contents in
-    let schemas = schema_list_once (value_at (codes "schemas") ms) x.schemas y.schemas g.schemas h.schemas in
+    let contents = has_each_once IsContentEntry content_entry_once (value_at (codes "contents") ms) x.contents y.contents g.contents h.contents in
+    let schemas = has_each_once (λ v s. IsSchema (schema_term s) v) schema_entry_once (value_at (codes "schemas") ms) x.schemas y.schemas g.schemas h.schemas in
     λ i. record {
       id = id i;
       comment = comment i;
@@ -220,7 +201,7 @@ uploaded_once whole place at nth v u w g h =
     let ms = g.members in
     let ns = h.members in
     let same = same_members v ms ns g.is h.is in
-    let declared = subst (λ (xs : Members Number). AreInterface xs w.interface) same h.declares in
+    let declared = subst (λ (xs : Members Number). DeclaresInterface xs w.interface) same h.declares in
     let interface = interface_once ms u.interface w.interface g.declares declared in
     let base = pointer_once whole place u.base w.base g.base h.base in
     let ids : Some u.id_at ≡ Some w.id_at = ordinals_once (codes "@id") ms ns (Some u.id_at) (Some w.id_at) same g.id_at h.id_at in
@@ -239,18 +220,9 @@ uploaded_once whole place at nth v u w g h =
       contents_at = contents_at i;
     }
 
-uploads_once : (whole : Json) (at nth : ℕ) (vs : Elements Number) (us ws : List Uploaded) → AreUploadedFrom whole at nth vs us
-    → AreUploadedFrom whole at nth vs ws → us ≡ ws
-uploads_once whole at nth no_elements [] [] g h = refl
-uploads_once whole at nth no_elements [] (w ∷ ws) g h = absurd h
-uploads_once whole at nth no_elements (u ∷ us) ws g h = absurd g
-uploads_once whole at nth (element v vs) [] ws g h = absurd g
-uploads_once whole at nth (element v vs) (u ∷ us) [] g h = absurd h
-uploads_once whole at nth (element v vs) (u ∷ us) (w ∷ ws) g h =
-    ap₂ (λ (x : Uploaded) (xs : List Uploaded). x ∷ xs) (uploaded_once whole (at ∷ []) at nth v u w g.0 h.0) (uploads_once whole (suc at) nth vs us ws g.1 h.1)
-
 pub document_once : (whole : Json) (nth : ℕ) (us ws : List Uploaded) → AreUploaded whole nth us → AreUploaded whole nth ws → us ≡ ws
-document_once (array vs) nth us ws g h = uploads_once (array vs) 0 nth vs us ws g h
+document_once (array vs) nth us ws g h = all_zip_once (IsUploadedAt (array vs) nth) (λ e u w. uploaded_once (array vs) (e.0 ∷ []) e.0 nth e.1 u w)
+    (enumerate_from 0 (list_of vs)) us ws g h
 document_once (object ms) nth us ws g h =
     g.1 ∙ (ap (λ (u : Uploaded). u ∷ []) (uploaded_once (object ms) [] 0 nth (object ms) g.0 h.0 g.2 h.2) ∙ sym h.1)
 document_once null nth us ws g h = absurd g

@@ -1,16 +1,14 @@
 -- Where parts stand: the entries of a list and the members of an object, by their positions.
 use Rattle.std.proofs.Common.{◌≡◌, ℕ, suc, ◌+◌, ◌<◌, ◌≤◌, List, [], ◌∷◌, ◌++◌, length, take, drop, get_or, Bool, true, false, ◌⊎◌, inl, inr, Some, cond, sym, ap, ◌∙◌, subst, arith, bytes_eq, true≢false}
-use Rattle.std.proofs.lemmas.List.{take_more, drop_more, length-take-le}
+use Rattle.std.proofs.lemmas.List.{drop_more}
 use Rattle.std.proofs.lemmas.Slice.Eq.{bytes_eq-Decides}
 use Rattle.json_tree.specs.Values.{Json}
 use Rattle.json_tree.specs.Places.{member_at}
-use Rattle.json_tree.specs.View.{view, member_view, elements_view, members_view}
-use Rattle.json_tree.specs.declared.tree.Tree.{Tree}
+use Rattle.json_tree.specs.View.{view, member_view, members_view}
 use Rattle.json_tree.specs.declared.tree.Member.{Member}
-use Rattle.dtdl_terms.specs.declared.uploaded.Uploaded.{Uploaded}
 use Rattle.local_rules.specs.Members.{value_at}
 use Rattle.json_tree.proofs.Parts.{member_part}
-use Rattle.model_read.specs.Uploads.{IsNew, HasOrdinal, IsUploaded, AreUploadedFrom}
+use Rattle.model_read.specs.Uploads.{IsNew, HasOrdinal}
 
 lt-or-eq : (j i : ℕ) → j < i + 1 → (j < i) ⊎ (j ≡ i)
 lt-or-eq j i h = grind arith
@@ -57,25 +55,3 @@ ordinal_found ms i m key within is tested before new =
       sym before ∙ (ap (λ (ns : List Member). value_at key (members_view ns)) (at_position ms i m within is) ∙ first_value key m (drop (i + 1) ms) tested),
       new,
     )
-
-uploads_more : (whole : Json) (at nth : ℕ) (ts : List Tree) (us : List Uploaded) (t : Tree) (u : Uploaded) → AreUploadedFrom whole at nth (elements_view ts) us
-    → IsUploaded whole ((at + length ts) ∷ []) (at + length ts) nth (view t) u → AreUploadedFrom whole at nth (elements_view (ts ++ t ∷ [])) (us ++ u ∷ [])
-uploads_more whole at nth [] [] t u all one =
-    let e : at + 0 ≡ at = omega arith in
-    (subst (λ (n : ℕ). IsUploaded whole (n ∷ []) n nth (view t) u) e one, tt)
-uploads_more whole at nth [] (x ∷ us) t u all one = absurd all
-uploads_more whole at nth (s ∷ ts) [] t u all one = absurd all
-uploads_more whole at nth (s ∷ ts) (x ∷ us) t u all one =
-    let e : at + length (s ∷ ts) ≡ suc at + length ts = omega arith in
-    (all.0, uploads_more whole (suc at) nth ts us t u all.1 (subst (λ (n : ℕ). IsUploaded whole (n ∷ []) n nth (view t) u) e one))
-
--- the interfaces of the entries so far, and one more
-pub uploads_step : (whole : Json) (nth : ℕ) (ts : List Tree) (i : ℕ) (t : Tree) (us : List Uploaded) (u : Uploaded) → i < length ts → t ≡ get_or ts i t
-    → AreUploadedFrom whole 0 nth (elements_view (take i ts)) us → IsUploaded whole (i ∷ []) i nth (view t) u
-    → AreUploadedFrom whole 0 nth (elements_view (take (i + 1) ts)) (us ++ u ∷ [])
-uploads_step whole nth ts i t us u within is all one =
-    let front : take (i + 1) ts ≡ take i ts ++ t ∷ [] = take_more ts i t within ∙ ap (λ z. take i ts ++ z ∷ []) (sym is) in
-    let le : i ≤ length ts = omega arith in
-    let long = length-take-le i ts le in
-    let e : i ≡ 0 + length (take i ts) = omega (arith, long) in
-    rw front (uploads_more whole 0 nth (take i ts) us t u all (subst (λ (n : ℕ). IsUploaded whole (n ∷ []) n nth (view t) u) e one))

@@ -21,7 +21,7 @@ use Rattle.local_rules.specs.declared.role.Position.{Position}
 use Rattle.local_rules.proofs.Views.{list_of-elements_of}
 use Rattle.model_read.proofs.Seen.{seen_list}
 use Rattle.json_tree.proofs.Parts.{item_part}
-use Rattle.model_read.specs.Shapes.{CanBe, CanBeId, CanBeName, CanBeMultiplicity, CanBeTypes, EachIs, IsListOf}
+use Rattle.model_read.specs.Machinery.Shapes.{CanBe, CanBeId, CanBeName, CanBeMultiplicity, CanBeTypes, EachIs, IsListOf}
 
 -- ---- texts
 pub word_of : (P : List ℕ → Type 0) (v : Json) → CanBe ((bytes : List ℕ) × (v ≡ text bytes) × P bytes) → IsString v

@@ -1,5 +1,6 @@
 -- A value that is known by what it was matched as, and what was read of it.
 use Rattle.std.proofs.Common.{◌≡◌, inr, ℕ, List, Some, Result, Ok, Err, IfOk, sym, ap, ◌∙◌, subst}
+use Rattle.std.specs.List.{AllZip}
 use Rattle.dtmi_name.specs.Grammar.{Identifier}
 use Rattle.json_decimal.specs.Number.{Number}
 use Rattle.json_tree.specs.Values.{Json, text, array, object, Elements}
@@ -8,7 +9,8 @@ use Rattle.json_tree.specs.declared.tree.Tree.{Tree}
 use Rattle.json_tree.specs.declared.tree.Tree as variants
 use Rattle.json_tree.specs.declared.tree.Member.{Member}
 use Rattle.local_rules.proofs.Views.{view-Text, view-List, view-Members}
-use Rattle.model_read.specs.Declarations.{AreIdentifiers, HasParents}
+use Rattle.local_rules.specs.Members.{list_of}
+use Rattle.model_read.specs.Declarations.{HasParents, IsIdentifier}
 
 pub seen_text : (t : Tree) (bytes slice : List ℕ) → t ≡ variants.Text bytes → slice ≡ bytes → view t ≡ text slice
 seen_text t bytes slice is same = ap view is ∙ (view-Text bytes ∙ ap text (sym same))
@@ -24,7 +26,7 @@ pub of_members : {X E : Type 0} (P : Json → X → Type 0) (r : Result X E) (t 
 of_members P r t ms slice is same h = subst (λ (v : Json). IfOk r (λ x. P v x)) (sym (seen_members t ms slice is same)) h
 
 -- the parents that a list names
-pub of_list : {E : Type 0} (r : Result (List Identifier) E) (t : Tree) (vs : Elements Number) → view t ≡ array vs → IfOk r (λ ids. AreIdentifiers vs ids)
+pub of_list : {E : Type 0} (r : Result (List Identifier) E) (t : Tree) (vs : Elements Number) → view t ≡ array vs → IfOk r (λ ids. AllZip IsIdentifier (list_of vs) ids)
     → IfOk r (λ ids. HasParents (Some (view t)) ids)
 of_list (Ok ids) t vs is h = inr (vs, is, h)
 of_list (Err e) t vs is h = tt

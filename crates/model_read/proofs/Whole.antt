@@ -9,8 +9,8 @@ use Rattle.local_rules.specs.Roles.{HasRole, element_member, id_role, key_of, me
 use Rattle.local_rules.specs.Kinds.{LacksKeyOf, needed_keys}
 use Rattle.local_rules.specs.Identifiers.{OfText}
 use Rattle.local_rules.specs.Levels.{IsPrimitive, has_id, schema_named}
-use Rattle.local_rules.specs.Choices.{BreaksAlone}
-use Rattle.local_rules.specs.Breaches.{IsBroken, IsBreach, IsEarlierId}
+use Rattle.local_rules.specs.Breaches.{BreaksAlone}
+use Rattle.local_rules.specs.Breaches.{IsBroken, IsBreach}
 use Rattle.local_rules.specs.declared.key.Key.TheVariants as key
 use Rattle.local_rules.specs.declared.rule.LocalRule.{LocalRule}
 use Rattle.local_rules.specs.declared.rule.LocalRule.TheVariants as rule
@@ -30,8 +30,7 @@ use Rattle.json_tree.specs.declared.tree.Member.{Member}
 use Rattle.local_rules.proofs.Keyed.{position_of_key}
 use Rattle.local_rules.proofs.Named.{found_under, id_is}
 use Rattle.local_rules.proofs.Wanted.{lacks_first}
-use Rattle.local_faults.proofs.Rules.{alone_breaks}
-use Rattle.model_read.specs.Shapes.{CanBeId, EachIs, IsSound, IsSoundInterface, NamesSchema}
+use Rattle.model_read.specs.Machinery.Shapes.{CanBeId, EachIs, IsValid, IsValidInterface, NamesSchema}
 use Rattle.model_read.proofs.Leaves.{element_id, interface_id}
 use Rattle.model_read.proofs.Seen.{seen_list, seen_members}
 
@@ -55,16 +54,16 @@ none_under_key r s other part key at stands none = absurd cc
 
 -- ---- the `@id` of an entry of `schemas` can be an identifier
 -- a text has no parts
-text_sound : (r : Role) (bytes : List ℕ) → ((part : SchemaUse) → r ≡ role.Schema part → ⊥) → BreaksNone r (text bytes) → IsSound r (text bytes)
-text_sound r bytes plain none = record { alone = none; named = named }
+text_valid : (r : Role) (bytes : List ℕ) → ((part : SchemaUse) → r ≡ role.Schema part → ⊥) → BreaksNone r (text bytes) → IsValid r (text bytes)
+text_valid r bytes plain none = record { alone = none; named = named }
   where
     named : (place : List ℕ) (q : Role) (w : Json) → HasRole r (text bytes) place q w → NamesSchema q w
     named [] q w there = λ part other is. absurd (plain part (there.0 ∙ is))
     named (i ∷ place) q w there = absurd there.2
 
 id_can_be : (e : Element) (bytes : List ℕ) → BreaksNone (id_role e) (text bytes) → CanBeId (text bytes)
-id_can_be element_kind.Interface bytes none = interface_id (text bytes) (text_sound role.InterfaceId bytes (λ part is. cc) none)
-id_can_be other bytes none = element_id (text bytes) (text_sound role.ElementId bytes (λ part is. cc) none)
+id_can_be element_kind.Interface bytes none = interface_id (text bytes) (text_valid role.InterfaceId bytes (λ part is. cc) none)
+id_can_be other bytes none = element_id (text bytes) (text_valid role.ElementId bytes (λ part is. cc) none)
 
 id_known : (e : Element) → key_of e (codes "@id") ≡ Some key.Id
 id_known element_kind.Interface = refl
@@ -107,17 +106,17 @@ named_can_be v bytes (Some entry) found some none =
     entry_can_be entry bytes (id_is bytes (value_in (codes "@id") entry) same) in_entry
 
 -- ---- interfaces and documents
-pub interface : (v : Json) → ((place : List ℕ) (broken : LocalRule) → IsBroken v place broken → ⊥) → IsSoundInterface v
+pub interface : (v : Json) → ((place : List ℕ) (broken : LocalRule) → IsBroken v place broken → ⊥) → IsValidInterface v
 interface v none = record { alone = alone; named = named }
   where
     alone : BreaksNone role.Interface v
-    alone place q w there broken breaks = none place broken (q, w, there, alone_breaks (members_in v) (IsEarlierId v place) broken q w breaks)
+    alone place q w there broken breaks = none place broken (q, w, there, inl breaks)
 
     named : (place : List ℕ) (q : Role) (w : Json) → HasRole role.Interface v place q w → NamesSchema q w
     named place q w there part bytes is same other =
         let Unknown : List ℕ → Type 0 = λ t. (IsPrimitive t → ⊥) × (schema_named (members_in v) t ≡ None) in
         let known = λ (lacks : schema_named (members_in v) bytes ≡ None).
-        none place rule.UnknownSchema (q, w, there, (part, is, subst (OfText Unknown) (sym same) (other, lacks))) in
+        none place rule.UnknownSchema (q, w, there, inr (inr (inl (part, is, subst (OfText Unknown) (sym same) (other, lacks))))) in
         subst CanBeId (sym same) (named_can_be v bytes (schema_named (members_in v) bytes) refl known alone)
 
 -- no rule is broken in a document
@@ -125,12 +124,12 @@ abbrev pub BreaksNothing : Json → Type 0
 BreaksNothing v = (place : List ℕ) (broken : LocalRule) → IsBreach v place broken → ⊥
 
 -- which is an interface
-pub one_interface : (t : Tree) (ms slice : List Member) → t ≡ variants.Members ms → slice ≡ ms → BreaksNothing (view t) → IsSoundInterface (object (members_view slice))
+pub one_interface : (t : Tree) (ms slice : List Member) → t ≡ variants.Members ms → slice ≡ ms → BreaksNothing (view t) → IsValidInterface (object (members_view slice))
 one_interface t ms slice is same none =
     interface (object (members_view slice)) (subst BreaksNothing (seen_members t ms slice is same) none)
 
 -- or a list of interfaces
-pub each_interface : (t : Tree) (ts slice : List Tree) → t ≡ variants.List ts → slice ≡ ts → BreaksNothing (view t) → EachIs IsSoundInterface (elements_view slice)
+pub each_interface : (t : Tree) (ts slice : List Tree) → t ≡ variants.List ts → slice ≡ ts → BreaksNothing (view t) → EachIs IsValidInterface (elements_view slice)
 each_interface t ts slice is same none = λ i v at.
     interface v (λ place broken breaks. subst BreaksNothing (seen_list t ts slice is same) none (i ∷ place) broken (v, at, breaks))
 

@@ -1,21 +1,24 @@
 -- What a JSON value declares as an element of DTDL v2: the relation between the value and the element's term. The
 -- lists of a term stand in the order of the text. The relation speaks of documents that break no local rule, so it
 -- says nothing of limits.
-use Rattle.std.specs.Prelude.{◌≡◌, ℕ, ◌⊎◌, List, [], ◌∷◌, map, Bool, true, false, Option, Some, None, codes, pos}
+use Rattle.std.specs.Prelude.{◌≡◌, ℕ, ◌⊎◌, List, [], ◌∷◌, Bool, true, false, Option, Some, None, codes, pos}
+use Rattle.std.specs.List.{AllZip}
 use Rattle.dtmi_name.specs.Grammar.{Identifier, OwnDtmiText, dtmi_text}
 use Rattle.json_decimal.specs.Number.{Number}
 use Rattle.json_decimal.specs.Comparing.{IsWhole}
-use Rattle.json_tree.specs.Values.{Json, null, truth, number, text, array, object, Elements, no_elements, element, Members, no_members, member}
+use Rattle.json_tree.specs.Values.{Json, null, truth, number, text, array, object, Elements, no_elements, element, Members}
 use Rattle.dtdl_terms.specs.Primitives.{primitive_name}
 use Rattle.dtdl_terms.specs.Terms.{SchemaTerm, primitive, named, array_of, enumeration, map_of, object_of, PayloadTerm, payload, PayloadTerms, no_payloads, more_payloads, ContentTerm, content, KindTerm, telemetry, property, command, relationship, component, ContentTerms, no_contents, more_contents}
-use Rattle.dtdl_terms.specs.TermViews.{schema_term, contents_term}
+use Rattle.dtdl_terms.specs.TermViews.{schema_term, content_term}
 use Rattle.dtdl_terms.specs.declared.common.Common.{Common}
 use Rattle.dtdl_terms.specs.declared.common.Entry.{Entry}
 use Rattle.dtdl_terms.specs.declared.enumeration.EnumEntry.{EnumEntry}
 use Rattle.dtdl_terms.specs.declared.enumeration.EnumValue.{EnumValue}
 use Rattle.dtdl_terms.specs.declared.enumeration.EnumValue.TheVariants as values
+use Rattle.dtdl_terms.specs.declared.content.Content.{Content}
 use Rattle.dtdl_terms.specs.declared.interface.Interface.{Interface}
-use Rattle.local_rules.specs.Members.{list_of, value_at, members_in}
+use Rattle.dtdl_terms.specs.declared.schema.Schema.{Schema}
+use Rattle.local_rules.specs.Members.{list_of, pairs_of, value_at, members_in}
 use Rattle.local_rules.specs.Roles.{type_of}
 use Rattle.local_rules.specs.Types.{further}
 use Rattle.local_rules.specs.declared.role.Element.{Element}
@@ -25,12 +28,12 @@ use Rattle.local_rules.specs.declared.role.Position.TheVariants as position
 
 -- ---- what every element may have
 -- The member with this key is this text; or it is absent where there is none.
-abbrev pub HasText : List ℕ → Members Number → List ℕ → Type 0
-HasText key ms bytes = value_at key ms ≡ Some (text bytes)
+abbrev pub HasString : List ℕ → Members Number → List ℕ → Type 0
+HasString key ms bytes = value_at key ms ≡ Some (text bytes)
 
-abbrev pub HasOptionalText : List ℕ → Members Number → Option (List ℕ) → Type 0
-HasOptionalText key ms None = value_at key ms ≡ None
-HasOptionalText key ms (Some bytes) = HasText key ms bytes
+abbrev pub HasOptionalString : List ℕ → Members Number → Option (List ℕ) → Type 0
+HasOptionalString key ms None = value_at key ms ≡ None
+HasOptionalString key ms (Some bytes) = HasString key ms bytes
 
 -- A text that is this identifier of an element of one's own.
 abbrev pub IsIdentifier : Json → Identifier → Type 0
@@ -48,12 +51,9 @@ abbrev pub IsWritable : Option Json → Bool → Type 0
 IsWritable None writable = writable ≡ false
 IsWritable (Some v) writable = v ≡ truth writable
 
--- The texts of a localized text, by the members of an object.
-abbrev pub AreEntries : Members Number → List Entry → Type 0
-AreEntries no_members [] = Unit {0}
-AreEntries no_members (e ∷ es) = ⊥
-AreEntries (member key v ms) [] = ⊥
-AreEntries (member key v ms) (e ∷ es) = (key ≡ e.language) × (v ≡ text e.text) × AreEntries ms es
+-- A text in a language, by a member of an object.
+abbrev pub IsTextOfLanguage : List ℕ × Json → Entry → Type 0
+IsTextOfLanguage m e = (m.0 ≡ e.language) × (m.1 ≡ text e.text)
 
 abbrev pub IsLocalizedBy : Json → List Entry → Type 0
 IsLocalizedBy null es = ⊥
@@ -61,7 +61,7 @@ IsLocalizedBy (truth b) es = ⊥
 IsLocalizedBy (number n) es = ⊥
 IsLocalizedBy (text bytes) es = es ≡ record { language = codes "en"; text = bytes } ∷ []
 IsLocalizedBy (array vs) es = ⊥
-IsLocalizedBy (object ms) es = AreEntries ms es
+IsLocalizedBy (object ms) es = AllZip IsTextOfLanguage (pairs_of ms) es
 
 -- A localized text (DTDL v2, "Internationalization"): a plain text stands for its entry of the language `en`; an
 -- absent one has no entry.
@@ -74,7 +74,7 @@ HasLocalized key ms es = IsLocalized (value_at key ms) es
 
 pub record HasCommon (ms : Members Number) (c : Common) : Type 0 where
   pub id : HasOptionalId (codes "@id") ms c.id
-  pub comment : HasOptionalText (codes "comment") ms c.comment
+  pub comment : HasOptionalString (codes "comment") ms c.comment
   pub description : HasLocalized (codes "description") ms c.description.entries
   pub display_name : HasLocalized (codes "displayName") ms c.display_name.entries
 
@@ -84,16 +84,13 @@ abbrev pub IsEnumValue : Json → EnumValue → Type 0
 IsEnumValue v (values.Number z) = (n : Number) × (v ≡ number n) × IsWhole n z
 IsEnumValue v (values.Word bytes) = v ≡ text bytes
 
-pub record AreEnumEntry (ms : Members Number) (e : EnumEntry) : Type 0 where
-  pub name : HasText (codes "name") ms e.name
+pub record DeclaresEnumEntry (ms : Members Number) (e : EnumEntry) : Type 0 where
+  pub name : HasString (codes "name") ms e.name
   pub common : HasCommon ms e.common
   pub value : (v : Json) × (value_at (codes "enumValue") ms ≡ Some v) × IsEnumValue v e.value
 
-abbrev pub AreEnumEntries : Elements Number → List EnumEntry → Type 0
-AreEnumEntries no_elements [] = Unit {0}
-AreEnumEntries no_elements (e ∷ es) = ⊥
-AreEnumEntries (element v vs) [] = ⊥
-AreEnumEntries (element v vs) (e ∷ es) = ((ms : Members Number) × (v ≡ object ms) × AreEnumEntry ms e) × AreEnumEntries vs es
+abbrev pub IsEnumEntry : Json → EnumEntry → Type 0
+IsEnumEntry v e = (ms : Members Number) × (v ≡ object ms) × DeclaresEnumEntry ms e
 
 -- `valueSchema` is `string` or `integer`.
 abbrev pub value_schema : Bool → List ℕ
@@ -113,7 +110,7 @@ abbrev mutual
   IsSchema (array_of c s) v = (ms : Members Number) × (part : Json) × IsSchemaObject element_kind.Array v ms × HasCommon ms c
       × (value_at (codes "elementSchema") ms ≡ Some part) × IsSchema s part
   IsSchema (enumeration c of_text es) v = (ms : Members Number) × (vs : Elements Number) × IsSchemaObject element_kind.Enumeration v ms × HasCommon ms c
-      × HasText (codes "valueSchema") ms (value_schema of_text) × (value_at (codes "enumValues") ms ≡ Some (array vs)) × AreEnumEntries vs es
+      × HasString (codes "valueSchema") ms (value_schema of_text) × (value_at (codes "enumValues") ms ≡ Some (array vs)) × AllZip IsEnumEntry (list_of vs) es
   IsSchema (map_of c k e) v = (ms : Members Number) × (key value : Json) × IsSchemaObject element_kind.Map v ms × HasCommon ms c
       × (value_at (codes "mapKey") ms ≡ Some key) × IsPayload k key × (value_at (codes "mapValue") ms ≡ Some value) × IsPayload e value
   IsSchema (object_of c fs) v = (ms : Members Number) × (vs : Elements Number) × IsSchemaObject element_kind.Object v ms × HasCommon ms c
@@ -121,7 +118,7 @@ abbrev mutual
 
   -- A payload of a command, a field, or the key or value of a map: its name, and its schema.
   pub IsPayload : PayloadTerm → Json → Type 0
-  IsPayload (payload n c s) v = (ms : Members Number) × (part : Json) × (v ≡ object ms) × HasText (codes "name") ms n × HasCommon ms c
+  IsPayload (payload n c s) v = (ms : Members Number) × (part : Json) × (v ≡ object ms) × HasString (codes "name") ms n × HasCommon ms c
       × (value_at (codes "schema") ms ≡ Some part) × IsSchema s part
 
   pub ArePayloads : PayloadTerms → Elements Number → Type 0
@@ -177,8 +174,8 @@ IsPropertyTerm (content n c k) = type_of_kind k ≡ element_kind.Property
 
 abbrev mutual
   pub AreKind : Position → KindTerm → Members Number → Type 0
-  AreKind p (telemetry s semantic unit) ms = HasSchema (codes "schema") ms s × HasSemantic p ms semantic × HasOptionalText (codes "unit") ms unit
-  AreKind p (property s semantic unit writable) ms = HasSchema (codes "schema") ms s × HasSemantic p ms semantic × HasOptionalText (codes "unit") ms unit
+  AreKind p (telemetry s semantic unit) ms = HasSchema (codes "schema") ms s × HasSemantic p ms semantic × HasOptionalString (codes "unit") ms unit
+  AreKind p (property s semantic unit writable) ms = HasSchema (codes "schema") ms s × HasSemantic p ms semantic × HasOptionalString (codes "unit") ms unit
       × IsWritable (value_at (codes "writable") ms) writable
   AreKind p (command request response) ms = HasOptionalPayload (codes "request") ms request × HasOptionalPayload (codes "response") ms response
   AreKind p (relationship target properties most writable) ms = HasOptionalId (codes "target") ms target
@@ -188,7 +185,7 @@ abbrev mutual
 
   -- A content at a position of `@type`: its name, what every element has, and what its kind has.
   pub IsContent : Position → ContentTerm → Json → Type 0
-  IsContent p (content n c k) v = (ms : Members Number) × (v ≡ object ms) × HasText (codes "name") ms n × HasCommon ms c × AreKind p k ms
+  IsContent p (content n c k) v = (ms : Members Number) × (v ≡ object ms) × HasString (codes "name") ms n × HasCommon ms c × AreKind p k ms
 
   -- The entries of a relationship's `properties`, each a property whatever its `@type` names.
   pub AreProperties : ContentTerms → Elements Number → Type 0
@@ -201,44 +198,32 @@ abbrev mutual
 abbrev pub HasKindOf : ContentTerm → Json → Type 0
 HasKindOf (content n c k) v = type_of position.Content (members_in v) ≡ Some (type_of_kind k)
 
-abbrev pub AreContents : ContentTerms → Elements Number → Type 0
-AreContents no_contents no_elements = Unit {0}
-AreContents no_contents (element v vs) = ⊥
-AreContents (more_contents p ps) no_elements = ⊥
-AreContents (more_contents p ps) (element v vs) = (HasKindOf p v × IsContent position.Content p v) × AreContents ps vs
+abbrev pub IsContentEntry : Json → Content → Type 0
+IsContentEntry v c = HasKindOf (content_term c) v × IsContent position.Content (content_term c) v
 
 -- ---- interfaces
--- Absent and empty lists are equal.
-abbrev pub HasContents : Option Json → ContentTerms → Type 0
-HasContents list ps = (vs : Elements Number) × AreEntriesOf list vs × AreContents ps vs
+-- The elements of a list are of this kind, one for one, in the order of the text; absent and empty lists are equal.
+abbrev pub HasEach : {A : Type 0} → (Json → A → Type 0) → Option Json → List A → Type 0
+HasEach Is list xs = (vs : Elements Number) × AreEntriesOf list vs × AllZip Is (list_of vs) xs
 
-abbrev pub AreSchemas : Elements Number → List SchemaTerm → Type 0
-AreSchemas no_elements [] = Unit {0}
-AreSchemas no_elements (s ∷ ss) = ⊥
-AreSchemas (element v vs) [] = ⊥
-AreSchemas (element v vs) (s ∷ ss) = IsSchema s v × AreSchemas vs ss
+abbrev pub HasContents : Option Json → List Content → Type 0
+HasContents list cs = HasEach IsContentEntry list cs
 
-abbrev pub HasSchemas : Option Json → List SchemaTerm → Type 0
-HasSchemas list ss = (vs : Elements Number) × AreEntriesOf list vs × AreSchemas vs ss
-
-abbrev pub AreIdentifiers : Elements Number → List Identifier → Type 0
-AreIdentifiers no_elements [] = Unit {0}
-AreIdentifiers no_elements (id ∷ ids) = ⊥
-AreIdentifiers (element v vs) [] = ⊥
-AreIdentifiers (element v vs) (id ∷ ids) = IsIdentifier v id × AreIdentifiers vs ids
+abbrev pub HasSchemas : Option Json → List Schema → Type 0
+HasSchemas list ss = HasEach (λ v s. IsSchema (schema_term s) v) list ss
 
 -- The parents of an interface: one as a text, or those of a list.
 abbrev pub HasParents : Option Json → List Identifier → Type 0
 HasParents None ids = ids ≡ []
 HasParents (Some v) ids = ((id : Identifier) × (ids ≡ id ∷ []) × IsIdentifier v id)
-    ⊎ ((vs : Elements Number) × (v ≡ array vs) × AreIdentifiers vs ids)
+    ⊎ ((vs : Elements Number) × (v ≡ array vs) × AllZip IsIdentifier (list_of vs) ids)
 
 -- The members of an object declare this interface (DTDL v2, "Interface").
-pub record AreInterface (ms : Members Number) (i : Interface) : Type 0 where
+pub record DeclaresInterface (ms : Members Number) (i : Interface) : Type 0 where
   pub id : HasId (codes "@id") ms i.id
-  pub comment : HasOptionalText (codes "comment") ms i.comment
+  pub comment : HasOptionalString (codes "comment") ms i.comment
   pub description : HasLocalized (codes "description") ms i.description.entries
   pub display_name : HasLocalized (codes "displayName") ms i.display_name.entries
   pub parents : HasParents (value_at (codes "extends") ms) i.parents
-  pub contents : HasContents (value_at (codes "contents") ms) (contents_term i.contents)
-  pub schemas : HasSchemas (value_at (codes "schemas") ms) (map schema_term i.schemas)
+  pub contents : HasContents (value_at (codes "contents") ms) i.contents
+  pub schemas : HasSchemas (value_at (codes "schemas") ms) i.schemas

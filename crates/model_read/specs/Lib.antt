@@ -1,4 +1,5 @@
 pub mod Declarations
 pub mod Uploads
 pub mod Ends
-pub mod Shapes
+pub mod Limits
+pub mod Machinery

@@ -1,12 +1,13 @@
 -- The interfaces of a document with where each stands in it.
-use Rattle.std.specs.Prelude.{◌≡◌, ℕ, suc, ◌<◌, ◌↔◌, List, [], ◌∷◌, Option, Some, None, IsTrue, codes}
+use Rattle.std.specs.List.{AllZip, enumerate_from}
+use Rattle.std.specs.Prelude.{◌≡◌, ℕ, ◌<◌, ◌↔◌, List, [], ◌∷◌, Option, Some, None, IsTrue, codes}
 use Rattle.json_decimal.specs.Number.{Number}
-use Rattle.json_tree.specs.Values.{Json, null, truth, number, text, array, object, Elements, no_elements, element, Members}
+use Rattle.json_tree.specs.Values.{Json, null, truth, number, text, array, object, Members}
 use Rattle.json_tree.specs.Places.{member_at}
 use Rattle.json_tree.specs.Pointers.{IsPointerOf}
 use Rattle.dtdl_terms.specs.declared.uploaded.Uploaded.{Uploaded}
-use Rattle.local_rules.specs.Members.{value_at}
-use Rattle.model_read.specs.Declarations.{AreInterface}
+use Rattle.local_rules.specs.Members.{list_of, value_at}
+use Rattle.model_read.specs.Declarations.{DeclaresInterface}
 
 -- No member before this position has the key.
 abbrev pub IsNew : List ℕ → Members Number → ℕ → Type 0
@@ -21,7 +22,7 @@ HasOrdinal key ms (Some at) = (v : Json) × (member_at ms at ≡ Some (key, v)) 
 pub record IsUploaded (whole : Json) (place : List ℕ) (at nth : ℕ) (v : Json) (u : Uploaded) : Type 0 where
   pub members : Members Number
   pub is : v ≡ object members
-  pub declares : AreInterface members u.interface
+  pub declares : DeclaresInterface members u.interface
   pub document : u.document ≡ nth
   pub base : IsPointerOf whole place u.base
   pub index : u.index ≡ at
@@ -30,11 +31,9 @@ pub record IsUploaded (whole : Json) (place : List ℕ) (at nth : ℕ) (v : Json
   pub parents_as_text : IsTrue u.parents_as_text ↔ ((bytes : List ℕ) × (value_at (codes "extends") members ≡ Some (text bytes)))
   pub contents_at : HasOrdinal (codes "contents") members u.contents_at
 
-abbrev pub AreUploadedFrom : Json → ℕ → ℕ → Elements Number → List Uploaded → Type 0
-AreUploadedFrom whole at nth no_elements [] = Unit {0}
-AreUploadedFrom whole at nth no_elements (u ∷ us) = ⊥
-AreUploadedFrom whole at nth (element v vs) [] = ⊥
-AreUploadedFrom whole at nth (element v vs) (u ∷ us) = IsUploaded whole (at ∷ []) at nth v u × AreUploadedFrom whole (suc at) nth vs us
+-- The element of a document that is a list, beside its position.
+abbrev pub IsUploadedAt : Json → ℕ → ℕ × Json → Uploaded → Type 0
+IsUploadedAt whole nth e u = IsUploaded whole (e.0 ∷ []) e.0 nth e.1 u
 
 -- The interfaces of the nth document, in their order.
 abbrev pub AreUploaded : Json → ℕ → List Uploaded → Type 0
@@ -42,5 +41,5 @@ AreUploaded null nth us = ⊥
 AreUploaded (truth b) nth us = ⊥
 AreUploaded (number n) nth us = ⊥
 AreUploaded (text bytes) nth us = ⊥
-AreUploaded (array vs) nth us = AreUploadedFrom (array vs) 0 nth vs us
+AreUploaded (array vs) nth us = AllZip (IsUploadedAt (array vs) nth) (enumerate_from 0 (list_of vs)) us
 AreUploaded (object ms) nth us = (u : Uploaded) × (us ≡ u ∷ []) × IsUploaded (object ms) [] 0 nth (object ms) u

@@ -3,7 +3,7 @@
 ghost use Rattle.std.specs.Prelude.{◌≡◌, IfOk};
 ghost use Rattle.json_tree.specs.View.{members_view};
 ghost use Rattle.model_read.specs.Declarations.{HasCommon};
-ghost use Rattle.model_read.specs.Shapes.{CommonShape};
+ghost use Rattle.model_read.specs.Machinery.Shapes.{CommonShape};
 
 use crate::localized::localized_at;
 use crate::texts::{optional_id, optional_text};

@@ -1,15 +1,15 @@
 //! Contents of interfaces, and properties of relationships.
 
 ghost use Rattle.std.specs.Prelude.{◌≡◌, ◌∷◌, [], Some, IfOk, codes};
-ghost use Rattle.json_tree.specs.Values.{object};
+ghost use Rattle.std.specs.List.{AllZip};
 ghost use Rattle.json_tree.specs.View.{view, members_view, elements_view};
-ghost use Rattle.local_rules.specs.Members.{value_at};
+ghost use Rattle.local_rules.specs.Members.{list_of, value_at};
 ghost use Rattle.local_rules.specs.Roles.{type_of};
 ghost use Rattle.local_rules.specs.declared.role.Element.TheVariants as element;
 ghost use Rattle.local_rules.specs.declared.role.Position.TheVariants as position;
 ghost use Rattle.dtdl_terms.specs.TermViews.{kind_term, content_term, contents_term};
-ghost use Rattle.model_read.specs.Declarations.{AreKind, AreContents, AreProperties, HasContents, type_of_kind};
-ghost use Rattle.model_read.specs.Shapes.{EachIs, IsListOf, IsSoundContent, IsSoundProperty, KindShape, MayHave, RelationshipShape};
+ghost use Rattle.model_read.specs.Declarations.{AreKind, AreProperties, HasContents, IsContentEntry, type_of_kind};
+ghost use Rattle.model_read.specs.Machinery.Shapes.{EachIs, IsListOf, IsValidContent, IsValidProperty, KindShape, MayHave, RelationshipShape};
 
 use crate::common::common_of;
 use crate::kinds::{command_in, component_in, is_writable, max_at, property_in, telemetry_in};
@@ -23,7 +23,7 @@ use std::alloc::Global;
 
 /// The property of a relationship that a value declares.
 fn property_of(alloc: Global, tree: &Tree) -> Result<Content, OutOfMemory>
-    requires { IsSoundProperty (view tree.now) }
+    requires { IsValidProperty (view tree.now) }
     ensures { IfOk result (λ c. AreProperties (contents_term (c ∷ [])) (elements_view (tree.now ∷ []))) }
 {
     let members = members_of(tree);
@@ -35,7 +35,7 @@ fn property_of(alloc: Global, tree: &Tree) -> Result<Content, OutOfMemory>
 
 /// The properties of a relationship.
 fn properties_of(alloc: Global, trees: &[Tree]) -> Result<List<Content>, OutOfMemory>
-    requires { EachIs IsSoundProperty (elements_view trees.now) }
+    requires { EachIs IsValidProperty (elements_view trees.now) }
     ensures { IfOk result (λ cs. AreProperties (contents_term cs) (elements_view trees.now)) }
 {
     let mut properties = Vec::with_capacity(alloc, trees.len())?;
@@ -82,8 +82,8 @@ fn kind_in(alloc: Global, members: &[Member]) -> Result<ContentKind, OutOfMemory
 
 /// The content that a value declares.
 fn content_of(alloc: Global, tree: &Tree) -> Result<Content, OutOfMemory>
-    requires { IsSoundContent (view tree.now) }
-    ensures { IfOk result (λ c. AreContents (contents_term (c ∷ [])) (elements_view (tree.now ∷ []))) }
+    requires { IsValidContent (view tree.now) }
+    ensures { IfOk result (λ c. IsContentEntry (view tree.now) c) }
 {
     let members = members_of(tree);
     let name = name_at(alloc, members, "name")?;
@@ -94,8 +94,8 @@ fn content_of(alloc: Global, tree: &Tree) -> Result<Content, OutOfMemory>
 
 /// The contents that the entries of a list declare.
 fn contents_of(alloc: Global, trees: &[Tree]) -> Result<List<Content>, OutOfMemory>
-    requires { EachIs IsSoundContent (elements_view trees.now) }
-    ensures { IfOk result (λ cs. AreContents (contents_term cs) (elements_view trees.now)) }
+    requires { EachIs IsValidContent (elements_view trees.now) }
+    ensures { IfOk result (λ cs. AllZip IsContentEntry (list_of (elements_view trees.now)) cs) }
 {
     let mut contents = Vec::with_capacity(alloc, trees.len())?;
     for tree in trees {
@@ -106,8 +106,8 @@ fn contents_of(alloc: Global, trees: &[Tree]) -> Result<List<Content>, OutOfMemo
 
 /// The contents of an interface.
 pub fn contents_at(alloc: Global, members: &[Member]) -> Result<List<Content>, OutOfMemory>
-    requires { MayHave (IsListOf IsSoundContent) (codes "contents") (members_view members.now) }
-    ensures { IfOk result (λ cs. HasContents (value_at (codes "contents") (members_view members.now)) (contents_term cs)) }
+    requires { MayHave (IsListOf IsValidContent) (codes "contents") (members_view members.now) }
+    ensures { IfOk result (λ cs. HasContents (value_at (codes "contents") (members_view members.now)) cs) }
 {
     let entries = entries_at(members, "contents");
     contents_of(alloc, entries)

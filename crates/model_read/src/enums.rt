@@ -1,11 +1,13 @@
 //! The entries of enumerations.
 
-ghost use Rattle.std.specs.Prelude.{◌≡◌, ◌∷◌, [], IfOk, codes};
+ghost use Rattle.std.specs.Prelude.{◌≡◌, IfOk, codes};
+ghost use Rattle.std.specs.List.{AllZip};
 ghost use Rattle.json_decimal.specs.Decimals.{number_of};
 ghost use Rattle.json_tree.specs.Values.{number, text};
 ghost use Rattle.json_tree.specs.View.{view, members_view, elements_view};
-ghost use Rattle.model_read.specs.Declarations.{IsEnumValue, AreEnumEntry, AreEnumEntries, HasText, value_schema};
-ghost use Rattle.model_read.specs.Shapes.{CanBeEnumValue, CanBeValueSchema, EachIs, EnumEntryShape, Has, IsSoundEnumEntry};
+ghost use Rattle.local_rules.specs.Members.{list_of};
+ghost use Rattle.model_read.specs.Declarations.{DeclaresEnumEntry, HasString, IsEnumEntry, IsEnumValue, value_schema};
+ghost use Rattle.model_read.specs.Machinery.Shapes.{CanBeEnumValue, CanBeValueSchema, EachIs, EnumEntryShape, Has, IsValidEnumEntry};
 
 use crate::common::common_of;
 use crate::parts::{members_of, wanted};
@@ -43,7 +45,7 @@ fn enum_value_of(alloc: Global, tree: &Tree) -> Result<EnumValue, OutOfMemory>
 /// The entry of an enumeration that members declare.
 fn enum_entry_in(alloc: Global, members: &[Member]) -> Result<EnumEntry, OutOfMemory>
     requires { EnumEntryShape (members_view members.now) }
-    ensures { IfOk result (λ e. AreEnumEntry (members_view members.now) e) }
+    ensures { IfOk result (λ e. DeclaresEnumEntry (members_view members.now) e) }
 {
     let name = name_at(alloc, members, "name")?;
     let common = common_of(alloc, members)?;
@@ -57,16 +59,16 @@ fn enum_entry_in(alloc: Global, members: &[Member]) -> Result<EnumEntry, OutOfMe
 
 /// The entry of an enumeration that a value declares.
 fn enum_entry_of(alloc: Global, tree: &Tree) -> Result<EnumEntry, OutOfMemory>
-    requires { IsSoundEnumEntry (view tree.now) }
-    ensures { IfOk result (λ e. AreEnumEntries (elements_view (tree.now ∷ [])) (e ∷ [])) }
+    requires { IsValidEnumEntry (view tree.now) }
+    ensures { IfOk result (λ e. IsEnumEntry (view tree.now) e) }
 {
     enum_entry_in(alloc, members_of(tree))
 }
 
 /// The entries of an enumeration.
 pub fn enum_entries_of(alloc: Global, trees: &[Tree]) -> Result<List<EnumEntry>, OutOfMemory>
-    requires { EachIs IsSoundEnumEntry (elements_view trees.now) }
-    ensures { IfOk result (λ es. AreEnumEntries (elements_view trees.now) es) }
+    requires { EachIs IsValidEnumEntry (elements_view trees.now) }
+    ensures { IfOk result (λ es. AllZip IsEnumEntry (list_of (elements_view trees.now)) es) }
 {
     let mut entries = Vec::with_capacity(alloc, trees.len())?;
     for tree in trees {
@@ -90,7 +92,7 @@ fn asks_for_text(name: &str) -> bool
 /// Whether the values of an enumeration are texts.
 pub fn is_of_text(members: &[Member]) -> bool
     requires { Has CanBeValueSchema (codes "valueSchema") (members_view members.now) }
-    ensures { HasText (codes "valueSchema") (members_view members.now) (value_schema result) }
+    ensures { HasString (codes "valueSchema") (members_view members.now) (value_schema result) }
 {
     let value = wanted(members, "valueSchema");
     let name = bytes_of(value);

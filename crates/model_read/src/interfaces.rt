@@ -1,11 +1,12 @@
 //! Interfaces.
 
-ghost use Rattle.std.specs.Prelude.{map, Some, IfOk, codes};
+ghost use Rattle.std.specs.Prelude.{Some, IfOk, codes};
+ghost use Rattle.std.specs.List.{AllZip};
 ghost use Rattle.json_tree.specs.View.{view, members_view, elements_view};
-ghost use Rattle.local_rules.specs.Members.{value_at};
+ghost use Rattle.local_rules.specs.Members.{list_of, value_at};
 ghost use Rattle.dtdl_terms.specs.TermViews.{schema_term};
-ghost use Rattle.model_read.specs.Declarations.{AreIdentifiers, AreInterface, AreSchemas, HasParents, HasSchemas};
-ghost use Rattle.model_read.specs.Shapes.{CanBeId, EachIs, InterfaceShape, IsListOf, IsParents, IsSoundSchema, MayHave};
+ghost use Rattle.model_read.specs.Declarations.{DeclaresInterface, HasParents, HasSchemas, IsIdentifier, IsSchema};
+ghost use Rattle.model_read.specs.Machinery.Shapes.{CanBeId, EachIs, InterfaceShape, IsListOf, IsParents, IsValidSchema, MayHave};
 
 use crate::contents::contents_at;
 use crate::localized::localized_at;
@@ -22,7 +23,7 @@ use std::alloc::Global;
 /// The identifiers that the entries of a list are.
 fn ids_of(alloc: Global, trees: &[Tree]) -> Result<List<Dtmi>, OutOfMemory>
     requires { EachIs CanBeId (elements_view trees.now) }
-    ensures { IfOk result (λ ids. AreIdentifiers (elements_view trees.now) ids) }
+    ensures { IfOk result (λ ids. AllZip IsIdentifier (list_of (elements_view trees.now)) ids) }
 {
     let mut ids = Vec::with_capacity(alloc, trees.len())?;
     for tree in trees {
@@ -75,8 +76,8 @@ fn parents_at(alloc: Global, members: &[Member]) -> Result<List<Dtmi>, OutOfMemo
 
 /// The schemas that the entries of a list are.
 fn schemas_of(alloc: Global, trees: &[Tree]) -> Result<List<Schema>, OutOfMemory>
-    requires { EachIs IsSoundSchema (elements_view trees.now) }
-    ensures { IfOk result (λ ss. AreSchemas (elements_view trees.now) (map schema_term ss)) }
+    requires { EachIs IsValidSchema (elements_view trees.now) }
+    ensures { IfOk result (λ ss. AllZip (λ v s. IsSchema (schema_term s) v) (list_of (elements_view trees.now)) ss) }
 {
     let mut schemas = Vec::with_capacity(alloc, trees.len())?;
     for tree in trees {
@@ -87,8 +88,8 @@ fn schemas_of(alloc: Global, trees: &[Tree]) -> Result<List<Schema>, OutOfMemory
 
 /// The schemas that an interface declares for use by their identifiers.
 fn schemas_at(alloc: Global, members: &[Member]) -> Result<List<Schema>, OutOfMemory>
-    requires { MayHave (IsListOf IsSoundSchema) (codes "schemas") (members_view members.now) }
-    ensures { IfOk result (λ ss. HasSchemas (value_at (codes "schemas") (members_view members.now)) (map schema_term ss)) }
+    requires { MayHave (IsListOf IsValidSchema) (codes "schemas") (members_view members.now) }
+    ensures { IfOk result (λ ss. HasSchemas (value_at (codes "schemas") (members_view members.now)) ss) }
 {
     let entries = entries_at(members, "schemas");
     schemas_of(alloc, entries)
@@ -97,7 +98,7 @@ fn schemas_at(alloc: Global, members: &[Member]) -> Result<List<Schema>, OutOfMe
 /// The interface that members declare.
 pub fn interface_in(alloc: Global, members: &[Member]) -> Result<Interface, OutOfMemory>
     requires { InterfaceShape (members_view members.now) }
-    ensures { IfOk result (λ i. AreInterface (members_view members.now) i) }
+    ensures { IfOk result (λ i. DeclaresInterface (members_view members.now) i) }
 {
     let id = id_at(alloc, members, "@id")?;
     let comment = optional_text(alloc, members, "comment")?;

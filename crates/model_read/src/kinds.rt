@@ -11,7 +11,7 @@ ghost use Rattle.local_rules.specs.declared.role.Position.TheVariants as positio
 ghost use Rattle.dtdl_terms.specs.TermViews.{kind_term, payload_term};
 ghost use Rattle.std.specs.Option.{option_map};
 ghost use Rattle.model_read.specs.Declarations.{AreKind, HasMax, HasOptionalPayload, IsWritable, type_of_kind};
-ghost use Rattle.model_read.specs.Shapes.{CanBeMultiplicity, CommandShape, ComponentShape, IsSoundPayload, IsTruth, MayHave, PropertyShape, TelemetryShape};
+ghost use Rattle.model_read.specs.Machinery.Shapes.{CanBeMultiplicity, CommandShape, ComponentShape, IsValidPayload, IsTruth, MayHave, PropertyShape, TelemetryShape};
 
 use crate::schemas::{payload_at, schema_at};
 use crate::semantics::semantic_at;
@@ -90,7 +90,7 @@ fn optional_payload(
     members: &[Member],
     key: &str,
 ) -> Result<Option<Boxed<Payload>>, OutOfMemory>
-    requires { MayHave IsSoundPayload key.now (members_view members.now) }
+    requires { MayHave IsValidPayload key.now (members_view members.now) }
     ensures { IfOk result (λ p. HasOptionalPayload key.now (members_view members.now) (option_map payload_term p)) }
 {
     match value_at(members, key) {

@@ -17,7 +17,8 @@ mod semantics;
 mod texts;
 
 pub use end::LocalEnd;
-pub use laws::one_declaration;
+pub use laws::{have_declarations, one_declaration, within_limits};
+pub use local_rules::LocalRule;
 pub use read::read_interfaces;
 
 #[cfg(test)]

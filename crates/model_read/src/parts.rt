@@ -5,7 +5,7 @@ ghost use Rattle.json_tree.specs.Values.{array, object};
 ghost use Rattle.json_tree.specs.View.{view, members_view, elements_view};
 ghost use Rattle.local_rules.specs.Members.{value_at};
 ghost use Rattle.model_read.specs.Declarations.{AreEntriesOf};
-ghost use Rattle.model_read.specs.Shapes.{IsArray, IsObject, MayHave};
+ghost use Rattle.model_read.specs.Machinery.Shapes.{IsArray, IsObject, MayHave};
 
 use json_tree::{Member, Tree};
 use local_rules::value_at;

@@ -1,14 +1,16 @@
 //! Reading a document.
 
 ghost use Rattle.std.specs.Prelude.{◌≡◌, ◌∷◌, [], ℕ, List, IfOk};
+ghost use Rattle.std.specs.List.{AllZip, enumerate_from};
 ghost use Rattle.json_tree.specs.Values.{Json, array, object};
 ghost use Rattle.json_tree.specs.View.{view, members_view, elements_view};
 ghost use Rattle.json_tree.specs.Places.{StandsAt};
 ghost use Rattle.local_rules.specs.Breaches.{IsBreach};
+ghost use Rattle.local_rules.specs.Members.{list_of};
 ghost use Rattle.local_rules.specs.declared.rule.LocalRule.{LocalRule};
 ghost use Rattle.model_read.specs.Ends.{IsRightEnd};
-ghost use Rattle.model_read.specs.Uploads.{AreUploaded, AreUploadedFrom, IsUploaded};
-ghost use Rattle.model_read.specs.Shapes.{EachIs, InterfaceShape, IsSoundInterface};
+ghost use Rattle.model_read.specs.Uploads.{AreUploaded, IsUploaded, IsUploadedAt};
+ghost use Rattle.model_read.specs.Machinery.Shapes.{EachIs, InterfaceShape, IsValidInterface};
 
 use crate::end::LocalEnd;
 use crate::interfaces::interface_in;
@@ -84,7 +86,7 @@ fn uploaded_at(
     document: u32,
     entry: &Tree,
 ) -> Result<Uploaded, OutOfMemory>
-    requires sound { IsSoundInterface (view entry.now) }
+    requires valid { IsValidInterface (view entry.now) }
     requires placed { StandsAt (view whole.now) (at ∷ []) (view entry.now) }
     ensures { IfOk result (λ u. IsUploaded (view whole.now) (at ∷ []) at document (view entry.now) u) }
 {
@@ -100,9 +102,9 @@ fn uploads_of(
     document: u32,
     entries: &[Tree],
 ) -> Result<List<Uploaded>, OutOfMemory>
-    requires sound { EachIs IsSoundInterface (elements_view entries.now) }
+    requires valid { EachIs IsValidInterface (elements_view entries.now) }
     requires whole { view whole.now ≡ array (elements_view entries.now) }
-    ensures { IfOk result (λ us. AreUploadedFrom (view whole.now) 0 document (elements_view entries.now) us) }
+    ensures { IfOk result (λ us. AllZip (IsUploadedAt (view whole.now) document) (enumerate_from 0 (list_of (elements_view entries.now))) us) }
 {
     let mut uploads = Vec::with_capacity(alloc, entries.len())?;
     for (at, entry) in entries.iter().enumerate() {

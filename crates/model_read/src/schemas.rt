@@ -9,7 +9,7 @@ ghost use Rattle.local_rules.specs.Roles.{type_of};
 ghost use Rattle.local_rules.specs.declared.role.Element.TheVariants as element;
 ghost use Rattle.local_rules.specs.declared.role.Position.TheVariants as position;
 ghost use Rattle.model_read.specs.Declarations.{IsSchema, IsPayload, ArePayloads, HasSchema, HasPayload};
-ghost use Rattle.model_read.specs.Shapes.{ArrayShape, CanBeId, EachIs, EnumerationShape, Has, IsSoundPayload, IsSoundSchema, MapShape, ObjectShape, SchemaShape};
+ghost use Rattle.model_read.specs.Machinery.Shapes.{ArrayShape, CanBeId, EachIs, EnumerationShape, Has, IsValidPayload, IsValidSchema, MapShape, ObjectShape, SchemaShape};
 
 use crate::common::common_of;
 use crate::enums::{enum_entries_of, is_of_text};
@@ -52,7 +52,7 @@ fn enumeration_in(alloc: Global, members: &[Member]) -> Result<Schema, OutOfMemo
 /// The schema that a value is.
 #[cycle(schemas)]
 pub fn schema_of(alloc: Global, tree: &Tree) -> Result<Schema, OutOfMemory>
-    requires { IsSoundSchema (view tree.now) }
+    requires { IsValidSchema (view tree.now) }
     ensures { IfOk result (λ s. IsSchema (schema_term s) (view tree.now)) }
 {
     match tree {
@@ -116,7 +116,7 @@ fn object_in(alloc: Global, members: &[Member]) -> Result<Schema, OutOfMemory>
 /// The schema under a key.
 #[cycle(schemas)]
 pub fn schema_at(alloc: Global, members: &[Member], key: &str) -> Result<Schema, OutOfMemory>
-    requires { Has IsSoundSchema key.now (members_view members.now) }
+    requires { Has IsValidSchema key.now (members_view members.now) }
     ensures { IfOk result (λ s. HasSchema key.now (members_view members.now) (schema_term s)) }
 {
     let value = wanted(members, key);
@@ -130,7 +130,7 @@ pub fn payload_at(
     members: &[Member],
     key: &str,
 ) -> Result<Boxed<Payload>, OutOfMemory>
-    requires { Has IsSoundPayload key.now (members_view members.now) }
+    requires { Has IsValidPayload key.now (members_view members.now) }
     ensures { IfOk result (λ p. HasPayload key.now (members_view members.now) (payload_term p)) }
 {
     let value = wanted(members, key);
@@ -141,7 +141,7 @@ pub fn payload_at(
 /// The payload that a value is.
 #[cycle(schemas)]
 fn payload_of(alloc: Global, tree: &Tree) -> Result<Payload, OutOfMemory>
-    requires { IsSoundPayload (view tree.now) }
+    requires { IsValidPayload (view tree.now) }
     ensures { IfOk result (λ p. IsPayload (payload_term p) (view tree.now)) }
 {
     let members = members_of(tree);
@@ -158,7 +158,7 @@ fn payload_of(alloc: Global, tree: &Tree) -> Result<Payload, OutOfMemory>
 /// The fields that the entries of a list are.
 #[cycle(schemas)]
 fn payloads_of(alloc: Global, trees: &[Tree]) -> Result<List<Payload>, OutOfMemory>
-    requires { EachIs IsSoundPayload (elements_view trees.now) }
+    requires { EachIs IsValidPayload (elements_view trees.now) }
     ensures { IfOk result (λ ps. ArePayloads (payloads_term ps) (elements_view trees.now)) }
 {
     let mut payloads = Vec::with_capacity(alloc, trees.len())?;

@@ -6,7 +6,7 @@ ghost use Rattle.json_tree.specs.View.{view, members_view, elements_view};
 ghost use Rattle.local_rules.specs.Types.{MayHaveBeside, further};
 ghost use Rattle.local_rules.specs.declared.role.Element.TheVariants as element;
 ghost use Rattle.model_read.specs.Declarations.{IsSemantic, HasSemantic};
-ghost use Rattle.model_read.specs.Shapes.{CanBe, CanBeTypes, MayHave};
+ghost use Rattle.model_read.specs.Machinery.Shapes.{CanBe, CanBeTypes, MayHave};
 
 use crate::texts::name_of;
 use dt_base::OutOfMemory;

@@ -1,10 +1,10 @@
 //! Documents that break no local rule are read: every kind of element, and every shape that a member may have.
 
+mod golden;
+
 use super::*;
 use dt_base::List;
 use dtdl_terms::Uploaded;
-use json_tree::{Member, Tree};
-use local_rules::{LocalRule, Role};
 use std::test::Fail;
 
 /// A document, and of its last interface: how many contents, schemas and parents it has, and its pointer.
@@ -94,7 +94,7 @@ fn copies_every_kind_of_element(rt: HostRuntime) -> Result<(), Fail> {
 }
 
 /// Documents, and of each the place and the code of its first breach.
-const BREACHES: [(&str, &[u64], &str); 3] = [
+const BREACHES: [(&str, &[u64], &str); 4] = [
     (r#"[{"@id":"dtmi:a;1"}]"#, &[0], "MissingKey"),
     (
         r#"{"@context":"dtmi:dtdl:context;2","@id":"dtmi:a;1","@type":"Interface","extends":["x",5]}"#,
@@ -105,6 +105,11 @@ const BREACHES: [(&str, &[u64], &str); 3] = [
         r#"{"@context":"dtmi:dtdl:context;2","@id":"dtmi:a;1","@type":"Interface","schemas":[{"@id":"dtmi:s;1","@type":"Array","elementSchema":"dtmi:s;1"}]}"#,
         &[3, 0],
         "TooDeep",
+    ),
+    (
+        r#"{"@context":"dtmi:dtdl:context;2","@id":"dtmi:a;1","@type":"Interface","contents":[{"@type":"Command","name":"a"},{"@type":"Command","name":"b"},{"@type":"Command","name":"c"},{"@type":"Command","name":"d"},{"@type":"Command","name":"e"},{"@type":"Command","name":"f"},{"@type":"Command","name":"g"},{"@type":"Command","name":"h"},{"@type":"Command","name":"a"}]}"#,
+        &[3, 8, 1],
+        "DuplicateName",
     ),
 ];
 
@@ -119,37 +124,6 @@ fn finds_the_first_breach(rt: HostRuntime) -> Result<(), Fail> {
         assert_eq!(rt; breach.rule.text(), code);
     }
     Ok(())
-}
-
-/// An interface of nine commands of which the last repeats a name, and a schema that leads back to itself.
-const NINE_COMMANDS: &str =
-    r#"{"contents":[{"name":"a"},{"name":"b"},{"name":"c"},{"name":"d"},{"name":"e"},{"name":"f"},{"name":"g"},{"name":"h"},{"name":"a"}],"schemas":[{"@id":"dtmi:s;1","@type":"Array","elementSchema":"dtmi:s;1"}]}"#;
-
-#[test]
-fn compares_entries_and_measures_schemas(rt: HostRuntime) -> Result<(), Fail> {
-    let tree = json_read::read(rt.alloc(), NINE_COMMANDS.as_bytes())?;
-    let members = local_rules::members_in(&tree);
-    let schemas = local_faults::NamedSchemas::of(rt.alloc(), members)?;
-    for entry in entries_under(members, "schemas") {
-        assert_eq!(rt;
-            schemas.rule(Role::NamedSchema, entry),
-            Some(LocalRule::TooDeep)
-        );
-    }
-    let commands = entries_under(members, "contents");
-    let roles = local_rules::EntryRoles::of(rt.alloc(), Role::Contents, commands)?;
-    assert_eq!(rt; roles.entries.len(), 9);
-    assert_eq!(rt; roles.at(7), Some(Role::Content { repeats: false }));
-    assert_eq!(rt; roles.at(8), Some(Role::Content { repeats: true }));
-    Ok(())
-}
-
-/// The entries of the list under a key.
-fn entries_under<'a>(members: &'a [Member], key: &str) -> &'a [Tree] {
-    match local_rules::value_at(members, key) {
-        Some(value) => local_rules::entries_in(value),
-        None => &[],
-    }
 }
 
 fn is_fault(end: &Result<List<Uploaded>, LocalEnd>) -> bool {

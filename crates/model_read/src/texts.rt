@@ -5,8 +5,8 @@ ghost use Rattle.dtmi_name.specs.declared.fault.NameFault.TheVariants as faults;
 ghost use Rattle.json_tree.specs.Values.{text};
 ghost use Rattle.json_tree.specs.View.{view, members_view};
 ghost use Rattle.local_rules.specs.Quantities.{IsString};
-ghost use Rattle.model_read.specs.Declarations.{IsIdentifier, HasText, HasOptionalText, HasId, HasOptionalId};
-ghost use Rattle.model_read.specs.Shapes.{CanBeId, CanBeName, Has, MayHave};
+ghost use Rattle.model_read.specs.Declarations.{IsIdentifier, HasString, HasOptionalString, HasId, HasOptionalId};
+ghost use Rattle.model_read.specs.Machinery.Shapes.{CanBeId, CanBeName, Has, MayHave};
 
 use crate::parts::wanted;
 use dt_base::{OutOfMemory, Text};
@@ -91,7 +91,7 @@ pub fn id_of(alloc: Global, tree: &Tree) -> Result<Dtmi, OutOfMemory>
 /// The name under a key.
 pub fn name_at(alloc: Global, members: &[Member], key: &str) -> Result<Name, OutOfMemory>
     requires { Has CanBeName key.now (members_view members.now) }
-    ensures { IfOk result (λ name. HasText key.now (members_view members.now) name) }
+    ensures { IfOk result (λ name. HasString key.now (members_view members.now) name) }
 {
     name_of(alloc, wanted(members, key))
 }
@@ -111,7 +111,7 @@ pub fn optional_text(
     key: &str,
 ) -> Result<Option<Text>, OutOfMemory>
     requires { MayHave IsString key.now (members_view members.now) }
-    ensures { IfOk result (λ t. HasOptionalText key.now (members_view members.now) t) }
+    ensures { IfOk result (λ t. HasOptionalString key.now (members_view members.now) t) }
 {
     match value_at(members, key) {
         Some(value) => Ok(Some(text_of(alloc, value)?)),
@@ -126,7 +126,7 @@ pub fn optional_name(
     key: &str,
 ) -> Result<Option<Name>, OutOfMemory>
     requires { MayHave CanBeName key.now (members_view members.now) }
-    ensures { IfOk result (λ name. HasOptionalText key.now (members_view members.now) name) }
+    ensures { IfOk result (λ name. HasOptionalString key.now (members_view members.now) name) }
 {
     match value_at(members, key) {
         Some(value) => Ok(Some(name_of(alloc, value)?)),

@@ -1,14 +1,12 @@
 -- What the walk knows of a value beside its role, and the rules that follow from it alone.
 use Rattle.std.specs.Prelude.{◌≡◌, ℕ, List, [], ◌∷◌, Bool, false, Option, Some, None, if◌then◌else◌}
 use Rattle.std.specs.Option.{option_map, option_map_or}
-use Rattle.json_decimal.specs.Number.{Number}
-use Rattle.json_tree.specs.Values.{Json, null, truth, number, text, array, object, Members}
+use Rattle.json_tree.specs.Values.{Json, null, truth, number, text, array, object}
 use Rattle.json_tree.specs.Places.{IsPart, member_at}
 use Rattle.local_rules.specs.Members.{list_of}
 use Rattle.local_rules.specs.Roles.{part_role}
 use Rattle.local_rules.specs.Repeats.{repeats_name, repeats_text, repeats_value}
 use Rattle.local_rules.specs.Languages.{is_language}
-use Rattle.local_rules.specs.Breaches.{BreaksAlone, BreaksById, BreaksBySchemas}
 use Rattle.local_rules.specs.declared.marks.Mark.{Mark}
 use Rattle.local_rules.specs.declared.marks.Mark.TheVariants as marks
 use Rattle.local_rules.specs.declared.marks.MarkedRole.{MarkedRole}

@@ -1,18 +1,13 @@
-use Rattle.std.proofs.Common.{List}
-use Rattle.json_tree.specs.View.{elements_view}
-use Rattle.json_tree.specs.declared.tree.Tree.{Tree}
-use Rattle.dtdl_terms.specs.declared.content.Content.{Content}
-use Rattle.dtdl_terms.specs.TermViews.{contents_term}
-use Rattle.model_read.specs.Declarations.{AreContents}
-use Rattle.model_read.proofs.Grown.{step, contents_more}
-use Rattle.model_read.specs.Shapes.{IsSoundContent}
+use Rattle.model_read.specs.Declarations.{IsContentEntry}
+use Rattle.model_read.specs.Machinery.Shapes.{IsValidContent}
+use Rattle.model_read.proofs.Grown.{elements_step}
 use Rattle.model_read.proofs.Readings.{each}
 use Rattle.model_read.proofs.contents.contents_of.Goals as goal
 
 pub loop-tree-preserved : goal.loop-tree-preserved
 loop-tree-preserved c = rw c.in_ok-push.ensures.items
-    (step (λ (ys : List Tree) (xs : List Content). AreContents (contents_term xs) (elements_view ys)) contents_more c.args.trees.now c.loop-tree.tree-index c.tree-item.result
+    (elements_step IsContentEntry c.args.trees.now c.loop-tree.tree-index c.tree-item.result
     c.loop-tree.contents.items c.in_ok-content_of.field-0 c.loop-tree-test.true c.tree-item.is c.loop-tree.invariant c.in_ok-content_of.ensures)
 
 pub content_of-requires : goal.content_of-requires
-content_of-requires c = each IsSoundContent c.args.trees.now c.loop-tree.tree-index c.tree-item.result c.requires c.loop-tree-test.true c.tree-item.is
+content_of-requires c = each IsValidContent c.args.trees.now c.loop-tree.tree-index c.tree-item.result c.requires c.loop-tree-test.true c.tree-item.is

@@ -1,9 +1,10 @@
 use Rattle.std.proofs.Common.{take}
+use Rattle.std.specs.List.{AllZip}
 use Rattle.json_tree.specs.View.{elements_view}
-use Rattle.dtdl_terms.specs.TermViews.{contents_term}
-use Rattle.model_read.specs.Declarations.{AreContents}
+use Rattle.local_rules.specs.Members.{list_of}
+use Rattle.model_read.specs.Declarations.{IsContentEntry}
 use Rattle.model_read.proofs.contents.contents_of.Given as goal
 
 -- what was read so far is that of the parts so far
 abbrev pub invariant-loop-tree : goal.invariant-loop-tree
-invariant-loop-tree l = AreContents (contents_term l.contents.items) (elements_view (take l.tree-index l.trees))
+invariant-loop-tree l = AllZip IsContentEntry (list_of (elements_view (take l.tree-index l.trees))) l.contents.items

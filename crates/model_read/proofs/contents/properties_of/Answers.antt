@@ -5,7 +5,7 @@ use Rattle.dtdl_terms.specs.declared.content.Content.{Content}
 use Rattle.dtdl_terms.specs.TermViews.{contents_term}
 use Rattle.model_read.specs.Declarations.{AreProperties}
 use Rattle.model_read.proofs.Grown.{step, properties_more}
-use Rattle.model_read.specs.Shapes.{IsSoundProperty}
+use Rattle.model_read.specs.Machinery.Shapes.{IsValidProperty}
 use Rattle.model_read.proofs.Readings.{each}
 use Rattle.model_read.proofs.contents.properties_of.Goals as goal
 
@@ -15,4 +15,4 @@ loop-tree-preserved c = rw c.in_ok-push.ensures.items
     c.loop-tree.properties.items c.in_ok-property_of.field-0 c.loop-tree-test.true c.tree-item.is c.loop-tree.invariant c.in_ok-property_of.ensures)
 
 pub property_of-requires : goal.property_of-requires
-property_of-requires c = each IsSoundProperty c.args.trees.now c.loop-tree.tree-index c.tree-item.result c.requires c.loop-tree-test.true c.tree-item.is
+property_of-requires c = each IsValidProperty c.args.trees.now c.loop-tree.tree-index c.tree-item.result c.requires c.loop-tree-test.true c.tree-item.is

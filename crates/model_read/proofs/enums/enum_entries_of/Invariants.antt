@@ -1,8 +1,10 @@
 use Rattle.std.proofs.Common.{take}
+use Rattle.std.specs.List.{AllZip}
 use Rattle.json_tree.specs.View.{elements_view}
-use Rattle.model_read.specs.Declarations.{AreEnumEntries}
+use Rattle.local_rules.specs.Members.{list_of}
+use Rattle.model_read.specs.Declarations.{IsEnumEntry}
 use Rattle.model_read.proofs.enums.enum_entries_of.Given as goal
 
 -- what was read so far is that of the parts so far
 abbrev pub invariant-loop-tree : goal.invariant-loop-tree
-invariant-loop-tree l = AreEnumEntries (elements_view (take l.tree-index l.trees)) l.entries.items
+invariant-loop-tree l = AllZip IsEnumEntry (list_of (elements_view (take l.tree-index l.trees))) l.entries.items

@@ -1,8 +1,10 @@
 use Rattle.std.proofs.Common.{take}
+use Rattle.std.specs.List.{AllZip}
 use Rattle.json_tree.specs.View.{elements_view}
-use Rattle.model_read.specs.Declarations.{AreIdentifiers}
+use Rattle.local_rules.specs.Members.{list_of}
+use Rattle.model_read.specs.Declarations.{IsIdentifier}
 use Rattle.model_read.proofs.interfaces.ids_of.Given as goal
 
 -- what was read so far is that of the parts so far
 abbrev pub invariant-loop-tree : goal.invariant-loop-tree
-invariant-loop-tree l = AreIdentifiers (elements_view (take l.tree-index l.trees)) l.ids.items
+invariant-loop-tree l = AllZip IsIdentifier (list_of (elements_view (take l.tree-index l.trees))) l.ids.items

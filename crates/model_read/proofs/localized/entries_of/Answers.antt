@@ -1,15 +1,12 @@
-use Rattle.std.proofs.Common.{List}
-use Rattle.json_tree.specs.View.{view, members_view}
-use Rattle.json_tree.specs.declared.tree.Member.{Member}
-use Rattle.dtdl_terms.specs.declared.common.Entry.{Entry}
-use Rattle.model_read.specs.Declarations.{AreEntries}
-use Rattle.model_read.proofs.Grown.{step, entries_more}
+use Rattle.json_tree.specs.View.{view}
+use Rattle.model_read.specs.Declarations.{IsTextOfLanguage}
+use Rattle.model_read.proofs.Grown.{members_step}
 use Rattle.json_tree.proofs.Parts.{member_part}
 use Rattle.model_read.proofs.localized.entries_of.Goals as goal
 
 pub loop-member-preserved : goal.loop-member-preserved
 loop-member-preserved c = rw c.in_ok-push.ensures.items
-    (step (λ (ys : List Member) (xs : List Entry). AreEntries (members_view ys) xs) entries_more c.args.members.now c.loop-member.member-index c.member-item.result
+    (members_step IsTextOfLanguage c.args.members.now c.loop-member.member-index c.member-item.result
     c.loop-member.entries.items c.in_ok-entry_of.field-0 c.loop-member-test.true c.member-item.is c.loop-member.invariant c.in_ok-entry_of.ensures)
 
 pub entry_of-requires : goal.entry_of-requires

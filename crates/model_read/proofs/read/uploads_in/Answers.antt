@@ -7,8 +7,8 @@ pub one_upload-requires-clause-shaped : goal.one_upload-requires-clause-shaped
 one_upload-requires-clause-shaped c = interface_shape (members_view c.as_slice.result.now)
     (one_interface c.args.tree.now c.in-Members.members c.as_slice.result.now c.in-Members.is c.as_slice.ensures c.requires)
 
-pub uploads_of-requires-clause-sound : goal.uploads_of-requires-clause-sound
-uploads_of-requires-clause-sound c =
+pub uploads_of-requires-clause-valid : goal.uploads_of-requires-clause-valid
+uploads_of-requires-clause-valid c =
     each_interface c.args.tree.now c.in-List.entries c.as_slice-in-List.result.now c.in-List.is c.as_slice-in-List.ensures c.requires
 
 pub unreachable-requires : goal.unreachable-requires

@@ -11,7 +11,7 @@ use Rattle.local_rules.specs.Roles.{HasRole, type_of}
 use Rattle.local_rules.specs.Types.{IsName, MayHaveBeside, further}
 use Rattle.local_rules.specs.Quantities.{IsInteger, IsString, IsMultiplicity}
 use Rattle.local_rules.specs.Levels.{IsPrimitive}
-use Rattle.local_rules.specs.Choices.{BreaksAlone}
+use Rattle.local_rules.specs.Breaches.{BreaksAlone}
 use Rattle.local_rules.specs.declared.rule.LocalRule.{LocalRule}
 use Rattle.local_rules.specs.declared.role.Element.{Element}
 use Rattle.local_rules.specs.declared.role.Element.TheVariants as element_kind
@@ -91,27 +91,27 @@ NamesSchema r v = (part : SchemaUse) (bytes : List ℕ) → r ≡ role.Schema pa
 
 -- In a value that stands in this role, and in its parts, no rule is broken that the role and the value alone decide,
 -- and each schema is named that is used.
-pub record IsSound (r : Role) (v : Json) : Type 0 where
+pub record IsValid (r : Role) (v : Json) : Type 0 where
   pub alone : (place : List ℕ) (q : Role) (w : Json) → HasRole r v place q w → (broken : LocalRule) → BreaksAlone broken q w → ⊥
   pub named : (place : List ℕ) (q : Role) (w : Json) → HasRole r v place q w → NamesSchema q w
 
-abbrev pub IsSoundSchema : Json → Type 0
-IsSoundSchema v = IsSound role.NamedSchema v ⊎ ((part : SchemaUse) × IsSound (role.Schema part) v)
+abbrev pub IsValidSchema : Json → Type 0
+IsValidSchema v = IsValid role.NamedSchema v ⊎ ((part : SchemaUse) × IsValid (role.Schema part) v)
 
-abbrev pub IsSoundPayload : Json → Type 0
-IsSoundPayload v = ((part : PayloadUse) × IsSound (role.Payload part) v) ⊎ ((repeats : Bool) × IsSound (role.Field repeats) v)
+abbrev pub IsValidPayload : Json → Type 0
+IsValidPayload v = ((part : PayloadUse) × IsValid (role.Payload part) v) ⊎ IsValid role.Field v
 
-abbrev pub IsSoundEnumEntry : Json → Type 0
-IsSoundEnumEntry v = (k : ValueSchema) × (repeats same_value : Bool) × (k ≢ value_schemas.Neither) × IsSound (role.EnumEntry k repeats same_value) v
+abbrev pub IsValidEnumEntry : Json → Type 0
+IsValidEnumEntry v = (k : ValueSchema) × (k ≢ value_schemas.Neither) × IsValid (role.EnumEntry k) v
 
-abbrev pub IsSoundContent : Json → Type 0
-IsSoundContent v = (repeats : Bool) × IsSound (role.Content repeats) v
+abbrev pub IsValidContent : Json → Type 0
+IsValidContent v = IsValid role.Content v
 
-abbrev pub IsSoundProperty : Json → Type 0
-IsSoundProperty v = (repeats : Bool) × IsSound (role.RelationshipProperty repeats) v
+abbrev pub IsValidProperty : Json → Type 0
+IsValidProperty v = IsValid role.RelationshipProperty v
 
-abbrev pub IsSoundInterface : Json → Type 0
-IsSoundInterface v = IsSound role.Interface v
+abbrev pub IsValidInterface : Json → Type 0
+IsValidInterface v = IsValid role.Interface v
 
 -- ---- the shapes of elements, by their members
 pub record CommonShape (ms : Members Number) : Type 0 where
@@ -127,26 +127,26 @@ pub record EnumEntryShape (ms : Members Number) : Type 0 where
 
 pub record ArrayShape (ms : Members Number) : Type 0 where
   pub common : CommonShape ms
-  pub element : Has IsSoundSchema (codes "elementSchema") ms
+  pub element : Has IsValidSchema (codes "elementSchema") ms
 
 pub record EnumerationShape (ms : Members Number) : Type 0 where
   pub common : CommonShape ms
   pub value_schema : Has CanBeValueSchema (codes "valueSchema") ms
-  pub values : Has (IsListOf IsSoundEnumEntry) (codes "enumValues") ms
+  pub values : Has (IsListOf IsValidEnumEntry) (codes "enumValues") ms
 
 pub record MapShape (ms : Members Number) : Type 0 where
   pub common : CommonShape ms
-  pub key : Has IsSoundPayload (codes "mapKey") ms
-  pub value : Has IsSoundPayload (codes "mapValue") ms
+  pub key : Has IsValidPayload (codes "mapKey") ms
+  pub value : Has IsValidPayload (codes "mapValue") ms
 
 pub record ObjectShape (ms : Members Number) : Type 0 where
   pub common : CommonShape ms
-  pub fields : Has (IsListOf IsSoundPayload) (codes "fields") ms
+  pub fields : Has (IsListOf IsValidPayload) (codes "fields") ms
 
 pub record PayloadShape (ms : Members Number) : Type 0 where
   pub name : Has CanBeName (codes "name") ms
   pub common : CommonShape ms
-  pub schema : Has IsSoundSchema (codes "schema") ms
+  pub schema : Has IsValidSchema (codes "schema") ms
 
 -- The shape of a schema, by what its `@type` names.
 abbrev pub SchemaShape : Option Element → Members Number → Type 0
@@ -157,23 +157,23 @@ SchemaShape (Some element_kind.Object) ms = ObjectShape ms
 SchemaShape other ms = ⊥
 
 pub record TelemetryShape (p : Position) (ms : Members Number) : Type 0 where
-  pub schema : Has IsSoundSchema (codes "schema") ms
+  pub schema : Has IsValidSchema (codes "schema") ms
   pub semantic : MayHave (CanBeTypes p) (codes "@type") ms
   pub unit : MayHave CanBeName (codes "unit") ms
 
 pub record PropertyShape (p : Position) (ms : Members Number) : Type 0 where
-  pub schema : Has IsSoundSchema (codes "schema") ms
+  pub schema : Has IsValidSchema (codes "schema") ms
   pub semantic : MayHave (CanBeTypes p) (codes "@type") ms
   pub unit : MayHave CanBeName (codes "unit") ms
   pub writable : MayHave IsTruth (codes "writable") ms
 
 pub record CommandShape (ms : Members Number) : Type 0 where
-  pub request : MayHave IsSoundPayload (codes "request") ms
-  pub response : MayHave IsSoundPayload (codes "response") ms
+  pub request : MayHave IsValidPayload (codes "request") ms
+  pub response : MayHave IsValidPayload (codes "response") ms
 
 pub record RelationshipShape (ms : Members Number) : Type 0 where
   pub target : MayHave CanBeId (codes "target") ms
-  pub properties : MayHave (IsListOf IsSoundProperty) (codes "properties") ms
+  pub properties : MayHave (IsListOf IsValidProperty) (codes "properties") ms
   pub most : MayHave CanBeMultiplicity (codes "maxMultiplicity") ms
   pub writable : MayHave IsTruth (codes "writable") ms
 
@@ -206,5 +206,5 @@ pub record InterfaceShape (ms : Members Number) : Type 0 where
   pub description : MayHave IsWords (codes "description") ms
   pub display_name : MayHave IsWords (codes "displayName") ms
   pub parents : MayHave IsParents (codes "extends") ms
-  pub contents : MayHave (IsListOf IsSoundContent) (codes "contents") ms
-  pub schemas : MayHave (IsListOf IsSoundSchema) (codes "schemas") ms
+  pub contents : MayHave (IsListOf IsValidContent) (codes "contents") ms
+  pub schemas : MayHave (IsListOf IsValidSchema) (codes "schemas") ms
