@@ -5,6 +5,7 @@ use Rattle.json_tree.specs.Values.{Value, Raw, Json, null, truth, number, text, 
 use Rattle.json_tree.specs.Places.{element_at, member_at, IsPart}
 use Rattle.json_read.specs.Faults.{RepeatsKey, IsDuplicateAt, IsRangeAt}
 use Rattle.json_read.specs.Machinery.Leads.{IsHeldAs, ElementsAreHeldAs, MembersAreHeldAs}
+use Rattle.json_read.proofs.Ranges.{range_up}
 use Rattle.json_read.proofs.Duplicates.{duplicate_root, duplicate_down, duplicate_up, duplicate_here}
 
 -- ---- parts
@@ -145,9 +146,6 @@ members_held-more (u ∷ ms) (y ∷ ns) key v w (x, xs, h, hs, same) k =
     )
 
 -- ---- no number out of range
-range_up : (v : Raw) (i : ℕ) (part : Raw) (place : List ℕ) → IsPart v i part → IsRangeAt part place → IsRangeAt v (i ∷ place)
-range_up v i part place p (l, n, s, is, out) = (l, n, (part, p, s), is, out)
-
 mutual
   pub held_read : (raw : Raw) (w : Json) → ((place : List ℕ) → IsRangeAt raw place → ⊥) → IsHeldAs raw w → IsReadAs raw w
   held_read null w none h = h

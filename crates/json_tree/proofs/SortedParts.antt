@@ -13,7 +13,7 @@ use Rattle.json_tree.specs.Sorting.{IsSortedOf, ElementsAreSortedOf, MembersAreS
 use Rattle.json_tree.specs.declared.tree.Tree.{Tree}
 use Rattle.json_tree.specs.declared.tree.Tree as variants
 use Rattle.json_tree.specs.declared.tree.Member.{Member}
-use Rattle.json_tree.proofs.TreeItems.{view-Members}
+use Rattle.json_tree.proofs.Views.{view-Members}
 
 pub items_more : (vs ws : List Tree) (v w : Tree) → ElementsAreSortedOf (elements_view vs) (elements_view ws) → IsSortedOf (view v) (view w)
     → ElementsAreSortedOf (elements_view (vs ++ v ∷ [])) (elements_view (ws ++ w ∷ []))

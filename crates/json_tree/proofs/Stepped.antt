@@ -10,7 +10,8 @@ use Rattle.json_tree.specs.declared.tree.Tree.{Tree}
 use Rattle.json_tree.specs.declared.tree.Tree as variants
 use Rattle.json_tree.specs.declared.tree.Member.{Member}
 use Rattle.json_tree.proofs.Choices.{choose, is_byte, no_byte}
-use Rattle.json_tree.proofs.TreeItems.{view-List, view-Members, item_within}
+use Rattle.json_tree.proofs.Views.{view-List, view-Members}
+use Rattle.json_tree.proofs.Parts.{item_within}
 use Rattle.json_tree.proofs.FirstKeys.{decimal_token}
 
 -- how a byte is spelled

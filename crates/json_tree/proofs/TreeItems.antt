@@ -1,42 +1,17 @@
 -- The parts of a tree by their positions.
-use Rattle.std.proofs.Common.{◌≡◌, ℕ, zero, suc, ◌<◌, List, [], ◌∷◌, ◌++◌, length, get_or, decimal, Some, refl, sym, ap, ◌∙◌, subst, append_assoc, arith, rules}
+use Rattle.std.proofs.Common.{◌≡◌, ℕ, ◌<◌, List, ◌∷◌, ◌++◌, length, get_or, decimal, refl, sym, ap, ◌∙◌, subst, append_assoc}
 use Rattle.std.proofs.Common.{Result, Ok, Err}
 use Rattle.std.specs.Prelude.{OnOk}
 use Rattle.json_tree.specs.Values.{Json, array, object}
 use Rattle.json_tree.specs.View.{view, elements_view, members_view}
-use Rattle.json_tree.specs.Places.{element_at, member_at, IsPart, StandsAt}
+use Rattle.json_tree.specs.Places.{IsPart, StandsAt}
 use Rattle.json_tree.specs.Pointers.{token_text, pointer_text, HasToken, AreTokens}
-use Rattle.json_tree.specs.declared.tree.Tree.{Tree, the_lemmas}
+use Rattle.json_tree.specs.declared.tree.Tree.{Tree}
 use Rattle.json_tree.specs.declared.tree.Tree as variants
 use Rattle.json_tree.specs.declared.tree.Member.{Member}
+use Rattle.json_tree.proofs.Views.{view-List, view-Members}
+use Rattle.json_tree.proofs.Parts.{item_part, member_part, item_within, value_within}
 use Rattle.json_tree.proofs.Tied.{same_part}
-
-pub view-List : (trees : List Tree) → view (variants.List trees) ≡ array (elements_view trees)
-view-List trees = search (rules, the_lemmas)
-
-pub view-Members : (members : List Member) → view (variants.Members members) ≡ object (members_view members)
-view-Members members = search (rules, the_lemmas)
-
-pub item_within : (items : List Tree) (i : ℕ) (part : Json) → element_at (elements_view items) i ≡ Some part → i < length items
-item_within [] i part e = absurd cc
-item_within (t ∷ items) zero part e = omega arith
-item_within (t ∷ items) (suc i) part e = let h = item_within items i part e in omega (arith, h)
-
-pub item_at : (items : List Tree) (i : ℕ) (d : Tree) → i < length items → element_at (elements_view items) i ≡ Some (view (get_or items i d))
-item_at [] i d lt = absurd (omega (arith, lt))
-item_at (t ∷ items) zero d lt = refl
-item_at (t ∷ items) (suc i) d lt = item_at items i d (omega (arith, lt))
-
-member_within : (members : List Member) (i : ℕ) (m : List ℕ × Json) → member_at (members_view members) i ≡ Some m → i < length members
-member_within [] i m e = absurd cc
-member_within (n ∷ members) zero m e = omega arith
-member_within (n ∷ members) (suc i) m e = let h = member_within members i m e in omega (arith, h)
-
-pub member_there : (members : List Member) (i : ℕ) (d : Member) → i < length members
-    → member_at (members_view members) i ≡ Some ((get_or members i d).key, view (get_or members i d).value)
-member_there [] i d lt = absurd (omega (arith, lt))
-member_there (m ∷ members) zero d lt = refl
-member_there (m ∷ members) (suc i) d lt = member_there members i d (omega (arith, lt))
 
 -- a part that is there has a position below the length
 pub list_within : (tree : Tree) (items : List Tree) (i : ℕ) → tree ≡ variants.List items → ((part : Json) × IsPart (view tree) i part) → i < length items
@@ -47,20 +22,19 @@ list_within tree items i is h =
 pub object_within : (tree : Tree) (members : List Member) (i : ℕ) → tree ≡ variants.Members members → ((part : Json) × IsPart (view tree) i part) → i < length members
 object_within tree members i is h =
     let there : (part : Json) × IsPart (object (members_view members)) i part = subst (λ v. (part : Json) × IsPart v i part) (ap view is ∙ view-Members members) h in
-    member_within members i (there.1.0, there.0) there.1.1
+    value_within members i (there.1.0, there.0) there.1.1
 
 -- the token of an item, and of a member
 pub item_token : (tree : Tree) (items : List Tree) (i : ℕ) (item : Tree) → tree ≡ variants.List items → i < length items → item ≡ get_or items i item
     → HasToken (view tree) i (decimal i) (view item)
 item_token tree items i item is lt at =
-    let there : HasToken (array (elements_view items)) i (decimal i) (view item) = (item_at items i item lt ∙ ap (λ (t : Tree). Some (view t)) (sym at), refl) in
+    let there : HasToken (array (elements_view items)) i (decimal i) (view item) = (item_part items i item lt at, refl) in
     subst (λ v. HasToken v i (decimal i) (view item)) (sym (ap view is ∙ view-List items)) there
 
 pub member_token : (tree : Tree) (members : List Member) (i : ℕ) (m : Member) → tree ≡ variants.Members members → i < length members → m ≡ get_or members i m
     → HasToken (view tree) i m.key (view m.value)
 member_token tree members i m is lt at =
-    let there : HasToken (object (members_view members)) i m.key (view m.value) =
-    member_there members i m lt ∙ ap (λ (n : Member). Some (n.key, view n.value)) (sym at) in
+    let there : HasToken (object (members_view members)) i m.key (view m.value) = member_part members i m lt at in
     subst (λ v. HasToken v i m.key (view m.value)) (sym (ap view is ∙ view-Members members)) there
 
 -- what stands at the rest of a place, below the first step

@@ -2,8 +2,6 @@
 
 ghost use Rattle.std.specs.Prelude.{◌≡◌, IfOk};
 
-use crate::places::Place;
-use crate::pointers::Pointer;
 use crate::tree::{Member, Tree};
 use dt_base::{List, OutOfMemory};
 use std::alloc::Global;
@@ -66,27 +64,4 @@ fn copy_members(alloc: Global, members: &[Member]) -> Result<Vec<Member>, OutOfM
         copies.push(member.copy(alloc)?)?;
     }
     Ok(copies)
-}
-
-impl Place {
-    /// An equal place. Fails only for want of memory.
-    pub fn copy(&self, alloc: Global) -> Result<Place, OutOfMemory>
-        ensures { IfOk result (λ place. place ≡ self.now) }
-    {
-        let mut steps = Vec::with_capacity(alloc, self.steps.len())?;
-        steps.extend_from_slice(self.steps.as_slice())?;
-        Ok(Place {
-            steps: List::from_vec(steps),
-        })
-    }
-}
-
-impl Pointer {
-    /// An equal pointer. Fails only for want of memory.
-    pub fn copy(&self, alloc: Global) -> Result<Pointer, OutOfMemory>
-        ensures { IfOk result (λ pointer. pointer ≡ self.now) }
-    {
-        let text = self.text.copy(alloc)?;
-        Ok(Pointer { text })
-    }
 }

@@ -1,6 +1,6 @@
-//! The calls of `json_tree` that no command makes yet, once each where memory is there.
+//! The calls of `json_tree` and `json_read` that no command makes yet, once each where memory is there.
 
-use json_read::read;
+use json_read::{one_printed, read};
 use json_tree::{Tree, at, print, sorted};
 use std::alloc::Global;
 use std::test::Fail;
@@ -23,8 +23,9 @@ fn sorts_members_at_every_depth(rt: HostRuntime) -> Result<(), Fail> {
 #[test]
 fn copies_a_tree(rt: HostRuntime) -> Result<(), Fail> {
     let tree = read(rt.alloc(), TEXT)?;
-    let tree = tree.copy(rt.alloc())?;
-    assert!(rt; prints_as(rt.alloc(), &tree, r#"{"b":[{"d":1,"c":2}],"a/~":null}"#)?);
+    let copy = tree.copy(rt.alloc())?;
+    one_printed(&tree, &copy);
+    assert!(rt; prints_as(rt.alloc(), &copy, r#"{"b":[{"d":1,"c":2}],"a/~":null}"#)?);
     Ok(())
 }
 
