@@ -1,5 +1,5 @@
 -- What an interface without breach declares has a declaration.
-use Rattle.std.proofs.Common.{◌≡◌, ◌≢◌, ℕ, zero, suc, ◌<◌, ◌⊎◌, inl, inr, List, [], ◌∷◌, ◌++◌, map, Bool, true, Option, Some, None, option_and_then, bytes_eq, refl, sym, ap, subst, ◌∙◌, arith}
+use Rattle.std.proofs.Common.{◌≡◌, ◌≢◌, ℕ, zero, suc, ◌<◌, inl, inr, List, [], ◌∷◌, ◌++◌, map, true, Option, Some, None, option_and_then, refl, sym, ap, subst, ◌∙◌, arith}
 use Rattle.std.specs.Prelude.{Contains, IsSome, codes, slice_get}
 use Rattle.std.specs.List.{AllByRecursion, AllZip}
 use Rattle.dtmi_name.specs.Grammar.{Identifier, dtmi_text}
@@ -9,7 +9,7 @@ use Rattle.json_tree.specs.Places.{IsBefore, element_at, member_at}
 use Rattle.dtdl_terms.specs.Terms.{SchemaTerm, primitive, named, array_of, enumeration, map_of, object_of, PayloadTerm, payload, PayloadTerms, no_payloads, more_payloads, ContentTerm, content, KindTerm, telemetry, property, command, relationship, component, ContentTerms, no_contents, more_contents}
 use Rattle.dtdl_terms.specs.Primitives.{primitive_name}
 use Rattle.dtdl_terms.specs.TermViews.{schema_term, kind_term, content_term}
-use Rattle.dtdl_terms.specs.Distinct.{AreDistinct, ContentIsDistinct, ContentsAreDistinct, HasDeclaration, HasDistinctEntries, HasDistinctLanguages, HasDistinctTexts, KindIsDistinct, OptionalPayloadIsDistinct, PayloadIsDistinct, PayloadsAreDistinct, SchemaIsDistinct, content_name, content_names, payload_names, schema_id}
+use Rattle.dtdl_terms.specs.Distinct.{AreDistinct, ContentIsDistinct, ContentsAreDistinct, HasDeclaration, HasDistinctLanguages, HasDistinctTexts, KindIsDistinct, OptionalPayloadIsDistinct, PayloadIsDistinct, PayloadsAreDistinct, SchemaIsDistinct, content_names, payload_names, schema_id}
 use Rattle.dtdl_terms.specs.declared.common.Common.{Common}
 use Rattle.dtdl_terms.specs.declared.common.Entry.{Entry}
 use Rattle.dtdl_terms.specs.declared.common.Localized.{Localized}
@@ -17,13 +17,12 @@ use Rattle.dtdl_terms.specs.declared.content.Content.{Content}
 use Rattle.dtdl_terms.specs.declared.enumeration.EnumEntry.{EnumEntry}
 use Rattle.dtdl_terms.specs.declared.interface.Interface.{Interface}
 use Rattle.dtdl_terms.specs.declared.schema.Schema.{Schema}
-use Rattle.local_rules.specs.Members.{list_of, members_in, pairs_of, text_in, value_at, value_in}
+use Rattle.local_rules.specs.Members.{list_of, members_in, pairs_of, text_in, value_at}
 use Rattle.local_rules.specs.Roles.{HasRole, element_of, entry_role, id_role, key_of, schema_role, type_of, schema_of_values}
 use Rattle.local_rules.specs.Repeats.{IsInEntry, name_in, repeats_name, repeats_text}
 use Rattle.local_rules.specs.Breaches.{BreaksByPlace}
 use Rattle.local_rules.specs.declared.rule.LocalRule.{LocalRule}
 use Rattle.local_rules.specs.Kinds.{LacksKeyOf, needed_keys}
-use Rattle.local_rules.specs.declared.key.Key.{Key}
 use Rattle.local_rules.specs.declared.key.Key.TheVariants as key
 use Rattle.local_rules.specs.declared.rule.LocalRule.TheVariants as rule
 use Rattle.local_rules.specs.declared.role.Element.{Element}
@@ -32,16 +31,14 @@ use Rattle.local_rules.specs.declared.role.PayloadUse.TheVariants as payload_use
 use Rattle.local_rules.specs.declared.role.Position.TheVariants as position
 use Rattle.local_rules.specs.declared.role.Role.{Role}
 use Rattle.local_rules.specs.declared.role.Role.TheVariants as role
-use Rattle.local_rules.specs.declared.role.SchemaUse.{SchemaUse}
 use Rattle.local_rules.specs.declared.role.SchemaUse.TheVariants as schema_use
 use Rattle.local_rules.specs.declared.role.ValueSchema.{ValueSchema}
 use Rattle.local_rules.proofs.Keyed.{position_of_key}
-use Rattle.local_rules.proofs.Named.{id_is}
-use Rattle.model_read.specs.Declarations.{ArePayloads, AreProperties, AreEntriesOf, AreKind, DeclaresEnumEntry, DeclaresInterface, HasCommon, HasContents, HasKindOf, HasLocalized, HasOptionalId, HasOptionalPayload, HasParents, HasSchema, HasSchemas, HasString, IsContent, IsContentEntry, IsEnumEntry, IsIdentifier, IsLocalized, IsLocalizedBy, IsPayload, IsPropertyTerm, IsSchema, IsTextOfLanguage, type_of_kind}
+use Rattle.model_read.specs.Declarations.{ArePayloads, AreProperties, AreEntriesOf, AreKind, DeclaresInterface, HasCommon, HasContents, HasKindOf, HasLocalized, HasOptionalId, HasOptionalPayload, HasParents, HasSchemas, HasString, IsContent, IsContentEntry, IsEnumEntry, IsIdentifier, IsLocalized, IsLocalizedBy, IsPayload, IsPropertyTerm, IsSchema, IsTextOfLanguage, type_of_kind}
 use Rattle.model_read.proofs.Valid.{here, of_kind}
 use Rattle.model_read.proofs.Pairs.{apart, distinct_pairs, mapped_back, zip_at}
 use Rattle.model_read.proofs.Standing.{BreaksNowhere, Stands, entry_at, entry_stands, itself, key_at, key_stands, stands_valid}
-use Rattle.model_read.proofs.Within.{IsPayloadRole, IsSchemaRole, name_known, nothing_in, payload_element, payload_schema, schema_element}
+use Rattle.model_read.proofs.Within.{IsPayloadRole, IsSchemaRole, name_known, payload_element, payload_schema, schema_element}
 
 -- ---- distinct keys in the parts of a value
 placed_distinct : (ms : Members Number) (i : ℕ) (k : List ℕ) (v : Json) → member_at ms i ≡ Some (k, v) → MembersHaveDistinctKeys ms → HasDistinctKeys v
@@ -180,13 +177,13 @@ module _ (whole : Json) (none : BreaksNowhere whole) where
       → AreDistinct (map (λ e. e.name) es)
   enum_names_apart k vs es all stands = apart (λ (n : List ℕ). n) name_in vs (map (λ e. e.name) es)
       (λ i n at.
-          let e = mapped_back (λ (x : EnumEntry). x.name) es i n at in
-          let v = zip_at IsEnumEntry vs es i e.0 all e.1 in
-          (v.0, v.1, name_of v.0 v.2.0 e.0.name v.2.1 v.2.2.name ∙ ap (λ (t : List ℕ). Some t) e.2))
+      let e = mapped_back (λ (x : EnumEntry). x.name) es i n at in
+      let v = zip_at IsEnumEntry vs es i e.0 all e.1 in
+      (v.0, v.1, name_of v.0 v.2.0 e.0.name v.2.1 v.2.2.name ∙ ap (λ (t : List ℕ). Some t) e.2))
       (λ i n at again.
-          let e = mapped_back (λ (x : EnumEntry). x.name) es i n at in
-          let v = zip_at IsEnumEntry vs es i e.0 all e.1 in
-          enum_entries_apart k vs i v.0 v.2.0 e.0.name stands v.1 v.2.1 v.2.2.name again)
+      let e = mapped_back (λ (x : EnumEntry). x.name) es i n at in
+      let v = zip_at IsEnumEntry vs es i e.0 all e.1 in
+      enum_entries_apart k vs i v.0 v.2.0 e.0.name stands v.1 v.2.1 v.2.2.name again)
 
   -- ---- schemas and payloads
   field_names_apart : (ps : PayloadTerms) (vs : Elements Number) → ArePayloads ps vs → Stands whole role.Fields (array vs) → AreDistinct (payload_names ps)
@@ -351,15 +348,15 @@ module _ (whole : Json) (none : BreaksNowhere whole) where
   list_of_contents_apart vs cs keys all stands = (
     apart (λ (n : List ℕ). n) name_in vs (map (λ c. c.name) cs)
         (λ i n at.
-            let c = mapped_back (λ (x : Content). x.name) cs i n at in
-            let v = zip_at IsContentEntry vs cs i c.0 all c.1 in
-            let g = v.2.1 in
-            (v.0, v.1, name_of v.0 g.0 c.0.name g.1 g.2 ∙ ap (λ (t : List ℕ). Some t) c.2))
+        let c = mapped_back (λ (x : Content). x.name) cs i n at in
+        let v = zip_at IsContentEntry vs cs i c.0 all c.1 in
+        let g = v.2.1 in
+        (v.0, v.1, name_of v.0 g.0 c.0.name g.1 g.2 ∙ ap (λ (t : List ℕ). Some t) c.2))
         (λ i n at again.
-            let c = mapped_back (λ (x : Content). x.name) cs i n at in
-            let v = zip_at IsContentEntry vs cs i c.0 all c.1 in
-            let g = v.2.1 in
-            contents_apart vs i v.0 g.0 (kind_term c.0.kind) c.0.name stands v.1 g.1 (content_type (kind_term c.0.kind) v.0 g.0 g.1 v.2.0) g.2 again),
+        let c = mapped_back (λ (x : Content). x.name) cs i n at in
+        let v = zip_at IsContentEntry vs cs i c.0 all c.1 in
+        let g = v.2.1 in
+        contents_apart vs i v.0 g.0 (kind_term c.0.kind) c.0.name stands v.1 g.1 (content_type (kind_term c.0.kind) v.0 g.0 g.1 v.2.0) g.2 again),
     each_content_apart vs cs keys all (λ i v at. entry_stands whole role.Contents vs i role.Content v refl at stands),
   )
 

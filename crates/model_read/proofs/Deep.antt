@@ -1,13 +1,13 @@
 -- A schema has at least the levels of its record.
-use Rattle.std.proofs.Common.{◌≡◌, ℕ, zero, suc, ◌+◌, ◌<◌, ◌≤◌, ◌⊎◌, inl, inr, List, [], ◌∷◌, ◌++◌, length, Option, Some, None, option_and_then, refl, sym, ap, ap₂, subst, ◌∙◌, arith, lit≤}
+use Rattle.std.proofs.Common.{◌≡◌, ℕ, zero, suc, ◌≤◌, ◌⊎◌, inl, inr, List, [], ◌∷◌, ◌++◌, Option, Some, None, option_and_then, refl, sym, ap, ap₂, subst, ◌∙◌, arith}
 use Rattle.std.specs.Prelude.{Contains, codes, max, filter_map, option_to_list}
 use Rattle.std.specs.List.{cons_option}
 use Rattle.json_decimal.specs.Number.{Number}
-use Rattle.json_tree.specs.Values.{Json, array, object, Elements, no_elements, element, Members}
+use Rattle.json_tree.specs.Values.{Json, object, Elements, no_elements, element, Members}
 use Rattle.dtdl_terms.specs.Terms.{SchemaTerm, primitive, named, array_of, enumeration, map_of, object_of, PayloadTerm, payload, PayloadTerms, no_payloads, more_payloads}
-use Rattle.local_rules.specs.Members.{list_of, members_in, value_at, value_in}
+use Rattle.local_rules.specs.Members.{list_of, value_at, value_in}
 use Rattle.local_rules.specs.Roles.{type_of}
-use Rattle.local_rules.specs.Levels.{HasLevel, IsComplex, entries_under, parts_by, schema_parts, schema_type}
+use Rattle.local_rules.specs.Levels.{HasLevel, entries_under, parts_by}
 use Rattle.local_rules.specs.declared.role.Element.{Element}
 use Rattle.local_rules.specs.declared.role.Element.TheVariants as element_kind
 use Rattle.local_rules.specs.declared.role.Position.TheVariants as position

@@ -1,8 +1,8 @@
 -- What holds of each interface that a document without breach declares.
-use Rattle.std.proofs.Common.{◌≡◌, ℕ, zero, suc, ◌+◌, List, [], ◌∷◌, Option, Some, refl, sym, subst}
+use Rattle.std.proofs.Common.{◌≡◌, ℕ, zero, suc, ◌+◌, List, [], ◌∷◌, Some, refl, sym, subst}
 use Rattle.std.specs.List.{AllByRecursion, AllZip, enumerate_from}
 use Rattle.json_decimal.specs.Number.{Number}
-use Rattle.json_tree.specs.Values.{Json, null, truth, number, text, array, object, Elements, no_elements, element, Members, HasDistinctKeys, ElementsHaveDistinctKeys}
+use Rattle.json_tree.specs.Values.{Json, null, truth, number, text, array, object, Elements, no_elements, element, Members, HasDistinctKeys}
 use Rattle.json_tree.specs.Places.{element_at}
 use Rattle.dtdl_terms.specs.Distinct.{HasDeclaration}
 use Rattle.dtdl_terms.specs.declared.interface.Interface.{Interface}
@@ -10,7 +10,7 @@ use Rattle.dtdl_terms.specs.declared.uploaded.Uploaded.{Uploaded}
 use Rattle.local_rules.specs.Members.{list_of}
 use Rattle.model_read.specs.Declarations.{DeclaresInterface}
 use Rattle.model_read.specs.Limits.{IsWithinLimits}
-use Rattle.model_read.specs.Uploads.{IsUploaded, IsUploadedAt, AreUploaded}
+use Rattle.model_read.specs.Uploads.{IsUploadedAt, AreUploaded}
 use Rattle.model_read.proofs.Standing.{BreaksNowhere}
 use Rattle.model_read.proofs.Whole.{BreaksNothing}
 use Rattle.model_read.proofs.Within.{interface_within}

@@ -1,5 +1,5 @@
 -- Contents, interfaces and where they stand: a document declares each of them at most once.
-use Rattle.std.proofs.Common.{◌≡◌, ℕ, suc, ◌<◌, inl, inr, ◌↔◌, List, [], ◌∷◌, map, Bool, true, false, IsTrue, Option, Some, None, refl, sym, ap, ap₂, subst, ◌∙◌, arith}
+use Rattle.std.proofs.Common.{◌≡◌, ℕ, ◌<◌, inl, inr, ◌↔◌, List, [], ◌∷◌, Bool, true, false, IsTrue, Option, Some, None, refl, sym, ap, ap₂, subst, ◌∙◌, arith}
 use Rattle.std.specs.Prelude.{codes, pos}
 use Rattle.std.specs.List.{AllZip, enumerate_from}
 use Rattle.dtmi_name.specs.Grammar.{Identifier}
@@ -8,7 +8,7 @@ use Rattle.json_decimal.specs.Comparing.{IsWhole}
 use Rattle.json_decimal.proofs.Wholes.{one_whole}
 use Rattle.json_tree.specs.Values.{Json, null, truth, number, text, array, object, Elements, no_elements, element, Members}
 use Rattle.json_tree.specs.Pointers.{HasToken, AreTokens, IsPointerOf, pointer_text}
-use Rattle.dtdl_terms.specs.Terms.{SchemaTerm, KindTerm, telemetry, property, command, relationship, component, ContentTerm, content, ContentTerms, no_contents, more_contents}
+use Rattle.dtdl_terms.specs.Terms.{KindTerm, telemetry, property, command, relationship, component, ContentTerm, content, ContentTerms, no_contents, more_contents}
 use Rattle.dtdl_terms.specs.TermViews.{schema_term, content_term}
 use Rattle.dtdl_terms.specs.declared.content.Content.{Content}
 use Rattle.dtdl_terms.specs.declared.interface.Interface.{Interface}

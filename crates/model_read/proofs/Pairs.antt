@@ -1,5 +1,5 @@
 -- Lists without equal elements, from the lists of values that declare them.
-use Rattle.std.proofs.Common.{◌≡◌, ◌≢◌, ℕ, zero, suc, ◌<◌, List, [], ◌∷◌, take, map, Bool, true, false, ◌||◌, Option, Some, None, option_and_then, bytes_eq, refl, sym, ap, subst, ◌∙◌, arith}
+use Rattle.std.proofs.Common.{◌≡◌, ◌≢◌, ℕ, zero, suc, ◌<◌, List, [], ◌∷◌, take, map, Bool, true, false, ◌||◌, Option, Some, option_and_then, bytes_eq, refl, sym, ap, subst, ◌∙◌, arith}
 use Rattle.std.specs.Prelude.{slice_get}
 use Rattle.std.specs.List.{AllByRecursion, AllZip, list_any}
 use Rattle.std.proofs.lemmas.Slice.Eq.{bytes_eq-Decides}

@@ -1,5 +1,5 @@
 -- Where parts stand: the entries of a list and the members of an object, by their positions.
-use Rattle.std.proofs.Common.{◌≡◌, ℕ, suc, ◌+◌, ◌<◌, ◌≤◌, List, [], ◌∷◌, ◌++◌, length, take, drop, get_or, Bool, true, false, ◌⊎◌, inl, inr, Some, cond, sym, ap, ◌∙◌, subst, arith, bytes_eq, true≢false}
+use Rattle.std.proofs.Common.{◌≡◌, ℕ, ◌+◌, ◌<◌, List, ◌∷◌, length, drop, get_or, Bool, true, false, ◌⊎◌, inl, inr, Some, cond, sym, ap, ◌∙◌, arith, bytes_eq, true≢false}
 use Rattle.std.proofs.lemmas.List.{drop_more}
 use Rattle.std.proofs.lemmas.Slice.Eq.{bytes_eq-Decides}
 use Rattle.json_tree.specs.Values.{Json}

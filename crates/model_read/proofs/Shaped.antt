@@ -1,8 +1,8 @@
 -- The shapes of elements, by their roles in a value in which no rule is broken.
-use Rattle.std.proofs.Common.{◌≡◌, ◌≢◌, ℕ, ◌⊎◌, inl, inr, List, [], ◌∷◌, Bool, true, false, Contains, Option, Some, None, option_and_then, codes, refl, sym, ap, subst, ◌∙◌, lit≤}
+use Rattle.std.proofs.Common.{◌≡◌, ◌≢◌, ℕ, ◌⊎◌, inl, inr, List, [], ◌∷◌, Bool, true, Contains, Option, Some, None, option_and_then, codes, refl, sym, ap, subst, ◌∙◌, lit≤}
 use Rattle.json_decimal.specs.Number.{Number}
 use Rattle.json_tree.specs.Values.{Json, null, truth, number, text, array, object, Members}
-use Rattle.local_rules.specs.Members.{list_of, text_in, value_at}
+use Rattle.local_rules.specs.Members.{text_in, value_at}
 use Rattle.local_rules.specs.Tables.{key_text, required, types_of}
 use Rattle.local_rules.specs.Roles.{element_member, element_of, entry_role, key_of, key_role, schema_of_values_named, position_of, schema_role, type_in, type_of, untyped_role, schema_of_values}
 use Rattle.local_rules.specs.Kinds.{LacksKeyOf, is_of_kind, kind_of, needed_keys}

@@ -1,9 +1,9 @@
 -- What stands in the roles of an interface in which no rule is broken.
-use Rattle.std.proofs.Common.{◌≡◌, ℕ, inl, inr, List, [], ◌∷◌, ◌++◌, Option, Some, None, option_and_then, refl, sym, ap, subst, ◌∙◌}
+use Rattle.std.proofs.Common.{◌≡◌, ℕ, inl, inr, List, [], ◌∷◌, ◌++◌, Option, Some, option_and_then, refl, sym, ap, subst, ◌∙◌}
 use Rattle.json_decimal.specs.Number.{Number}
 use Rattle.json_tree.specs.Values.{Json, array, object, Elements, Members}
-use Rattle.json_tree.specs.Places.{IsPart, element_at, member_at}
-use Rattle.local_rules.specs.Members.{list_of, members_in, value_at}
+use Rattle.json_tree.specs.Places.{IsPart, element_at}
+use Rattle.local_rules.specs.Members.{members_in, value_at}
 use Rattle.local_rules.specs.Roles.{HasRole, element_member, element_of, entry_role, key_of, key_role, member_role, part_role, role_of_key}
 use Rattle.local_rules.specs.Breaches.{IsBroken}
 use Rattle.local_rules.specs.Levels.{TooDeep}

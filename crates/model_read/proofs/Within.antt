@@ -1,6 +1,6 @@
 -- What an interface without breach declares is within the limits.
-use Rattle.std.proofs.Common.{◌≡◌, ◌≢◌, ℕ, zero, suc, ◌<◌, ◌≤◌, ◌⊎◌, inl, inr, List, [], ◌∷◌, length, Bool, false, Option, Some, None, refl, sym, ap, subst, ◌∙◌, arith, lit≤}
-use Rattle.std.specs.Prelude.{IfSome, bytes_eq, codes, map}
+use Rattle.std.proofs.Common.{◌≡◌, ◌≢◌, ℕ, zero, suc, ◌<◌, ◌≤◌, ◌⊎◌, inl, inr, List, [], ◌∷◌, length, Option, Some, None, refl, sym, ap, subst, ◌∙◌, arith, lit≤}
+use Rattle.std.specs.Prelude.{IfSome, codes}
 use Rattle.std.specs.List.{AllByRecursion, AllZip}
 use Rattle.std.proofs.lemmas.Slice.Zip.{AllZip-long}
 use Rattle.dtmi_name.specs.Grammar.{Identifier, dtmi_text}
@@ -16,12 +16,12 @@ use Rattle.dtdl_terms.specs.declared.content.Content.{Content}
 use Rattle.dtdl_terms.specs.declared.enumeration.EnumEntry.{EnumEntry}
 use Rattle.dtdl_terms.specs.declared.interface.Interface.{Interface}
 use Rattle.dtdl_terms.specs.declared.schema.Schema.{Schema}
-use Rattle.local_rules.specs.Members.{list_of, members_in, pairs_of, text_in, value_at}
+use Rattle.local_rules.specs.Members.{list_of, members_in, pairs_of, value_at}
 use Rattle.local_rules.specs.Roles.{element_of, key_of, schema_role, type_of, schema_of_values}
 use Rattle.local_rules.specs.Identifiers.{id_use, of_interface}
-use Rattle.local_rules.specs.Levels.{HasLevel, IsOuter}
+use Rattle.local_rules.specs.Levels.{IsOuter}
 use Rattle.local_rules.specs.Texts.{IsTextOf, scalar_values}
-use Rattle.local_rules.specs.Types.{IsName, MayHaveBeside}
+use Rattle.local_rules.specs.Types.{MayHaveBeside}
 use Rattle.local_rules.specs.declared.key.Key.TheVariants as key
 use Rattle.local_rules.specs.declared.rule.LocalRule.TheVariants as rule
 use Rattle.local_rules.specs.declared.role.Element.{Element}
@@ -37,8 +37,8 @@ use Rattle.local_rules.specs.declared.role.Role.TheVariants as role
 use Rattle.local_rules.specs.declared.role.SchemaUse.{SchemaUse}
 use Rattle.local_rules.specs.declared.role.SchemaUse.TheVariants as schema_use
 use Rattle.local_rules.specs.declared.role.ValueSchema.{ValueSchema}
-use Rattle.model_read.specs.Declarations.{ArePayloads, AreProperties, AreEntriesOf, AreKind, DeclaresEnumEntry, DeclaresInterface, HasCommon, HasContents, HasKindOf, HasSchemas, HasOptionalId, HasOptionalPayload, HasOptionalString, HasParents, HasSchema, HasSemantic, HasString, IsContent, IsContentEntry, IsEnumEntry, IsIdentifier, IsLocalized, IsLocalizedBy, IsPayload, IsPropertyTerm, IsSchema, IsSemantic, IsTextOfLanguage, type_of_kind}
-use Rattle.model_read.specs.Limits.{AreShortTexts, ContentIsWithin, ContentsAreWithin, EnumEntryIsWithin, HasShortTexts, IsShortId, IsShortInterfaceId, IsShortName, IsShortText, IsWithinLimits, KindIsWithin, OuterPayloadIsWithin, OuterSchemaIsWithin, PayloadIsWithin, PayloadsAreWithin, SchemaIsWithin, levels, payload_levels}
+use Rattle.model_read.specs.Declarations.{ArePayloads, AreProperties, AreEntriesOf, AreKind, DeclaresInterface, HasCommon, HasContents, HasKindOf, HasSchemas, HasOptionalId, HasOptionalPayload, HasOptionalString, HasParents, HasSchema, HasSemantic, HasString, IsContent, IsContentEntry, IsEnumEntry, IsIdentifier, IsLocalized, IsLocalizedBy, IsPayload, IsPropertyTerm, IsSchema, IsSemantic, IsTextOfLanguage, type_of_kind}
+use Rattle.model_read.specs.Limits.{ContentIsWithin, ContentsAreWithin, EnumEntryIsWithin, HasShortTexts, IsShortId, IsShortInterfaceId, IsShortName, IsShortText, IsWithinLimits, KindIsWithin, OuterPayloadIsWithin, OuterSchemaIsWithin, PayloadIsWithin, PayloadsAreWithin, SchemaIsWithin, levels}
 use Rattle.model_read.specs.Machinery.Shapes.{CanBeName, CanBeTypes, IsValid}
 use Rattle.model_read.proofs.Valid.{here, placed_valid}
 use Rattle.model_read.proofs.Leaves as leaves
@@ -102,8 +102,8 @@ short_localized which (text bytes) es is valid = subst
     (short_text which (role.Localized which) bytes (inl refl) valid, tt)
 short_localized which (object ms) es is valid = short_texts which ms es
     (λ i k v at.
-        let r : Role = role.LocalizedText which in
-        (r, inr refl, placed_valid (role.Localized which) ms i r k v at refl valid))
+    let r : Role = role.LocalizedText which in
+    (r, inr refl, placed_valid (role.Localized which) ms i r k v at refl valid))
     is
 short_localized which null es is valid = absurd is
 short_localized which (truth b) es is valid = absurd is
@@ -524,10 +524,10 @@ module _ (whole : Json) (none : BreaksNowhere whole) where
         comment = comment_within ms i.comment (λ v at. key_stands whole r ms e key.Comment (codes "comment") v refl refl at stands) g.comment;
         description = short_optional localized.Description (value_at (codes "description") ms) i.description.entries g.description
             (λ v at. stands_valid whole none (role.Localized localized.Description) v
-              (key_stands whole r ms e key.Description (codes "description") v refl refl at stands));
+            (key_stands whole r ms e key.Description (codes "description") v refl refl at stands));
         display_name = short_optional localized.DisplayName (value_at (codes "displayName") ms) i.display_name.entries g.display_name
             (λ v at. stands_valid whole none (role.Localized localized.DisplayName) v
-              (key_stands whole r ms e key.DisplayName (codes "displayName") v refl refl at stands));
+            (key_stands whole r ms e key.DisplayName (codes "displayName") v refl refl at stands));
         few_parents = extended.0;
         parents = extended.1;
         few_contents = contained.0;

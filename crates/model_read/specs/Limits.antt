@@ -1,6 +1,6 @@
 -- The limits that the local rules set to what an interface declares, by its record: how many parents, contents, fields
 -- and enum entries there are, how long identifiers, names and texts are, and how deep schemas lie in one another.
-use Rattle.std.specs.Prelude.{ℕ, suc, ◌≤◌, max, List, length, Option, IfSome}
+use Rattle.std.specs.Prelude.{ℕ, suc, ◌≤◌, max, List, length, IfSome}
 use Rattle.std.specs.List.{AllByRecursion}
 use Rattle.dtmi_name.specs.Grammar.{Identifier, dtmi_text}
 use Rattle.local_rules.specs.Texts.{scalar_values}
