@@ -54,7 +54,7 @@ module _ {K V : Type 0} (R : K → K → Ordering) where
   pub none_later : (q : List ℕ) (r : List ℕ × List (K × V)) (rs : List (List ℕ × List (K × V))) → IsStrictlySortedBy C (keys_of (r ∷ rs)) → C q r.0 ≡ Equal → lookup (is_at (C q)) rs ≡ None
   none_later q r rs s e = lookup-none (is_at (C q)) rs (none_past_head (eq_by_cmp_equiv c_total) q r rs (IsDistinct-from_sorted C (keys_of (r ∷ rs)) s) (ap is_eq e))
 
-  none_below : (q : List ℕ) (r : List ℕ × List (K × V)) (rs : List (List ℕ × List (K × V))) → IsStrictlySortedBy C (keys_of (r ∷ rs)) → C q r.0 ≡ Less → lookup (is_at (C q)) (r ∷ rs) ≡ None
+  pub none_below : (q : List ℕ) (r : List ℕ × List (K × V)) (rs : List (List ℕ × List (K × V))) → IsStrictlySortedBy C (keys_of (r ∷ rs)) → C q r.0 ≡ Less → lookup (is_at (C q)) (r ∷ rs) ≡ None
   none_below q r rs s e = lookup-none (is_at (C q)) (r ∷ rs) (none_below_head c_total q r rs s e)
 
   -- what the table has at a pair is what the row has at the key

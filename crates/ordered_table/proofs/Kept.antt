@@ -20,7 +20,7 @@ use Rattle.ordered_table.proofs.Ordered.{cons_sorted, nil_sorted, unlike}
 
 -- ---- the keys stay in order
 module _ {K : Type 0} {R : K → K → Ordering} (o : IsTotalOrder R) where
-  all_less : (k x : K) → R k x ≡ Less → (ks : List K) → AllByRecursion (λ y. R x y ≡ Less) ks → AllByRecursion (λ y. R k y ≡ Less) ks
+  pub all_less : (k x : K) → R k x ≡ Less → (ks : List K) → AllByRecursion (λ y. R x y ≡ Less) ks → AllByRecursion (λ y. R k y ≡ Less) ks
   all_less k x h [] a = tt
   all_less k x h (y ∷ ys) a = (o.trans k x y h a.0, all_less k x h ys a.1)
 

@@ -1,5 +1,5 @@
 -- The keys of the orders, and counts that change at one key.
-use Rattle.std.proofs.Common.{◌≡◌, ℕ, ◌+◌, ◌-◌, ◌≤◌, List, Bool, true, false, cond, Option, Some, None, refl, sym, ap, ◌∙◌, nat_cmp, is_eq, arith}
+use Rattle.std.proofs.Common.{◌≡◌, ℕ, ◌+◌, ◌-◌, ◌≤◌, List, Bool, true, false, cond, Option, Some, None, refl, sym, ap, ◌∙◌, subst, nat_cmp, is_eq, arith}
 use Rattle.std.specs.Option.{unwrap_or, IsSome}
 use Rattle.std.specs.Cmp.{IsTotalOrder}
 use Rattle.std.specs.Cmp.Lexicographic.{slice_cmp}
@@ -67,3 +67,9 @@ tally-set k old new m e q =
     lowered (is_eq (key_cmp q k)) (tally old k - 1) (tally new q) (tally old q)
     (ap (λ es. tally es q) e ∙ ap (λ o. unwrap_or o 0) (lookup-set keys_total q k (tally old k - 1) old (is_there (lookup (is_at (key_cmp k)) old) m)) ∙ spread (is_eq (key_cmp q k)) (lookup (is_at (key_cmp q)) old) (tally old k - 1))
     (λ t. ap (λ x. x - 1) (here k q old t))
+
+pub tally-raised : (k : List ℕ × List ℕ) (n : ℕ) (old new : List ((List ℕ × List ℕ) × ℕ)) → n ≡ tally old k → 1 ≤ n → new ≡ set_value (is_at (key_cmp k)) old (n + 1) → (q : List ℕ × List ℕ) → tally new q ≡ tally old q + one_at k q
+tally-raised k n old new m l e q =
+    raised (is_eq (key_cmp q k)) (n + 1) (tally new q) (tally old q)
+    (ap (λ es. tally es q) e ∙ ap (λ o. unwrap_or o 0) (lookup-set keys_total q k (n + 1) old (is_there (lookup (is_at (key_cmp k)) old) (subst (λ x. 1 ≤ x) m l))) ∙ spread (is_eq (key_cmp q k)) (lookup (is_at (key_cmp q)) old) (n + 1))
+    (λ t. ap (λ x. x + 1) (m ∙ here k q old t))

@@ -1,7 +1,7 @@
 -- Edges as a list in the order of their keys, which are source and id.
 use Rattle.std.specs.Prelude.{ℕ, List, Bool, Option, map}
 use Rattle.std.specs.declared.cmp.Ordering.{Ordering}
-use Rattle.std.specs.Ordering.{nat_cmp, is_eq}
+use Rattle.std.specs.Ordering.{nat_cmp, is_eq, is_lt}
 use Rattle.std.specs.Cmp.Lexicographic.{slice_cmp}
 use Rattle.std.specs.List.{filter, count_by}
 use Rattle.std.specs.List.Sorted.{IsStrictlySortedBy}
@@ -54,6 +54,13 @@ module _ {P : Type 0} where
 
   abbrev pub into_of : List ℕ → List (Edge P) → List (Edge P)
   into_of target es = filter (is_into target) es
+
+  -- those whose ids are past an id, and those whose source and id are past a source and an id
+  abbrev pub out_past : List ℕ → List ℕ → List (Edge P) → List (Edge P)
+  out_past source id es = filter (λ e. is_lt (slice_cmp nat_cmp id e.id)) (out_of source es)
+
+  abbrev pub into_past : List ℕ → List ℕ × List ℕ → List (Edge P) → List (Edge P)
+  into_past target source_and_id es = filter (λ e. is_lt (key_cmp source_and_id (key e))) (into_of target es)
 
   -- how many edges of a source have this name
   abbrev pub named : List ℕ → List ℕ → List (Edge P) → ℕ

@@ -31,8 +31,12 @@ pub fn add(
     if count == u64::MAX {
         return Err(OutOfMemory);
     }
-    let copy = name.copy(alloc)?;
-    counts.insert(source, copy, count + 1)?;
+    if count == 0 {
+        let copy = name.copy(alloc)?;
+        counts.insert(source, copy, 1)?;
+        return Ok(());
+    }
+    counts.set(source, name, count + 1);
     Ok(())
 }
 

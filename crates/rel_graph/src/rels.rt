@@ -2,7 +2,7 @@
 
 ghost use Rattle.std.specs.Prelude.{◌≡◌, [], length, IfOk, IfErr, OnErr, OnOk};
 ghost use Rattle.std.specs.Option.{option_copied};
-ghost use Rattle.rel_graph.specs.Edges.{edge_at, with_edge, without_edge, out_of, into_of, named, InOrder};
+ghost use Rattle.rel_graph.specs.Edges.{edge_at, with_edge, without_edge, out_of, into_of, out_past, into_past, named, InOrder};
 
 use crate::counts::count_at;
 use crate::edge::{Edge, PutEnd};
@@ -88,6 +88,26 @@ impl<P: Drop> Rels<P> {
         Into {
             edges: &self.edges,
             slots: self.index.links.row(target),
+        }
+    }
+
+    /// The edges of a source whose ids are past an id, in the order of their ids. Takes no memory.
+    pub fn out_after(&self, source: &Text, id: &Text) -> Out<'_, P>
+        ensures { result ≡ out_past source.now id.now self.now }
+    {
+        Out {
+            edges: &self.edges,
+            slots: self.order.row_after(source, id),
+        }
+    }
+
+    /// The edges of a target that are past a source and an id, in the order of source and id. Takes no memory.
+    pub fn into_after(&self, target: &Text, source_and_id: &(Text, Text)) -> Into<'_, P>
+        ensures { result ≡ into_past target.now source_and_id.now self.now }
+    {
+        Into {
+            edges: &self.edges,
+            slots: self.index.links.row_after(target, source_and_id),
         }
     }
 

@@ -26,12 +26,12 @@ returns-in_default-clause-entries g c =
 pub returns-clause-value : goal.returns-clause-value
 returns-clause-value g c =
     let looked : lookup (is_at (C c.args.at.now)) c.self.inside.rows.entries ≡ Some c.in-Some.row.now = sym c.get_mut.ensures.value ∙ ap option_copied_mut c.in-Some.is in
-    c.remove.ensures.value ∙ found g.K.Ord.cmp c.args.at.now c.args.key.now c.self.inside.rows.entries c.in-Some.row.now c.args.self.now c.self.invariant.0 c.self.view_is looked
+    c.remove-value.ensures.value ∙ found g.K.Ord.cmp c.args.at.now c.args.key.now c.self.inside.rows.entries c.in-Some.row.now c.args.self.now c.self.invariant.0 c.self.view_is looked
 
 pub returns-clause-entries : goal.returns-clause-entries
 returns-clause-entries g c =
     let looked : lookup (is_at (C c.args.at.now)) c.self.inside.rows.entries ≡ Some c.in-Some.row.now = sym c.get_mut.ensures.value ∙ ap option_copied_mut c.in-Some.is in
-    ap flat ((c.get_mut.follows.holds c.remove.new.self).0 ∙ ap (set_value (is_at (C c.args.at.now)) c.self.inside.rows.entries) c.remove.ensures.entries)
+    ap flat ((c.get_mut.follows.holds c.remove-value.new.self).0 ∙ ap (set_value (is_at (C c.args.at.now)) c.self.inside.rows.entries) c.remove-value.ensures.entries)
     ∙ remove-flat g.K.Ord.cmp c.args.at.now c.args.key.now c.in-Some.row.now c.self.inside.rows.entries c.self.invariant.0 looked
     ∙ ap (remove_entry (is_at (pair_cmp g.K.Ord.cmp (c.args.at.now, c.args.key.now)))) c.self.view_is
 
@@ -45,5 +45,5 @@ returns-clause-ordered g c =
 
 pub invariant_of-self-2 : goal.invariant_of-self-2
 invariant_of-self-2 g c =
-    let written = c.get_mut.follows.holds c.remove.new.self in
-    (written.4, subst (λ es. All (λ row. IsStrictlySortedBy g.K.Ord.cmp (keys_of row)) (values_of es)) (sym written.0) (All-values-set_value (is_at (C c.args.at.now)) (λ row. IsStrictlySortedBy g.K.Ord.cmp (keys_of row)) c.self.inside.rows.entries c.remove.new.self c.self.invariant.1 c.remove.ensures.ordered))
+    let written = c.get_mut.follows.holds c.remove-value.new.self in
+    (written.4, subst (λ es. All (λ row. IsStrictlySortedBy g.K.Ord.cmp (keys_of row)) (values_of es)) (sym written.0) (All-values-set_value (is_at (C c.args.at.now)) (λ row. IsStrictlySortedBy g.K.Ord.cmp (keys_of row)) c.self.inside.rows.entries c.remove-value.new.self c.self.invariant.1 c.remove-value.ensures.ordered))

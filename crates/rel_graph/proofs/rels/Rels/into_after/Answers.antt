@@ -1,0 +1,18 @@
+use Rattle.std.proofs.Common.{◌≡◌, ◌≢◌, ℕ, List, [], Option, Some, None, IfOk, OnOk, OnErr, refl, sym, ap, ◌∙◌, subst, arith}
+use Rattle.std.specs.Option.{option_copied, option_and_then, IsSome, IsSomeAnd}
+use Rattle.std.specs.Map.{lookup, values_of, remove_entry}
+use Rattle.std.specs.BTreeMap.{is_at, insert_entry}
+use Rattle.slab.specs.Slab as slab
+use Rattle.rel_graph.specs.Edges.{key_cmp, key, edge_at, with_edge, without_edge, out_past, into_past}
+use Rattle.rel_graph.specs.Slots.{edges_at, IsKept, HasKey}
+use Rattle.rel_graph.proofs.Joined.{edge_at-edges, edges-remove}
+use Rattle.rel_graph.proofs.Steps.{stand}
+use Rattle.rel_graph.proofs.Listed.{listed-into-after}
+use Rattle.rel_graph.proofs.Changes as changes
+use Rattle.rel_graph.proofs.rels.Rels.into_after.Goals as goal
+
+pub returns : goal.returns
+returns g c =
+    ap (λ es. edges_at (slab.get c.self.inside.edges) (values_of es)) c.row_after.ensures.rest
+    ∙ listed-into-after (slab.get c.self.inside.edges) c.self.inside.order c.self.inside.index.links c.self.inside.index.counts c.self.inside.len c.self.invariant c.args.target.now c.args.source_and_id.now c.row_after.ensures.ordered
+    ∙ ap (into_past c.args.target.now c.args.source_and_id.now) c.self.view_is
