@@ -1,5 +1,5 @@
 -- The next entry past a key: in the row of its text, or the first of the rows past it.
-use Rattle.std.proofs.Common.{◌≡◌, ℕ, List, [], ◌∷◌, ◌++◌, Bool, true, false, cond, Option, Some, None, refl, sym, ap, ◌∙◌, subst, Ordering, Less, Equal, Greater, is_eq}
+use Rattle.std.proofs.Common.{◌≡◌, ℕ, List, [], ◌∷◌, ◌++◌, Bool, true, false, cond, Option, Some, refl, sym, ap, ◌∙◌, subst, Ordering, Less, Equal, Greater, is_eq}
 use Rattle.std.specs.Option.{option_or, option_map, unwrap_or}
 use Rattle.std.specs.Ordering.{ordering_then, is_lt}
 use Rattle.std.specs.List.{AllByRecursion, filter, find}
@@ -9,7 +9,7 @@ use Rattle.std.specs.BTreeMap.{is_at}
 use Rattle.std.proofs.lemmas.Map.Keys.{sorted_head, sorted_tail}
 use Rattle.std.proofs.lemmas.Map.Lookups.{exact_bytes}
 use Rattle.ordered_table.specs.Rows.{pair_cmp, under, flat}
-use Rattle.ordered_table.proofs.Flat.{C, c_total, none_later, none_below}
+use Rattle.ordered_table.proofs.Flat.{C, c_total, none_below}
 use Rattle.ordered_table.proofs.Kept.{all_less}
 
 -- the first that a test keeps is the first that it finds
@@ -75,6 +75,6 @@ module _ {K V : Type 0} (R : K → K → Ordering) where
             in_row at r.0 k r.1 (flat rs) h
             ∙ ap (λ t. option_or (option_map (λ (e : K × V). ((t, e.0), e.1)) (find (λ e. is_lt (R k e.0)) r.1)) (find (is_past at k) (flat rs))) (sym same)
             ∙ ap (option_or (option_map (λ (e : K × V). ((at, e.0), e.1)) (find (λ e. is_lt (R k e.0)) r.1)))
-              (first_past at k rs (past_same at r.0 (keys_of rs) same head) ∙ ap (λ xs. find (λ _. true) (flat xs)) (sym (all_past at rs (past_same at r.0 (keys_of rs) same head))))
+            (first_past at k rs (past_same at r.0 (keys_of rs) same head) ∙ ap (λ xs. find (λ _. true) (flat xs)) (sym (all_past at rs (past_same at r.0 (keys_of rs) same head))))
         | Greater ↦ λ h. before_row at r.0 k r.1 (flat rs) h ∙ next-flat at k rs (sorted_tail C r.0 (keys_of rs) s)
       ] refl

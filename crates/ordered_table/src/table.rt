@@ -101,9 +101,7 @@ impl<K: Ord, V> Table<K, V> {
 }
 
 /// The first entry of some rows, of which some may have no entries.
-fn first_of<'a, K: Ord, V>(
-    mut rows: Range<'a, Text, Row<K, V>>,
-) -> Option<(&'a Text, &'a K, &'a V)>
+fn first_of<'a, K: Ord, V>(mut rows: Range<'a, Text, Row<K, V>>) -> Option<(&'a Text, &'a K, &'a V)>
     ensures { option_map (λ x. ((x.0.now, x.1.now), x.2.now)) result ≡ find (λ _. true) (flat rows.entry) }
 {
     while let Some((text, row)) = rows.next() {
@@ -183,12 +181,7 @@ impl<K: Ord + Drop, V: Drop> Table<K, V> {
     }
 
     /// Puts a value into a row that may have to be made.
-    fn put_first(
-        &mut self,
-        at: &Text,
-        key: K,
-        value: V,
-    ) -> Result<Option<V>, AllocFailed<(K, V)>>
+    fn put_first(&mut self, at: &Text, key: K, value: V) -> Result<Option<V>, AllocFailed<(K, V)>>
         ensures old { IfOk result (λ old. old ≡ lookup (is_at (pair_cmp K.cmp (at.now, key))) self.old) }
         ensures ok { OnOk result (self.new ≡ insert_entry (pair_cmp K.cmp) self.old (at.now, key) value) }
         ensures back { IfErr result (λ failed. failed.value ≡ (key, value)) }
@@ -211,12 +204,7 @@ impl<K: Ord + Drop, V: Drop> Table<K, V> {
 
     /// Puts a value under a text and a key, and gives the one that was there. `Err` is want of memory: it hands the key
     /// and the value back, and nothing changes.
-    pub fn insert(
-        &mut self,
-        at: &Text,
-        key: K,
-        value: V,
-    ) -> Result<Option<V>, AllocFailed<(K, V)>>
+    pub fn insert(&mut self, at: &Text, key: K, value: V) -> Result<Option<V>, AllocFailed<(K, V)>>
         ensures old { IfOk result (λ old. old ≡ lookup (is_at (pair_cmp K.cmp (at.now, key))) self.old) }
         ensures ok { OnOk result (self.new ≡ insert_entry (pair_cmp K.cmp) self.old (at.now, key) value) }
         ensures back { IfErr result (λ failed. failed.value ≡ (key, value)) }

@@ -1,7 +1,6 @@
 -- The fields of the edges after an edge was put in, put over another, handed back or taken out.
-use Rattle.std.proofs.Common.{◌≡◌, ◌≢◌, ℕ, ◌+◌, ◌-◌, List, [], Bool, true, false, cond, Option, Some, None, refl, sym, ap, ◌∙◌, subst, nat_cmp, is_eq, length, arith, ⊎_elim}
-use Rattle.std.specs.Option.{option_and, option_and_then, IsSome, IsSomeAnd}
-use Rattle.std.specs.List.{AllByRecursion, count_by}
+use Rattle.std.proofs.Common.{◌≡◌, ◌≢◌, ℕ, ◌+◌, ◌-◌, List, Bool, true, false, cond, Option, Some, None, refl, sym, ap, ◌∙◌, subst, is_eq, arith, ⊎_elim}
+use Rattle.std.specs.Option.{option_and, option_and_then, IsSome}
 use Rattle.std.specs.List.Sorted.{IsStrictlySortedBy}
 use Rattle.std.specs.Map.{lookup, remove_entry, keys_of, values_of}
 use Rattle.std.specs.BTreeMap.{is_at, insert_entry}
@@ -13,11 +12,11 @@ use Rattle.ordered_table.proofs.Flat.{C, c_total}
 use Rattle.ordered_table.proofs.Ordered.{lookup-insert, unlike}
 use Rattle.ordered_table.proofs.Kept.{sorted-insert, sorted-remove, lookup-removed, all_by_lookups}
 use Rattle.rel_graph.specs.declared.edge.Edge.{Edge}
-use Rattle.rel_graph.specs.Edges.{key_cmp, key, keyed, is_into, is_named, with_edge, without_edge}
+use Rattle.rel_graph.specs.Edges.{key_cmp, key, keyed, is_named, with_edge, without_edge}
 use Rattle.rel_graph.specs.Slots.{link_cmp, link, tally, one_at, edges_at, HasKey, leads_to, slot_to, IsKept}
-use Rattle.rel_graph.proofs.Tallies.{keys_total, same_key}
-use Rattle.rel_graph.proofs.Joined.{AllStand, AllSame, edge_at-edges, edges-insert, edges-same, edges-remove}
-use Rattle.rel_graph.proofs.Steps.{all_stand, stand, sorted-keyed, fresh, own_key, other_slot, stands-step, linked-step, length_as_sum, sum-new, sum-over, sum-out, link_else, link_here}
+use Rattle.rel_graph.proofs.Tallies.{keys_total}
+use Rattle.rel_graph.proofs.Joined.{AllSame, edge_at-edges, edges-insert, edges-same, edges-remove}
+use Rattle.rel_graph.proofs.Steps.{stand, sorted-keyed, fresh, own_key, other_slot, stands-step, linked-step, length_as_sum, sum-new, sum-over, sum-out, link_else, link_here}
 
 -- the link of the edge that left leads to the new slot, where both edges have one target, and to none otherwise
 over_links : (a b c : Bool) (slot place : ℕ) → (a ≡ true → c ≡ b) → cond a (cond c (Some slot) None) (cond b (Some slot) (cond a (Some place) None)) ≡ cond b (Some slot) None
@@ -46,9 +45,6 @@ module _ {P : Type 0} where
     tallied = λ q. t q ∙ k.tallied q;
     counted = k.counted;
   }
-
-
-
 
   -- ---- an edge in a slot that was vacant
   module _ (at at1 : ℕ → Option (Edge P)) (order : List ((List ℕ × List ℕ) × ℕ)) (links : List ((List ℕ × (List ℕ × List ℕ)) × ℕ)) (counts : List ((List ℕ × List ℕ) × ℕ)) (len : ℕ) (kept : IsKept at order links counts len)

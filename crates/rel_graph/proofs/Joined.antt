@@ -1,12 +1,12 @@
 -- The first order with the edges in its slots, under a change of the order or of the slots.
-use Rattle.std.proofs.Common.{◌≡◌, ℕ, List, [], ◌∷◌, map, Bool, true, false, cond, Option, Some, None, refl, sym, ap, ◌∙◌, Ordering, Less, Equal, Greater}
-use Rattle.std.specs.Option.{option_and_then, IsSomeAnd}
+use Rattle.std.proofs.Common.{◌≡◌, ℕ, List, [], ◌∷◌, map, Bool, true, false, cond, Option, Some, None, refl, sym, ap, ◌∙◌, Less, Equal, Greater}
+use Rattle.std.specs.Option.{option_and_then}
 use Rattle.std.specs.Ordering.{match_ordering}
 use Rattle.std.specs.List.{AllByRecursion, cons_option}
 use Rattle.std.specs.Map.{lookup, remove_entry, keys_of, values_of}
 use Rattle.std.specs.BTreeMap.{is_at, insert_entry}
 use Rattle.rel_graph.specs.declared.edge.Edge.{Edge}
-use Rattle.rel_graph.specs.Edges.{key_cmp, key, keyed, edge_at, with_edge, without_edge}
+use Rattle.rel_graph.specs.Edges.{key_cmp, key, keyed, with_edge, without_edge}
 use Rattle.rel_graph.specs.Slots.{edges_at, HasKey}
 
 module _ {P : Type 0} where
@@ -58,9 +58,9 @@ module _ {P : Type 0} where
       elim (at x.1) as (λ o. at x.1 ≡ o → HasKey o x.0 → lookup test (put_at x.0 o (joined at xs)) ≡ option_and_then at (cond (test x.0) (Some x.1) (lookup test xs))) [
         | None ↦ λ p h. absurd h
         | Some e ↦ λ p h. elim (test x.0) as (λ b. cond b (Some e) (lookup test (joined at xs)) ≡ option_and_then at (cond b (Some x.1) (lookup test xs))) [
-            | true ↦ sym p
-            | false ↦ lookup-joined at test xs a.1
-          ]
+          | true ↦ sym p
+          | false ↦ lookup-joined at test xs a.1
+        ]
       ] refl a.0
 
   pub joined-same : (at at' : ℕ → Option (Edge P)) (order : List ((List ℕ × List ℕ) × ℕ)) → AllSame at at' order → joined at' order ≡ joined at order
@@ -88,9 +88,9 @@ module _ {P : Type 0} where
       elim (at x.1) as (λ o. at x.1 ≡ o → HasKey o x.0 → joined at (cond (test x.0) xs (x ∷ remove_entry test xs)) ≡ remove_entry test (put_at x.0 o (joined at xs))) [
         | None ↦ λ p h. absurd h
         | Some e ↦ λ p h. elim (test x.0) as (λ b. joined at (cond b xs (x ∷ remove_entry test xs)) ≡ cond b (joined at xs) ((x.0, e) ∷ remove_entry test (joined at xs))) [
-            | true ↦ refl
-            | false ↦ ap (λ o. put_at x.0 o (joined at (remove_entry test xs))) p ∙ ap (λ es. (x.0, e) ∷ es) (joined-remove at test xs a.1)
-          ]
+          | true ↦ refl
+          | false ↦ ap (λ o. put_at x.0 o (joined at (remove_entry test xs))) p ∙ ap (λ es. (x.0, e) ∷ es) (joined-remove at test xs a.1)
+        ]
       ] refl a.0
 
   -- ---- the list of edges

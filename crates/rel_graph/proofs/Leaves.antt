@@ -1,6 +1,6 @@
 -- What `put` and `remove` leave, over the slab that the fields had, that room was made in, and that was written.
 use Rattle.std.proofs.Common.{◌≡◌, ◌≢◌, ℕ, ◌+◌, ◌-◌, List, [], ◌∷◌, Bool, true, false, cond, Option, Some, None, refl, sym, ap, ◌∙◌, subst, nat_cmp, is_eq, arith}
-use Rattle.std.specs.Option.{option_and, option_and_then, IsSome, IsSomeAnd}
+use Rattle.std.specs.Option.{option_and, option_and_then, IsSome}
 use Rattle.std.specs.Map.{lookup, remove_entry, values_of}
 use Rattle.std.specs.BTreeMap.{is_at, insert_entry}
 use Rattle.std.specs.Cmp.Lexicographic.{slice_cmp}
@@ -10,7 +10,7 @@ use Rattle.ordered_table.proofs.Ordered.{unlike}
 use Rattle.rel_graph.proofs.Tallies.{exact_keys}
 use Rattle.slab.specs.Slab.{Slab, get, Updates}
 use Rattle.rel_graph.specs.declared.edge.Edge.{Edge}
-use Rattle.rel_graph.specs.Edges.{key_cmp, key, keyed, edge_at, with_edge, without_edge}
+use Rattle.rel_graph.specs.Edges.{key_cmp, key, edge_at, with_edge, without_edge}
 use Rattle.rel_graph.specs.Slots.{link_cmp, link, tally, one_at, edges_at, HasKey, IsKept}
 use Rattle.rel_graph.proofs.Joined.{edge_at-edges, edges-remove}
 use Rattle.rel_graph.proofs.Steps.{stand}

@@ -1,5 +1,5 @@
 -- The slots that the two orders list are those of the edges of a source, and of a target.
-use Rattle.std.proofs.Common.{◌≡◌, ℕ, List, [], ◌∷◌, map, Bool, true, false, cond, Option, Some, None, refl, sym, ap, ◌∙◌, subst, nat_cmp, is_eq}
+use Rattle.std.proofs.Common.{◌≡◌, ℕ, List, [], ◌∷◌, map, Bool, true, false, cond, Option, Some, None, refl, sym, ap, ◌∙◌, subst, is_eq}
 use Rattle.std.specs.Option.{IsSomeAnd}
 use Rattle.std.specs.Ordering.{is_lt}
 use Rattle.std.specs.List.{AllByRecursion, cons_option, filter}
@@ -13,7 +13,7 @@ use Rattle.ordered_table.specs.Rows.{row_at, row_of}
 use Rattle.ordered_table.proofs.Flat.{C}
 use Rattle.ordered_table.proofs.Kept.{same_by_lookups, lookup-row, sorted-row, sorted-filter}
 use Rattle.rel_graph.specs.declared.edge.Edge.{Edge}
-use Rattle.rel_graph.specs.Edges.{key_cmp, key, keyed, InOrder, is_from, is_into, out_of, into_of, out_past, into_past}
+use Rattle.rel_graph.specs.Edges.{key_cmp, key, InOrder, is_into, out_of, into_of, out_past, into_past}
 use Rattle.rel_graph.specs.Slots.{link_cmp, edges_at, HasKey, leads_to, slot_to, IsKept}
 use Rattle.rel_graph.proofs.Tallies.{keys_total, exact_keys}
 use Rattle.rel_graph.proofs.Joined.{AllStand, keys-keyed}
@@ -60,9 +60,9 @@ module _ {P : Type 0} (at : ℕ → Option (Edge P)) where
     all_keyed-filter : (p : K × ℕ → Bool) (xs : List (K × ℕ)) → AllKeyed xs → AllKeyed (filter p xs)
     all_keyed-filter p [] a = tt
     all_keyed-filter p (x ∷ xs) a = elim (p x) as (λ b. AllKeyed (cond b (x ∷ filter p xs) (filter p xs))) [
-        | true ↦ (a.0, all_keyed-filter p xs a.1)
-        | false ↦ all_keyed-filter p xs a.1
-      ]
+      | true ↦ (a.0, all_keyed-filter p xs a.1)
+      | false ↦ all_keyed-filter p xs a.1
+    ]
 
   all_keyed : (order : List ((List ℕ × List ℕ) × ℕ)) → AllStand at order → AllKeyed key order
   all_keyed order a = a

@@ -1,24 +1,22 @@
 -- The fields of the edges still hang together after one edge changed.
-use Rattle.std.proofs.Common.{◌≡◌, ◌≢◌, ℕ, ◌+◌, ◌-◌, List, [], ◌∷◌, Bool, true, false, cond, Option, Some, None, refl, sym, ap, ◌∙◌, subst, Ordering, Less, Equal, Greater, nat_cmp, is_eq, true≢false, length, arith, ⊎_elim}
-use Rattle.std.specs.Option.{option_and_then, option_map, unwrap_or, IsSomeAnd}
+use Rattle.std.proofs.Common.{◌≡◌, ◌≢◌, ℕ, ◌+◌, List, true, false, cond, Option, Some, None, refl, sym, ap, ◌∙◌, subst, Ordering, Less, Equal, Greater, is_eq, true≢false, length, arith, ⊎_elim}
+use Rattle.std.specs.Option.{option_map, unwrap_or}
 use Rattle.std.specs.Ordering.{ordering_then}
-use Rattle.std.specs.List.{sum_by, count_by, filter}
+use Rattle.std.specs.List.{sum_by}
 use Rattle.std.specs.List.Sorted.{IsStrictlySortedBy}
-use Rattle.std.specs.Map.{lookup, remove_entry, keys_of, values_of}
-use Rattle.std.specs.BTreeMap.{is_at, insert_entry}
+use Rattle.std.specs.Map.{lookup, keys_of, values_of}
+use Rattle.std.specs.BTreeMap.{is_at}
 use Rattle.std.proofs.lemmas.Bool.{cases_Bool}
 use Rattle.std.proofs.lemmas.Cmp.{tied_itself}
-use Rattle.std.proofs.lemmas.Option.{same_Some, none-some}
 use Rattle.std.proofs.lemmas.List.Sums.{length-filter}
 use Rattle.std.proofs.lemmas.Map.Entries.{sum_by-insert_entry, sum_by-remove_entry}
-use Rattle.ordered_table.proofs.Flat.{C, c_total}
-use Rattle.ordered_table.proofs.Ordered.{lookup-insert, unlike}
-use Rattle.ordered_table.proofs.Kept.{sorted-insert, sorted-remove, lookup-removed, all_by_lookups, filter-all}
+use Rattle.ordered_table.proofs.Flat.{C}
+use Rattle.ordered_table.proofs.Kept.{all_by_lookups, filter-all}
 use Rattle.rel_graph.specs.declared.edge.Edge.{Edge}
-use Rattle.rel_graph.specs.Edges.{key_cmp, key, keyed, is_into, is_named, with_edge, without_edge}
-use Rattle.rel_graph.specs.Slots.{link_cmp, link, tally, one_at, edges_at, HasKey, leads_to, slot_to, IsKept}
+use Rattle.rel_graph.specs.Edges.{key_cmp, key, keyed, with_edge, without_edge}
+use Rattle.rel_graph.specs.Slots.{link_cmp, edges_at, HasKey, leads_to, slot_to, IsKept}
 use Rattle.rel_graph.proofs.Tallies.{keys_total, same_key}
-use Rattle.rel_graph.proofs.Joined.{AllStand, AllSame, keyed-joined, keys-joined, values-keyed, edge_at-edges, edges-insert, edges-same, edges-remove}
+use Rattle.rel_graph.proofs.Joined.{AllStand, keyed-joined, keys-joined, values-keyed}
 
 -- ---- links at a key, and at another
 alone : (r : Ordering) → is_eq (ordering_then r Equal) ≡ is_eq r

@@ -7,6 +7,7 @@ use std::test::Fail;
 
 /// How many steps are taken, and how many different sources, ids, names and targets there are.
 const STEPS: u64 = 3_000;
+
 const KINDS: u64 = 5;
 
 /// Edges in the order of source and id.
@@ -54,7 +55,11 @@ fn chance(state: &mut u64, limit: u64) -> u64 {
     *state = state
         .wrapping_mul(6_364_136_223_846_793_005)
         .wrapping_add(1_442_695_040_888_963_407);
-    if limit == 0 { 0 } else { (*state >> 33) % limit }
+    if limit == 0 {
+        0
+    } else {
+        (*state >> 33) % limit
+    }
 }
 
 /// One of few texts, of which some begin others.
@@ -81,7 +86,11 @@ fn edge(alloc: Global, state: &mut u64) -> Result<Edge<u64>, Fail> {
 
 /// Whether two edges are equal in each part.
 fn is_same(x: &Edge<u64>, y: &Edge<u64>) -> bool {
-    x.source == y.source && x.id == y.id && x.name == y.name && x.target == y.target && x.payload == y.payload
+    x.source == y.source
+        && x.id == y.id
+        && x.name == y.name
+        && x.target == y.target
+        && x.payload == y.payload
 }
 
 fn is_same_answer(x: &Option<Edge<u64>>, y: &Option<Edge<u64>>) -> bool {

@@ -1,4 +1,4 @@
-use Rattle.std.proofs.Common.{List, ℕ, Some, None, cond, is_eq, sym, ap, ◌∙◌, refl, subst}
+use Rattle.std.proofs.Common.{List, ℕ, cond, is_eq, sym, ap, ◌∙◌, refl, subst}
 use Rattle.std.specs.Option.{IsSome}
 use Rattle.std.specs.Map.{lookup}
 use Rattle.std.specs.BTreeMap.{is_at}

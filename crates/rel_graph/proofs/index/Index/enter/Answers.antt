@@ -1,4 +1,4 @@
-use Rattle.std.proofs.Common.{List, ℕ, Some, cond, is_eq, ap, ◌∙◌}
+use Rattle.std.proofs.Common.{List, ℕ, ap, ◌∙◌}
 use Rattle.std.specs.Map.{lookup}
 use Rattle.std.specs.BTreeMap.{is_at, insert_entry}
 use Rattle.ordered_table.proofs.Ordered.{lookup-insert}

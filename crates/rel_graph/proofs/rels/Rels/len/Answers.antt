@@ -1,14 +1,7 @@
-use Rattle.std.proofs.Common.{◌≡◌, ◌≢◌, ℕ, List, [], Option, Some, None, IfOk, OnOk, OnErr, refl, sym, ap, ◌∙◌, subst, arith}
-use Rattle.std.specs.Option.{option_copied, option_and_then, IsSome, IsSomeAnd}
-use Rattle.std.specs.Map.{lookup, values_of, remove_entry}
-use Rattle.std.specs.BTreeMap.{is_at, insert_entry}
+use Rattle.std.proofs.Common.{subst}
 use Rattle.slab.specs.Slab as slab
-use Rattle.rel_graph.specs.Edges.{key_cmp, key, edge_at, with_edge, without_edge, out_of, into_of, InOrder}
-use Rattle.rel_graph.specs.Slots.{edges_at, IsKept, HasKey}
-use Rattle.rel_graph.proofs.Joined.{edge_at-edges, edges-remove}
-use Rattle.rel_graph.proofs.Steps.{stand}
-use Rattle.rel_graph.proofs.Listed.{listed-out, listed-into, in_order}
-use Rattle.rel_graph.proofs.Changes as changes
+use Rattle.rel_graph.specs.Edges.{InOrder}
+use Rattle.rel_graph.proofs.Listed.{in_order}
 use Rattle.rel_graph.proofs.rels.Rels.len.Goals as goal
 
 pub returns-clause-ordered : goal.returns-clause-ordered

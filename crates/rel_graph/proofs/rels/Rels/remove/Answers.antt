@@ -1,10 +1,7 @@
-use Rattle.std.proofs.Common.{◌≡◌, ℕ, List, Option, Some, None, sym, ap, ◌∙◌, subst, refl}
-use Rattle.std.specs.Map.{lookup}
-use Rattle.std.specs.BTreeMap.{is_at}
+use Rattle.std.proofs.Common.{Some, sym, ap, ◌∙◌, subst}
 use Rattle.slab.specs.Slab.{get}
 use Rattle.rel_graph.specs.Slots.{IsKept}
-use Rattle.rel_graph.proofs.Changes.{kept-same}
-use Rattle.rel_graph.proofs.Leaves.{kept-room, left-new, left-over, left-none, left-out, has_place, has_link, has_edge}
+use Rattle.rel_graph.proofs.Leaves.{left-none, left-out, has_edge}
 use Rattle.rel_graph.proofs.rels.Rels.remove.Goals as goal
 
 pub invariant_of-self : goal.invariant_of-self
