@@ -1,0 +1,85 @@
+//! The edges that are put: each from one twin to another, under a name and an id of its own.
+
+use dt_base::{OutOfMemory, Text};
+use rel_graph::Edge;
+use std::alloc::Global;
+
+/// How many edges there are for each twin.
+const EDGES_EACH: u64 = 4;
+
+/// The texts that edges share.
+#[derive(Drop)]
+pub struct Graph {
+    pub twins: Vec<Text>,
+    pub names: Vec<Text>,
+}
+
+/// An edge's source and id.
+#[derive(Drop)]
+pub struct Query {
+    pub source: Text,
+    pub id: Text,
+}
+
+impl Graph {
+    pub fn new(alloc: Global, edges: u64) -> Result<Graph, OutOfMemory> {
+        let mut twins = Vec::new(alloc);
+        for k in 0..edges / EDGES_EACH {
+            twins.push(Text::from_string(format!(in alloc; "twin-{k:07}")?))?;
+        }
+        let mut names = Vec::new(alloc);
+        for name in ["contains", "feeds", "controls", "isNextTo"] {
+            names.push(Text::from_str(alloc, name)?)?;
+        }
+        Ok(Graph { twins, names })
+    }
+}
+
+/// A number that looks like chance.
+fn mixed(x: u64) -> u64 {
+    let x = x.wrapping_add(0x9E37_79B9_7F4A_7C15);
+    let x = (x ^ (x >> 30)).wrapping_mul(0xBF58_476D_1CE4_E5B9);
+    let x = (x ^ (x >> 27)).wrapping_mul(0x94D0_49BB_1331_11EB);
+    x ^ (x >> 31)
+}
+
+/// One of the texts.
+fn pick(alloc: Global, texts: &[Text], x: u64) -> Result<Text, OutOfMemory> {
+    let count = texts.len() as u64;
+    if count == 0 {
+        return Err(OutOfMemory);
+    }
+    let text = &texts[(mixed(x) % count) as usize];
+    text.copy(alloc)
+}
+
+/// The edge of a number.
+pub fn edge_of(alloc: Global, graph: &Graph, k: u64) -> Result<Edge<u64>, OutOfMemory> {
+    let x = k.wrapping_mul(4);
+    Ok(Edge {
+        source: pick(alloc, &graph.twins, x)?,
+        id: Text::from_string(format!(in alloc; "rel-{k:07}")?),
+        name: pick(alloc, &graph.names, x.wrapping_add(1))?,
+        target: pick(alloc, &graph.twins, x.wrapping_add(2))?,
+        payload: mixed(x.wrapping_add(3)),
+    })
+}
+
+/// So many edges, and the source and id of each.
+pub fn queries_of(
+    alloc: Global,
+    graph: &Graph,
+    edges: u64,
+) -> Result<(Vec<Edge<u64>>, Vec<Query>), OutOfMemory> {
+    let mut made = Vec::new(alloc);
+    let mut queries = Vec::new(alloc);
+    for k in 0..edges {
+        let edge = edge_of(alloc, graph, k)?;
+        queries.push(Query {
+            source: edge.source.copy(alloc)?,
+            id: edge.id.copy(alloc)?,
+        })?;
+        made.push(edge)?;
+    }
+    Ok((made, queries))
+}

@@ -1,0 +1,4 @@
+pub mod Flat
+pub mod Ordered
+pub mod Kept
+pub mod After

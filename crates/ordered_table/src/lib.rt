@@ -1,0 +1,8 @@
+//! An ordered map of two levels: entries in the order of a text and a further key, looked up by the two parts as
+//! they are, without copying them into one key.
+#![tactic(auto)]
+
+mod row;
+mod table;
+
+pub use table::Table;
