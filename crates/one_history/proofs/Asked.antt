@@ -12,8 +12,8 @@ use Rattle.one_history.specs.declared.history.Member.{Member}
 use Rattle.one_history.specs.declared.history.Turn.TheVariants.{Idle, Waits}
 use Rattle.one_history.specs.declared.history.View.{View}
 use Rattle.one_history.specs.Histories.{state_after}
-use Rattle.one_history.specs.Rules.{view, alone, parent, child, note, merged, spent, Kept}
-use Rattle.one_history.specs.Plays.{drew, entered, left, awaited, looked, checked}
+use Rattle.one_history.specs.Machinery.Rules.{view, alone, parent, child, note, merged, spent, Kept}
+use Rattle.one_history.specs.Machinery.Plays.{drew, entered, left, awaited, looked, checked}
 use Rattle.one_history.specs.Passes.{Serving}
 use Rattle.one_history.proofs.Steps.{draws, awaits, looks, checks, enters, leaves, splits, notes, joins}
 

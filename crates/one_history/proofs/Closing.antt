@@ -14,7 +14,7 @@ use Rattle.one_history.specs.declared.history.Turn.TheVariants.{Idle, Waits, Ser
 use Rattle.one_history.specs.declared.history.View.{View}
 use Rattle.one_history.specs.declared.shared.Pass.{Pass}
 use Rattle.one_history.specs.Histories.{state_after, own}
-use Rattle.one_history.specs.Rules.{Has, alone, Stands, IsServed, IsInTurn, Kept, AreApart}
+use Rattle.one_history.specs.Machinery.Rules.{Has, alone, Stands, IsServed, IsInTurn, Kept, AreApart}
 use Rattle.one_history.specs.Passes.{seen, number, made, members_of, IsComplete, IsWholeHistory}
 use Rattle.one_history.proofs.Places.{has_one, has_none, has_append, has_left, has_right, at_below, at_once}
 use Rattle.one_history.proofs.Growth.{own_append}

@@ -4,7 +4,7 @@ use mathlib.Core.List.{head-eq_of_cons-eq, tail-eq_of_cons-eq}
 use Rattle.std.proofs.lemmas.Bool.Decides.{nat_tests}
 use Rattle.one_history.specs.declared.history.Entry.{Entry}
 use Rattle.one_history.specs.Histories.{state_after, IsHistory, is_same, own, GrowsByOthers, GrowsByCall, entry}
-use Rattle.one_history.specs.Rules.{Has}
+use Rattle.one_history.specs.Machinery.Rules.{Has}
 
 same_numbers : (xs ys : List ℕ) → is_same xs ys ≡ true → xs ≡ ys
 same_numbers [] [] e = refl

@@ -5,7 +5,7 @@ use lib.ListN.{get_elem?}
 use Rattle.atomic_table.proofs.Lists.{at_set}
 use Rattle.one_history.specs.declared.history.Member.{Member}
 use Rattle.one_history.specs.declared.history.View.{View}
-use Rattle.one_history.specs.Rules.{Has, AreApart}
+use Rattle.one_history.specs.Machinery.Rules.{Has, AreApart}
 use Rattle.one_history.proofs.Places.{end_at}
 
 module _ {X : Type 0} where

@@ -7,7 +7,7 @@ use lib.ListN.{get_elem?}
 use Rattle.one_history.specs.declared.history.Entry.{Entry}
 use Rattle.one_history.specs.Histories.{state_after, IsHistory, is_same, own, GrowsByOthers, GrowsByCall, entry}
 use Rattle.one_history.specs.declared.shared.Pass.{Pass}
-use Rattle.one_history.specs.Rules.{Has}
+use Rattle.one_history.specs.Machinery.Rules.{Has}
 use Rattle.one_history.specs.Passes.{seen, number, IsWholeHistory}
 use Rattle.one_history.proofs.Places.{has_one}
 use Rattle.one_history.proofs.Closing.{has_contains, contains_has, any_has}

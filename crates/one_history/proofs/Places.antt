@@ -3,7 +3,7 @@ use Rattle.std.proofs.Common.{◌≡◌, ℕ, zero, suc, ◌<◌, ◌⊎◌, Lis
 use mathlib.Core.Option.{some, some-injective, some-ne-none}
 use lib.ListN.{get_elem?}
 use Rattle.atomic_table.proofs.Lists.{at_longer}
-use Rattle.one_history.specs.Rules.{Has}
+use Rattle.one_history.specs.Machinery.Rules.{Has}
 
 module _ {X : Type 0} where
   one_at : (x y : X) (k : ℕ) → get_elem? (x ∷ []) k ≡ some y → x ≡ y

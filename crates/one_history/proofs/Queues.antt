@@ -11,7 +11,7 @@ use Rattle.one_history.specs.declared.history.Turn.{Turn}
 use Rattle.one_history.specs.declared.history.Turn.TheVariants.{Idle, Waits, Serves}
 use Rattle.one_history.specs.declared.history.View.{View}
 use Rattle.one_history.specs.Histories.{state_after}
-use Rattle.one_history.specs.Rules.{HasTicket, IsServed, IsInTurn, Queue}
+use Rattle.one_history.specs.Machinery.Rules.{HasTicket, IsServed, IsInTurn, Queue}
 use Rattle.one_history.proofs.Places.{put_at, at_once}
 
 module _ {O A R : Type 0} where

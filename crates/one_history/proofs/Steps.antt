@@ -17,8 +17,8 @@ use Rattle.one_history.specs.declared.history.Turn.{Turn}
 use Rattle.one_history.specs.declared.history.Turn.TheVariants.{Idle, Waits, Serves}
 use Rattle.one_history.specs.declared.history.View.{View}
 use Rattle.one_history.specs.Histories.{state_after, IsHistory, GrowsByOthers, entry}
-use Rattle.one_history.specs.Rules.{Has, newcomer, saw, view, alone, grown, born, spent, merged, Stands, WasTold, IsInTurn, Story, Queue, Kept, AreApart}
-use Rattle.one_history.specs.Plays.{drew, entered, left, Learns, awaited, looked, checked}
+use Rattle.one_history.specs.Machinery.Rules.{Has, newcomer, saw, view, alone, grown, born, spent, merged, Stands, WasTold, IsInTurn, Story, Queue, Kept, AreApart}
+use Rattle.one_history.specs.Machinery.Plays.{drew, entered, left, Learns, awaited, looked, checked}
 use Rattle.one_history.proofs.Places.{has_one, has_none, has_append, has_left, has_right, end_at, at_once}
 use Rattle.one_history.proofs.Growth.{grow_none, history_none, history_one, history_less, state_one}
 use Rattle.one_history.proofs.Stories.{story_moved, story_to, story_split}

@@ -6,7 +6,7 @@ use native.Mathlib.Decide.{ℕ_discrete}
 use Rattle.one_history.specs.declared.history.Entry.{Entry}
 use Rattle.one_history.specs.declared.history.Member.{Member}
 use Rattle.one_history.specs.Histories.{IsHistory, GrowsByOthers}
-use Rattle.one_history.specs.Rules.{Has, saw, grown, born, WasMade, Story}
+use Rattle.one_history.specs.Machinery.Rules.{Has, saw, grown, born, WasMade, Story}
 use Rattle.one_history.proofs.Places.{has_append, has_right}
 use Rattle.one_history.proofs.Growth.{own_absent, grow_none, grow_more}
 

@@ -9,8 +9,8 @@ use Rattle.one_history.specs.declared.history.Entry.{Entry}
 use Rattle.one_history.specs.declared.history.Member.{Member}
 use Rattle.one_history.specs.declared.history.View.{View}
 use Rattle.one_history.specs.Histories.{state_after, IsHistory, GrowsByOthers, GrowsByCall, entry}
-use Rattle.one_history.specs.Rules.{saw, alone}
-use Rattle.one_history.specs.Plays.{Learns}
+use Rattle.one_history.specs.Machinery.Rules.{saw, alone}
+use Rattle.one_history.specs.Machinery.Plays.{Learns}
 use Rattle.one_history.specs.Passes.{seen_of, number_of, made_of}
 use Rattle.one_history.proofs.Growth.{history_one}
 

@@ -6,7 +6,7 @@ use Rattle.atomic_table.proofs.Lists.{at_set, set_else, at_longer, at_last}
 use Rattle.one_history.specs.declared.history.Entry.{Entry}
 use Rattle.one_history.specs.declared.history.Member.{Member}
 use Rattle.one_history.specs.declared.history.View.{View}
-use Rattle.one_history.specs.Rules.{Has, Stands, WasTold}
+use Rattle.one_history.specs.Machinery.Rules.{Has, Stands, WasTold}
 use Rattle.one_history.proofs.Places.{put_at, end_at, at_once}
 
 module _ {O A R : Type 0} where

@@ -1,4 +1,3 @@
 pub mod Histories
-pub mod Rules
-pub mod Plays
+pub mod Machinery
 pub mod Passes

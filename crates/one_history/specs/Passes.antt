@@ -12,7 +12,7 @@ use Rattle.one_history.specs.declared.history.View.{View}
 use Rattle.one_history.specs.declared.shared.Pass.{Pass}
 use Rattle.one_history.specs.declared.shared.Shared.{Shared}
 use Rattle.one_history.specs.Histories.{state_after, IsHistory, own}
-use Rattle.one_history.specs.Rules.{view, alone}
+use Rattle.one_history.specs.Machinery.Rules.{view, alone}
 
 module _ {O A R : Type 0} where
   abbrev pub seen_of : List (Member O A R) → List (Entry A R)

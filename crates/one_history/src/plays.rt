@@ -17,7 +17,7 @@ impl<A, R> Told<A, R> for Brand {
 pub(crate) struct Draw;
 
 impl<O, A, R> Play<Option<O>, View<O, A, R>> for Draw {
-    ghost use Rattle.one_history.specs.Plays.{drew};
+    ghost use Rattle.one_history.specs.Machinery.Plays.{drew};
 
     ghost then = { drew };
 }
@@ -28,7 +28,7 @@ pub(crate) struct Await<O> {
 }
 
 impl<O: Object> Play<Option<O>, View<O, O::Ask, O::Reply>> for Await<O> {
-    ghost use Rattle.one_history.specs.Plays.{awaited};
+    ghost use Rattle.one_history.specs.Machinery.Plays.{awaited};
 
     ghost then = { awaited O.state O.sound O.allowed O.follows };
 }
@@ -39,7 +39,7 @@ pub(crate) struct Look<O> {
 }
 
 impl<O: Object> Play<Option<O>, View<O, O::Ask, O::Reply>> for Look<O> {
-    ghost use Rattle.one_history.specs.Plays.{looked};
+    ghost use Rattle.one_history.specs.Machinery.Plays.{looked};
 
     ghost then = { looked O.state O.sound O.allowed O.follows };
 }
@@ -50,7 +50,7 @@ pub(crate) struct Check<O> {
 }
 
 impl<O: Object> Play<Option<O>, View<O, O::Ask, O::Reply>> for Check<O> {
-    ghost use Rattle.one_history.specs.Plays.{checked};
+    ghost use Rattle.one_history.specs.Machinery.Plays.{checked};
 
     ghost then = { checked O.state O.sound O.allowed O.follows };
 }
@@ -61,7 +61,7 @@ pub(crate) struct Enter<E> {
 }
 
 impl<O, A, R, E: Told<A, R>> Play<Option<O>, View<O, A, R>> for Enter<E> {
-    ghost use Rattle.one_history.specs.Plays.{entered};
+    ghost use Rattle.one_history.specs.Machinery.Plays.{entered};
 
     ghost then = { entered E.told };
 }
@@ -70,7 +70,7 @@ impl<O, A, R, E: Told<A, R>> Play<Option<O>, View<O, A, R>> for Enter<E> {
 pub(crate) struct Leave;
 
 impl<O, A, R> Play<Option<O>, View<O, A, R>> for Leave {
-    ghost use Rattle.one_history.specs.Plays.{left};
+    ghost use Rattle.one_history.specs.Machinery.Plays.{left};
 
     ghost then = { left };
 }
@@ -79,7 +79,7 @@ impl<O, A, R> Play<Option<O>, View<O, A, R>> for Leave {
 pub(crate) struct Cut;
 
 impl<O, A, R> Split<View<O, A, R>> for Cut {
-    ghost use Rattle.one_history.specs.Rules.{parent, child};
+    ghost use Rattle.one_history.specs.Machinery.Rules.{parent, child};
 
     ghost left = { parent };
 
@@ -90,7 +90,7 @@ impl<O, A, R> Split<View<O, A, R>> for Cut {
 pub(crate) struct Note;
 
 impl<O, A, R> Split<View<O, A, R>> for Note {
-    ghost use Rattle.one_history.specs.Rules.{note};
+    ghost use Rattle.one_history.specs.Machinery.Rules.{note};
 
     ghost left = { λ d. d };
 
@@ -101,7 +101,7 @@ impl<O, A, R> Split<View<O, A, R>> for Note {
 pub(crate) struct Merge;
 
 impl<O, A, R> Join<View<O, A, R>> for Merge {
-    ghost use Rattle.one_history.specs.Rules.{merged, spent};
+    ghost use Rattle.one_history.specs.Machinery.Rules.{merged, spent};
 
     ghost both = { merged };
 

@@ -13,7 +13,7 @@ pub struct Law<O> {
 
 impl<O: Object> TableRule<Option<O>, View<O, O::Ask, O::Reply>, Snapshot<O>> for Law<O> {
     ghost use Rattle.std.specs.Prelude.{[]};
-    ghost use Rattle.one_history.specs.Rules.{Kept, alone, newcomer};
+    ghost use Rattle.one_history.specs.Machinery.Rules.{Kept, alone, newcomer};
 
     ghost holds = { λ key. Kept O.state O.sound O.allowed O.follows key.value };
 

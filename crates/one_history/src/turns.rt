@@ -2,8 +2,8 @@
 ghost use Rattle.std.specs.Prelude.{◌≡◌, true, false, ℕ, [], ◌∷◌, ◌++◌, Some, IfOk, OnErr};
 ghost use Rattle.one_history.specs.declared.history.Turn.TheVariants.{Waits, Serves};
 ghost use Rattle.one_history.specs.Histories.{state_after, entry};
-ghost use Rattle.one_history.specs.Rules.{saw, view, alone};
-ghost use Rattle.one_history.specs.Plays.{Learns};
+ghost use Rattle.one_history.specs.Machinery.Rules.{saw, view, alone};
+ghost use Rattle.one_history.specs.Machinery.Plays.{Learns};
 ghost use Rattle.one_history.specs.Passes.{Serving};
 
 use crate::history::View;

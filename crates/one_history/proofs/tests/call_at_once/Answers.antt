@@ -5,7 +5,7 @@ use Rattle.one_history.specs.declared.history.Turn.TheVariants.{Waits}
 use Rattle.one_history.specs.declared.history.View.{View}
 use Rattle.one_history.specs.declared.tests.Ask.{Ask}
 use Rattle.one_history.specs.declared.tests.Number.{Number}
-use Rattle.one_history.specs.Rules.{view, saw}
+use Rattle.one_history.specs.Machinery.Rules.{view, saw}
 use Rattle.one_history.proofs.tests.call_at_once.Goals as goal
 
 pub serve-answer-requires-clause-ready : goal.serve-answer-requires-clause-ready

@@ -5,7 +5,7 @@ use Rattle.atomic_table.specs.Table.{Me}
 use Rattle.one_history.specs.declared.history.Turn.TheVariants.{Waits}
 use Rattle.one_history.specs.declared.history.View.{View}
 use Rattle.one_history.specs.Histories.{GrowsByCall, GrowsByOthers}
-use Rattle.one_history.specs.Rules.{view, saw}
+use Rattle.one_history.specs.Machinery.Rules.{view, saw}
 use Rattle.one_history.specs.Passes.{seen_of, number_of}
 use Rattle.one_history.proofs.Told.{me_number, me_made, called}
 use Rattle.one_history.proofs.shared.Shared.call.Goals as goal

@@ -1,6 +1,6 @@
 use Rattle.std.proofs.Common.{rules, ◌≡◌, ◌≢◌, ◌<◌, ◌∙◌, [], sym, refl}
 use Rattle.one_history.specs.declared.history.Turn.TheVariants.{Waits}
-use Rattle.one_history.specs.Rules.{view}
+use Rattle.one_history.specs.Machinery.Rules.{view}
 use Rattle.one_history.proofs.Asked.{asks_draw}
 use Rattle.one_history.proofs.shared.Shared.draw.Goals as goal
 

@@ -1,7 +1,7 @@
 use Rattle.std.proofs.Common.{rules, [], ◌∷◌, ◌++◌, ◌∙◌}
 use Rattle.std.specs.Prelude.{Some}
 use Rattle.one_history.specs.Histories.{entry}
-use Rattle.one_history.specs.Rules.{saw, alone}
+use Rattle.one_history.specs.Machinery.Rules.{saw, alone}
 use Rattle.one_history.proofs.Asked.{asks_enter}
 use Rattle.one_history.proofs.shared.Shared.enter.Goals as goal
 

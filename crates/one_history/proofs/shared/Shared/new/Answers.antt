@@ -7,7 +7,7 @@ use Rattle.one_history.specs.Histories.{IsHistory}
 use Rattle.one_history.specs.Passes.{seen_of}
 use Rattle.one_history.proofs.Growth.{history_none}
 use Rattle.one_history.proofs.Told.{me_seen}
-use Rattle.one_history.specs.Rules.{newcomer, alone, Kept}
+use Rattle.one_history.specs.Machinery.Rules.{newcomer, alone, Kept}
 use Rattle.one_history.proofs.Steps.{starts}
 use Rattle.one_history.proofs.shared.Shared.new.Goals as goal
 

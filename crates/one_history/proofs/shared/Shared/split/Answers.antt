@@ -4,7 +4,7 @@ use Rattle.atomic_table.specs.Table.{Me}
 use Rattle.one_history.specs.declared.history.Entry.{Entry}
 use Rattle.one_history.specs.declared.history.View.{View}
 use Rattle.one_history.specs.Histories.{IsHistory}
-use Rattle.one_history.specs.Rules.{grown, born, parent, child}
+use Rattle.one_history.specs.Machinery.Rules.{grown, born, parent, child}
 use Rattle.one_history.proofs.Asked.{asks_check, asks_cut}
 use Rattle.one_history.proofs.Told.{me_seen, me_number, me_made}
 use Rattle.one_history.proofs.shared.Shared.split.Goals as goal

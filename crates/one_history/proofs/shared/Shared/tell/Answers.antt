@@ -4,7 +4,7 @@ use mathlib.Core.List.{IsPrefix}
 use Rattle.atomic_table.specs.Table.{Me}
 use Rattle.one_history.specs.declared.history.View.{View}
 use Rattle.one_history.specs.Histories.{IsHistory, GrowsByOthers}
-use Rattle.one_history.specs.Rules.{note, merged, saw}
+use Rattle.one_history.specs.Machinery.Rules.{note, merged, saw}
 use Rattle.one_history.specs.Passes.{seen_of, number_of}
 use Rattle.one_history.proofs.Asked.{asks_note, asks_join, asks_look}
 use Rattle.one_history.proofs.Told.{me_seen, me_number, me_made}

@@ -8,7 +8,7 @@ use Rattle.one_history.specs.declared.history.Member.{Member}
 use Rattle.one_history.specs.declared.history.Turn.TheVariants.{Idle, Waits, Serves}
 use Rattle.one_history.specs.declared.history.View.{View}
 use Rattle.one_history.specs.Histories.{state_after, IsHistory, GrowsByOthers, entry}
-use Rattle.one_history.specs.Rules.{Has, saw, view, alone}
+use Rattle.one_history.specs.Machinery.Rules.{Has, saw, view, alone}
 
 module _ {O A R : Type 0} where
   -- a ticket was drawn where the word was the one expected, and otherwise nothing changed
