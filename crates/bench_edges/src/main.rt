@@ -101,12 +101,7 @@ fn tell(
 }
 
 /// Runs the parts one after another.
-fn run(
-    rt: &(impl Print + Clock),
-    alloc: Global,
-    edges: u64,
-    timed: bool,
-) -> anyhow::Result<()> {
+fn run(rt: &(impl Print + Clock), alloc: Global, edges: u64, timed: bool) -> anyhow::Result<()> {
     let graph = Graph::new(alloc, edges)?;
     let (made, queries) = queries_of(alloc, &graph, edges)?;
     let mut rels = Rels::new(alloc);
