@@ -1,0 +1,5 @@
+pub mod SliceLemmas
+pub mod FieldLemmas
+pub mod ReadingLemmas
+pub mod HeadLemmas
+pub mod MessageLemmas
