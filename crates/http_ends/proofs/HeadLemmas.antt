@@ -95,7 +95,7 @@ head_refused bytes headers spans inside found none more h after begins =
     (subst (λ fs. IsTrue (is_framed (lengths fs))) (sym (at.fields ∙ ap fields_of same)) begins.within.framed)
 
 -- the front of two equal lists
-front_within : (xs ys zs ws : List ℕ) → xs ++ ys ≡ zs ++ ws → length zs ≤ length xs → xs ≡ zs ++ drop (length zs) xs
+pub front_within : (xs ys zs ws : List ℕ) → xs ++ ys ≡ zs ++ ws → length zs ≤ length xs → xs ≡ zs ++ drop (length zs) xs
 front_within xs ys zs ws same short =
     let front : take (length zs) xs ≡ zs = sym (take-append-le (length zs) xs ys short) ∙ ap (take (length zs)) same ∙ take_at zs ws (length zs) refl in
     sym (take-append-drop (length zs) xs) ∙ ap (λ bs. bs ++ drop (length zs) xs) front

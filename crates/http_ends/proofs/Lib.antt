@@ -3,3 +3,8 @@ pub mod FieldLemmas
 pub mod ReadingLemmas
 pub mod HeadLemmas
 pub mod MessageLemmas
+pub mod ReplyLemmas
+pub mod OneLemmas
+pub mod WrittenLemmas
+pub mod ReplyBack
+pub mod RequestBack

@@ -31,7 +31,7 @@ use Rattle.http_ends.proofs.ReadingLemmas.{on_streams}
 pub BeginsWith-append : (bytes more : List ℕ) (h : RequestHead) (after : List ℕ) → BeginsWith bytes h after → BeginsWith (bytes ++ more) h (after ++ more)
 BeginsWith-append bytes more h after begins = record { reads = ReadsRequest-append bytes h after more begins.reads; within = begins.within }
 
-span-append : (bytes more : List ℕ) (len : ℕ) (s : Span) → len ≤ length bytes → IsWithin len s → span_bytes (bytes ++ more) s ≡ span_bytes bytes s
+pub span-append : (bytes more : List ℕ) (len : ℕ) (s : Span) → len ≤ length bytes → IsWithin len s → span_bytes (bytes ++ more) s ≡ span_bytes bytes s
 span-append bytes more len s fits within =
     slice_range-front (bytes ++ more) bytes s.start s.end (length bytes) (omega (arith, within.1)) (take-append-le (length bytes) bytes more (omega arith))
 
@@ -78,7 +78,7 @@ is_cut_off bytes more head h at none small short end =
 
 -- ---- a message
 
-body_and_rest : (bytes more : List ℕ) (len body : ℕ) → drop len bytes ++ more ≡ slice_range bytes len (len + body) ++ (drop (len + body) bytes ++ more)
+pub body_and_rest : (bytes more : List ℕ) (len body : ℕ) → drop len bytes ++ more ≡ slice_range bytes len (len + body) ++ (drop (len + body) bytes ++ more)
 body_and_rest bytes more len body =
     let size : len + body - len ≡ body = omega arith in
     ap (λ bs. bs ++ more) (sym (take-append-drop body (drop len bytes)) ∙ λ i. take (sym size i) (drop len bytes) ++ drop-drop body len bytes i)

@@ -3,9 +3,13 @@
 #![tactic(auto)]
 
 mod buffer;
+mod client_replies;
+mod client_requests;
 mod fields;
+mod laws;
 mod lines;
 mod replies;
+mod reply_head;
 mod request;
 mod request_head;
 mod requests;
@@ -13,6 +17,9 @@ mod response;
 mod search;
 
 pub use buffer::Buffer;
+pub use client_replies::next_response;
+pub use client_requests::write_request;
+pub use laws::{one_next, one_reply, replies_read_back, requests_read_back};
 pub use replies::write_response;
 pub use request::{HttpEnd, Request};
 pub use requests::next_request;
