@@ -1,5 +1,8 @@
 //! Worked rows of messages, over links in memory.
 
+ghost use Rattle.std.specs.Prelude.{◌≡◌, [], None, IfOk, IsSome};
+ghost use Rattle.http_ends.specs.Replies.{phrase_of, IsAllowed};
+
 use super::*;
 use dt_base::{List, MemSink, MemSource, OutOfMemory, Text};
 use std::alloc::{AllocError, Global};
@@ -232,83 +235,93 @@ fn reads_no_byte_too_many(rt: HostRuntime) -> Result<(), Fail> {
     Ok(())
 }
 
-fn reply(
-    alloc: Global,
-    status: u16,
-    allow: Option<&str>,
-    body: &[u8],
-) -> Result<Response, OutOfMemory> {
-    let allow = match allow {
-        Some(methods) => Some(Text::from_str(alloc, methods)?),
-        None => None,
-    };
+/// A reply without the field `Allow`.
+fn reply(alloc: Global, status: u16, body: &[u8]) -> Result<Response, OutOfMemory>
+    ensures status { IfOk result (λ r. r.status ≡ status) }
+    ensures allow { IfOk result (λ r. r.allow ≡ None) }
+{
     Ok(Response {
         status,
-        allow,
+        allow: None,
         body: list_of(alloc, body)?,
     })
 }
 
+/// What a sink of this room has taken then, in which a second write fails.
+fn taken(
+    alloc: Global,
+    response: &Response,
+    close: bool,
+    head_only: bool,
+    room: u64,
+) -> Result<Vec<u8>, AllocError>
+    requires status { IsSome (phrase_of response.now.status) }
+    requires allow { IsAllowed response.now.status response.now.allow }
+    requires empty { response.now.status ≡ 204 → response.now.body ≡ [] }
+{
+    let mut sink = MemSink::new(alloc, room, list_of(alloc, &[2])?);
+    let end = write_response(alloc, &mut sink, response, close, head_only);
+    if end.is_ok() != (room == 1000) {
+        return Ok(Vec::new(alloc));
+    }
+    Vec::from_slice(alloc, sink.taken())
+}
+
+const PLAIN: &[u8] =
+    b"HTTP/1.1 200 OK\r\nContent-Length: 3\r\nContent-Type: application/json\r\n\r\n[]\n";
+
+const CLOSING: &[u8] =
+    b"HTTP/1.1 200 OK\r\nContent-Length: 3\r\nContent-Type: application/json\r\nConnection: close\r\n\r\n[]\n";
+
+const HEAD_ALONE: &[u8] =
+    b"HTTP/1.1 200 OK\r\nContent-Length: 3\r\nContent-Type: application/json\r\n\r\n";
+
+const NO_CONTENT: &[u8] = b"HTTP/1.1 204 No Content\r\n\r\n";
+
+const BAD_METHOD: &[u8] =
+    b"HTTP/1.1 405 Method Not Allowed\r\nContent-Length: 30\r\nContent-Type: application/json\r\nAllow: POST\r\n\r\n{\"error\":{\"code\":\"BadMethod\"}}";
+
+const TOO_LONG: &[u8] =
+    b"HTTP/1.1 413 Content Too Large\r\nContent-Length: 48\r\nContent-Type: application/json\r\nConnection: close\r\n\r\n{\"error\":{\"code\":\"BodyTooLong\",\"limit\":4194304}}";
+
 #[test]
 fn writes_replies(rt: HostRuntime) -> Result<(), Fail> {
-    for (body, close, head_only, want) in [
-        (
-            "[]\n",
-            false,
-            false,
-            "HTTP/1.1 200 OK\r\nContent-Length: 3\r\nContent-Type: application/json\r\n\r\n[]\n",
-        ),
-        (
-            "[]\n",
-            true,
-            false,
-            "HTTP/1.1 200 OK\r\nContent-Length: 3\r\nContent-Type: application/json\r\nConnection: close\r\n\r\n[]\n",
-        ),
-        (
-            "[]\n",
-            false,
-            true,
-            "HTTP/1.1 200 OK\r\nContent-Length: 3\r\nContent-Type: application/json\r\n\r\n",
-        ),
+    for (close, head_only, room, want) in [
+        (false, false, 1000, PLAIN),
+        (true, false, 1000, CLOSING),
+        (false, true, 1000, HEAD_ALONE),
+        (false, false, 10, b"HTTP/1.1 2".as_slice()),
     ] {
-        let response = reply(rt.alloc(), 200, None, body.as_bytes())?;
-        // A second write would fail.
-        let mut sink = MemSink::new(rt.alloc(), 1000, list_of(rt.alloc(), &[2])?);
-        write_response(rt.alloc(), &mut sink, &response, close, head_only)?;
-        assert_eq!(rt; sink.taken(), want.as_bytes());
-        let mut sink = MemSink::new(rt.alloc(), 10, List::new(rt.alloc()));
-        let end = write_response(rt.alloc(), &mut sink, &response, close, head_only);
-        assert_eq!(rt; end, Err(SendEnd::WriteFault));
-        assert_eq!(rt; sink.taken(), b"HTTP/1.1 2".as_slice());
+        let response = reply(rt.alloc(), 200, b"[]\n")?;
+        let text = taken(rt.alloc(), &response, close, head_only, room)?;
+        assert_eq!(rt; text.as_slice(), want);
     }
-    let mut sink = MemSink::new(rt.alloc(), 1000, List::new(rt.alloc()));
-    let done = reply(rt.alloc(), 204, None, b"")?;
-    write_response(rt.alloc(), &mut sink, &done, false, false)?;
-    assert_eq!(rt; sink.taken(), b"HTTP/1.1 204 No Content\r\n\r\n".as_slice());
-    let mut sink = MemSink::new(rt.alloc(), 1000, List::new(rt.alloc()));
-    let method = reply(
-        rt.alloc(),
-        405,
-        Some("POST"),
-        b"{\"error\":{\"code\":\"BadMethod\"}}",
-    )?;
-    write_response(rt.alloc(), &mut sink, &method, false, false)?;
-    assert_eq!(rt;
-        sink.taken(),
-        b"HTTP/1.1 405 Method Not Allowed\r\nContent-Length: 30\r\nContent-Type: application/json\r\nAllow: POST\r\n\r\n{\"error\":{\"code\":\"BadMethod\"}}".as_slice()
-    );
-    let mut sink = MemSink::new(rt.alloc(), 1000, List::new(rt.alloc()));
+    Ok(())
+}
+
+#[test]
+fn writes_replies_of_other_statuses(rt: HostRuntime) -> Result<(), Fail> {
+    let done = Response {
+        status: 204,
+        allow: None,
+        body: List::new(rt.alloc()),
+    };
+    let text = taken(rt.alloc(), &done, false, false, 1000)?;
+    assert_eq!(rt; text.as_slice(), NO_CONTENT);
+    let method = Response {
+        status: 405,
+        allow: Some(Text::from_str(rt.alloc(), "POST")?),
+        body: list_of(rt.alloc(), b"{\"error\":{\"code\":\"BadMethod\"}}")?,
+    };
+    let text = taken(rt.alloc(), &method, false, false, 1000)?;
+    assert_eq!(rt; text.as_slice(), BAD_METHOD);
     let long = reply(
         rt.alloc(),
         413,
-        None,
         b"{\"error\":{\"code\":\"BodyTooLong\",\"limit\":4194304}}",
     )?;
-    write_response(rt.alloc(), &mut sink, &long, true, false)?;
-    assert_eq!(rt;
-        sink.taken(),
-        b"HTTP/1.1 413 Content Too Large\r\nContent-Length: 48\r\nContent-Type: application/json\r\nConnection: close\r\n\r\n{\"error\":{\"code\":\"BodyTooLong\",\"limit\":4194304}}".as_slice()
-    );
+    let text = taken(rt.alloc(), &long, true, false, 1000)?;
+    assert_eq!(rt; text.as_slice(), TOO_LONG);
     Ok(())
 }
 
