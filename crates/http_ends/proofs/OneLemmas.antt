@@ -1,18 +1,17 @@
 -- What comes next in a stream is one answer.
-use Rattle.std.proofs.Common.{◌≡◌, ◌≢◌, ℕ, ◌+◌, ◌<◌, ◌≤◌, Bool, true, false, List, [], ◌∷◌, ◌++◌, length, take, drop, Option, Some, None, Result, Ok, Err, cond, inl, inr, refl, sym, ap, ◌∙◌, subst, arith, ltb, length-append}
-use Rattle.std.specs.Prelude.{◌⊎◌, IsUtf8, codes}
+use Rattle.std.proofs.Common.{◌≡◌, ◌≢◌, ℕ, true, false, List, [], ◌∷◌, ◌++◌, length, take, drop, Option, Some, None, Result, Ok, Err, cond, inl, inr, refl, sym, ap, ◌∙◌, subst, arith, ltb, length-append}
+use Rattle.std.specs.Prelude.{◌⊎◌, codes}
 use Rattle.std.proofs.lemmas.Bool.{cond-true, cond-false, lt-ltb, le-ltb}
 use Rattle.std.proofs.lemmas.List.{take_at, drop_at}
-use Rattle.httparse.specs.Grammar.{RequestHead, ReadsRequest, ResponseHead, status_code}
+use Rattle.httparse.specs.Grammar.{RequestHead, ReadsRequest, status_code}
 use Rattle.httparse.proofs.GrammarLemmas.{request_unique, response_unique}
 use Rattle.http_ends.specs.declared.request.Request.{Request}
 use Rattle.http_ends.specs.declared.request.HttpEnd.{HttpEnd}
 use Rattle.http_ends.specs.declared.request.HttpEnd.TheVariants.{Closed, BadHead, BodyTooLong, TransferCoding, CutOff, ReadFault, OutOfMemory}
-use Rattle.http_ends.specs.declared.response.Response.{Response}
 use Rattle.http_ends.specs.Fields.{codings, values_named}
 use Rattle.http_ends.specs.Heads.{fields_of, BeginsWith, body_length, path_of, query_of, asks_to_close}
 use Rattle.http_ends.specs.Messages.{HasNoHead, IsNext}
-use Rattle.http_ends.specs.ReplyReading.{reply_fields, reply_length, IsAllow, BeginsWithReply}
+use Rattle.http_ends.specs.ReplyReading.{reply_fields, reply_length, IsAllow}
 use Rattle.http_ends.specs.Laws.{OneNext, OneReply}
 use Rattle.http_ends.specs.reading.Judging.{is_some_list}
 use Rattle.http_ends.proofs.HeadLemmas.{no_head_in_nothing}

@@ -1,6 +1,6 @@
 -- The text of a reply reads back.
-use Rattle.std.proofs.Common.{◌≡◌, ◌≢◌, ℕ, ◌+◌, ◌^◌, ◌<◌, ◌≤◌, Bool, true, false, not, ◌&&◌, ◌||◌, List, [], ◌∷◌, ◌++◌, length, map, Option, Some, None, cond, refl, sym, ap, ◌∙◌, subst, arith, append_assoc, length-append, flat_map, lit≤}
-use Rattle.std.specs.Prelude.{All, codes, decimal, bytes_eq, IsTrue, IsSome, IfSome, IsUtf8, if◌then◌else◌, nat_le, nat_lt, ◌==◌, unwrap_or}
+use Rattle.std.proofs.Common.{◌≡◌, ℕ, ◌+◌, ◌^◌, ◌<◌, ◌≤◌, Bool, true, false, ◌&&◌, ◌||◌, List, [], ◌∷◌, ◌++◌, length, map, Option, Some, None, cond, refl, sym, ap, ◌∙◌, subst, arith, append_assoc, length-append, flat_map, lit≤}
+use Rattle.std.specs.Prelude.{codes, decimal, bytes_eq, IsTrue, IsSome, IfSome, if◌then◌else◌, nat_le, nat_lt, ◌==◌, unwrap_or}
 use Rattle.std.specs.Fmt.{digits}
 use Rattle.std.specs.Char.{is_ascii_digit}
 use Rattle.std.specs.List.{list_all, list_any}
@@ -12,16 +12,15 @@ use Rattle.std.proofs.lemmas.List.Sums.{AllPass-from_list_all}
 use Rattle.std.proofs.lemmas.Slice.Eq.{bytes_eq-Decides}
 use Rattle.std.proofs.lemmas.Str.{IsUtf8-from_ascii}
 use Rattle.std.proofs.lemmas.Str.Ascii.{IsAscii-from_all}
-use Rattle.httparse.specs.Grammar.{is_value_byte, Field, IsField, crlf, print_field, print_section, ResponseHead, print_response, ReadsResponse, status_code, is_token_byte}
-use Rattle.httparse.specs.Spans.{name_and_value}
-use Rattle.httparse.proofs.GrammarLemmas.{print_response-append, cons-append}
+use Rattle.httparse.specs.Grammar.{is_value_byte, crlf, print_field, ResponseHead, print_response, is_token_byte}
+use Rattle.httparse.proofs.GrammarLemmas.{print_response-append}
 use Rattle.http_ends.specs.declared.response.Response.{Response}
 use Rattle.http_ends.specs.Fields.{values_named, is_number, is_framed, length_said, lengths}
 use Rattle.http_ends.specs.Laws.{RepliesReadBack}
 use Rattle.http_ends.specs.Lines.{field_line, fields_text}
-use Rattle.http_ends.specs.Replies.{phrases, phrase_in, phrase_of, method_lists, IsAllowed, content_fields, allow_fields, close_fields, status_line, reply_head, reply_text}
-use Rattle.http_ends.specs.ReplyReading.{reply_fields, IsReplyWithinLimits, reply_length, IsAllow, BeginsWithReply}
-use Rattle.http_ends.proofs.WrittenLemmas.{field_of, is_plain_value, is_plain_field, ReadsBack, plain_fields, graphic_value, IsDecimal, decimal_is}
+use Rattle.http_ends.specs.Replies.{phrases, phrase_in, phrase_of, method_lists, IsAllowed, content_fields, allow_fields, close_fields, status_line, reply_text}
+use Rattle.http_ends.specs.ReplyReading.{reply_fields, IsAllow}
+use Rattle.http_ends.proofs.WrittenLemmas.{field_of, is_plain_value, is_plain_field, ReadsBack, plain_fields, graphic_value, decimal_is}
 
 -- ---- the tables
 

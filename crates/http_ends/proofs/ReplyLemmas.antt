@@ -1,14 +1,14 @@
 -- From what the parser found of a reply's head, and what has come, to the reply that the stream begins with.
-use Rattle.std.proofs.Common.{◌≡◌, ◌≢◌, ℕ, ◌+◌, ◌-◌, ◌<◌, ◌≤◌, Bool, true, false, ◌&&◌, List, [], ◌∷◌, ◌++◌, length, take, drop, map, slice_range, Option, Some, None, Ok, Err, cond, refl, sym, ap, ◌∙◌, subst, arith, append-nil, length-append, length-drop, length-take-le}
-use Rattle.std.specs.Prelude.{nat_le, ◌==◌, unwrap_or, IsTrue, IfSome, IsUtf8, codes, if◌then◌else◌}
-use Rattle.std.specs.Io.KnownBytes.{Consumes, IsAtEnd}
+use Rattle.std.proofs.Common.{◌≡◌, ℕ, ◌+◌, ◌<◌, ◌≤◌, Bool, true, false, ◌&&◌, List, [], ◌∷◌, ◌++◌, length, take, drop, map, slice_range, Option, Some, None, Err, cond, refl, sym, ap, ◌∙◌, subst, arith, append-nil, length-append, length-drop, length-take-le}
+use Rattle.std.specs.Prelude.{nat_le, ◌==◌, unwrap_or, IsTrue, IfSome, codes, if◌then◌else◌}
+use Rattle.std.specs.Io.KnownBytes.{Consumes}
 use Rattle.std.proofs.lemmas.Bool.{and_parts, leb-true}
-use Rattle.std.proofs.lemmas.List.{length-map, take-append-le, drop-append-le}
+use Rattle.std.proofs.lemmas.List.{length-map, drop-append-le}
 use Rattle.httparse.specs.declared.spans.Span.{Span}
 use Rattle.httparse.specs.declared.spans.HeaderSpan.{HeaderSpan}
 use Rattle.httparse.specs.declared.spans.ResponseSpans.{ResponseSpans}
 use Rattle.httparse.specs.Grammar.{ResponseHead, print_response, ReadsResponse, HasNoResponse, status_code}
-use Rattle.httparse.specs.Spans.{header_bytes, IsResponseAt, IsResponseWithin, span_bytes, IsWithin}
+use Rattle.httparse.specs.Spans.{header_bytes, IsResponseAt, IsResponseWithin, IsWithin}
 use Rattle.httparse.proofs.GrammarLemmas.{response_unique, response_prefix_free, ReadsResponse-append}
 use Rattle.httparse.proofs.RunLemmas.{length-slice_range}
 use Rattle.http_ends.specs.declared.fields.Found.{Found}
@@ -17,11 +17,11 @@ use Rattle.http_ends.specs.declared.response.Response.{Response}
 use Rattle.http_ends.specs.declared.response.ReplyEnd.{ReplyEnd}
 use Rattle.http_ends.specs.declared.response.ReplyEnd.TheVariants.{BadReply, ReadFault, OutOfMemory}
 use Rattle.http_ends.specs.Fields.{values_named, is_framed, length_said, lengths}
-use Rattle.http_ends.specs.ReplyReading.{reply_fields, IsReplyWithinLimits, reply_length, IsAllow, BeginsWithReply, HasNoReply, AnswersReply}
+use Rattle.http_ends.specs.ReplyReading.{reply_fields, reply_length, IsAllow, BeginsWithReply, HasNoReply, AnswersReply}
 use Rattle.http_ends.specs.Streams.{stream_of, OnStreams}
 use Rattle.http_ends.specs.reading.Finding.{FindsValue, Finds}
 use Rattle.http_ends.specs.reading.JudgingReplies.{reply_size, FindsFirst, AllowIs, IsReplyHeadAt, ReplyEnds}
-use Rattle.http_ends.proofs.HeadLemmas.{front_within, whatever_follows}
+use Rattle.http_ends.proofs.HeadLemmas.{front_within}
 use Rattle.http_ends.proofs.MessageLemmas.{span-append, body_and_rest}
 use Rattle.http_ends.proofs.ReadingLemmas.{on_streams}
 

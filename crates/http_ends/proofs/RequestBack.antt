@@ -1,21 +1,21 @@
 -- The text of a request reads back.
-use Rattle.std.proofs.Common.{◌≡◌, ℕ, ◌+◌, ◌^◌, ◌<◌, ◌≤◌, Bool, true, false, ◌&&◌, ◌||◌, List, [], ◌∷◌, ◌++◌, length, map, Option, Some, None, refl, sym, ap, ◌∙◌, subst, arith, append_assoc, length-append, flat_map, lit≤}
-use Rattle.std.specs.Prelude.{All, codes, decimal, IsTrue, IsUtf8, unwrap_or, ◌==◌}
+use Rattle.std.proofs.Common.{◌≡◌, ℕ, ◌+◌, ◌^◌, ◌<◌, ◌≤◌, true, List, [], ◌++◌, length, map, Option, Some, None, refl, sym, ap, ◌∙◌, subst, arith, append_assoc, length-append, flat_map, lit≤}
+use Rattle.std.specs.Prelude.{codes, decimal, IsTrue, unwrap_or}
 use Rattle.std.specs.Char.{is_ascii_graphic}
 use Rattle.std.specs.List.{list_all, list_any}
-use Rattle.std.proofs.lemmas.Bool.{and_parts, and_from}
+use Rattle.std.proofs.lemmas.Bool.{and_from}
 use Rattle.std.proofs.lemmas.Bool.Decides.{nat_tests}
 use Rattle.std.proofs.lemmas.Fmt.{length-decimal-le}
 use Rattle.std.proofs.lemmas.List.Elements.{All-weaker}
 use Rattle.std.proofs.lemmas.List.Sums.{AllPass-from_list_all}
 use Rattle.std.proofs.lemmas.Str.{IsUtf8-from_ascii}
 use Rattle.std.proofs.lemmas.Str.Ascii.{IsAscii-from_all}
-use Rattle.httparse.specs.Grammar.{is_token_byte, is_uri_byte, trim_ows, IsToken, crlf, print_field, RequestHead, print_request, ReadsRequest}
+use Rattle.httparse.specs.Grammar.{is_token_byte, is_uri_byte, trim_ows, crlf, print_field, RequestHead, print_request}
 use Rattle.httparse.specs.Spans.{name_and_value}
 use Rattle.httparse.proofs.GrammarLemmas.{print_request-append}
 use Rattle.http_ends.specs.Fields.{is_framed, length_said, lengths, codings, says_close}
-use Rattle.http_ends.specs.Laws.{AreWords, RequestsReadBack}
-use Rattle.http_ends.specs.Lines.{field_line, fields_text}
+use Rattle.http_ends.specs.Laws.{RequestsReadBack}
+use Rattle.http_ends.specs.Lines.{fields_text}
 use Rattle.http_ends.specs.Requests.{request_line, host_fields, body_fields, body_bytes, request_text}
 use Rattle.http_ends.proofs.WrittenLemmas.{field_of, is_plain_field, ReadsBack, plain_fields, graphic_value, decimal_is}
 use Rattle.http_ends.proofs.ReplyBack.{fields_text-append, list_all-join, decimal_number}

@@ -1,12 +1,11 @@
-use Rattle.std.proofs.Common.{◌≡◌, ℕ, ◌+◌, ◌++◌, length, drop, Ok, Err, inl, refl, sym, ap, ◌∙◌, subst}
+use Rattle.std.proofs.Common.{◌≡◌, Ok, Err, inl, refl, ap, ◌∙◌, subst}
 use Rattle.std.specs.Io.KnownBytes.{IsAtEnd}
 use Rattle.std.proofs.lemmas.Result.{err_from_is_err_and}
-use Rattle.http_ends.specs.declared.buffer.Filled.TheVariants.{More, Ended}
+use Rattle.http_ends.specs.declared.buffer.Filled.TheVariants.{Ended}
 use Rattle.http_ends.specs.declared.response.ReplyEnd.TheVariants.{BadReply}
 use Rattle.http_ends.specs.ReplyReading.{AnswersReply}
 use Rattle.http_ends.proofs.ReadingLemmas.{Reads-trans, on_streams}
 use Rattle.http_ends.proofs.ReplyLemmas.{IsReplyHeadAt-append, IsReplyOf, is_reply, no_reply_cut_off, reply_ends}
-use Rattle.http_ends.proofs.client_replies.next_response.Given.{Over}
 use Rattle.http_ends.proofs.client_replies.next_response.Goals as goal
 
 pub returns-in_err-head-clause-next : goal.returns-in_err-head-clause-next
