@@ -1,0 +1,10 @@
+pub mod SliceLemmas
+pub mod FieldLemmas
+pub mod ReadingLemmas
+pub mod HeadLemmas
+pub mod MessageLemmas
+pub mod ReplyLemmas
+pub mod OneLemmas
+pub mod WrittenLemmas
+pub mod ReplyBack
+pub mod RequestBack

@@ -1,0 +1,13 @@
+use Rattle.std.proofs.Common.{◌≤◌, ◌++◌, length, ap, subst, arith}
+use Rattle.httparse.specs.Grammar.{HasNoRequest}
+use Rattle.http_ends.specs.Messages.{HasNoHead}
+use Rattle.http_ends.proofs.HeadLemmas.{no_longer_head, whatever_follows}
+use Rattle.http_ends.proofs.requests.read_head.Goals as goal
+
+pub returns-in-More-clause-why : goal.returns-in-More-clause-why
+returns-in-More-clause-why g c =
+    let many : 16384 ≤ length c.judging.buffer = omega (arith, c.len-come.ensures, c.if-come-ge-MOST_HEAD.true) in (
+      λ none. omega (arith, many, ap length none),
+      whatever_follows (g.S.Source.left c.judging.link) (λ more. HasNoHead (c.judging.buffer ++ more))
+          (λ more. no_longer_head c.judging.buffer more (subst HasNoRequest c.as_slice.ensures c.in-Open.ensures) many),
+    )

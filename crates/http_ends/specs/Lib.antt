@@ -1,0 +1,10 @@
+pub mod Fields
+pub mod Heads
+pub mod Laws
+pub mod Lines
+pub mod Messages
+pub mod Replies
+pub mod ReplyReading
+pub mod Requests
+pub mod Streams
+pub mod reading

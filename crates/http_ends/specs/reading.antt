@@ -1,0 +1,4 @@
+pub mod Judging
+pub mod Reads
+pub mod Finding
+pub mod JudgingReplies

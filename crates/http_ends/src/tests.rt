@@ -1,0 +1,448 @@
+//! Worked rows of messages, over links in memory.
+
+ghost use Rattle.std.specs.Prelude.{◌≡◌, [], None, IfOk, IsSome};
+ghost use Rattle.http_ends.specs.Replies.{phrase_of, IsAllowed};
+
+use super::*;
+use dt_base::{List, MemSink, MemSource, OutOfMemory, Text};
+use std::alloc::{AllocError, Global};
+use std::test::Fail;
+
+fn list_of<T: Copy>(alloc: Global, items: &[T]) -> Result<List<T>, AllocError> {
+    Ok(List::from_vec(Vec::from_slice(alloc, items)?))
+}
+
+/// A source of these bytes whose reads give at most as many as the pieces say, and then one each.
+fn source_of(
+    alloc: Global,
+    bytes: &[u8],
+    failing: &[u64],
+    pieces: &[u64],
+) -> Result<MemSource, AllocError> {
+    Ok(MemSource::new(
+        list_of(alloc, bytes)?,
+        list_of(alloc, failing)?,
+        list_of(alloc, pieces)?,
+    ))
+}
+
+/// What the requests of a stream say, a line each, and why there is no further one. A read that failed is tried again.
+fn told(alloc: Global, source: &mut MemSource) -> Result<String, Fail> {
+    let mut buffer = Buffer::new(alloc)?;
+    let mut text = String::new(alloc);
+    for _ in 0..9 {
+        match next_request(alloc, source, &mut buffer) {
+            Ok(request) => {
+                let body = std::str::from_utf8(request.body.as_slice()).unwrap_or("no text");
+                text.push_str(request.method.as_str())?;
+                text.push(' ')?;
+                text.push_str(request.path.as_str())?;
+                text.push('?')?;
+                text.push_str(request.query.as_str())?;
+                text.push_str(if request.close { " close " } else { " " })?;
+                text.push_str(body)?;
+                text.push('\n')?;
+            }
+            Err(HttpEnd::ReadFault) => {}
+            Err(end) => {
+                text.push_str(format!(in alloc; "{end:?}")?.as_str())?;
+                return Ok(text);
+            }
+        }
+    }
+    Ok(text)
+}
+
+/// A list of ones, so that each read gives one byte.
+fn ones(alloc: Global, count: usize) -> Result<Vec<u64>, AllocError> {
+    let mut pieces = Vec::new(alloc);
+    pieces.resize(count, 1)?;
+    Ok(pieces)
+}
+
+const REQUESTS: [(&[u8], &str); 27] = [
+    (b"", "Closed"),
+    (
+        b"GET /canon HTTP/1.1\r\nHost: x\r\n\r\n",
+        "GET /canon? \nClosed",
+    ),
+    (
+        b"GET /a HTTP/1.1\r\n\r\nGET /b?c?d HTTP/1.1\r\nConnection: close\r\n\r\n",
+        "GET /a? \nGET /b?c?d close \nClosed",
+    ),
+    (
+        b"PUT /a HTTP/1.1\r\nContent-Length: 3\r\n\r\nabcPUT /b HTTP/1.1\r\ncontent-length: \t2\t \r\n\r\nde",
+        "PUT /a? abc\nPUT /b? de\nClosed",
+    ),
+    (b"\r\n\nGET /a HTTP/1.1\n\n", "GET /a? \nClosed"),
+    (b"GET /a HTTP/1.0\r\n\r\n", "GET /a? close \nClosed"),
+    (
+        b"GET /a HTTP/1.1\r\nConnection: keep-alive, Close\r\n\r\n",
+        "GET /a? close \nClosed",
+    ),
+    (
+        b"GET /a HTTP/1.1\r\nConnection: closed, keep\r\nConnection:\t \tCLOSE ,a\r\n\r\n",
+        "GET /a? close \nClosed",
+    ),
+    (
+        b"GET /a HTTP/1.1\r\nConnection: closed, c lose\r\nClose: close\r\n\r\n",
+        "GET /a? \nClosed",
+    ),
+    (b"GET /a HTTP/1.1\r\n\r\n\r\n", "GET /a? \nBadHead"),
+    (b"GET / HTTP/9", "BadHead"),
+    (b"GET / HTTP/9.9\r\n\r\n", "BadHead"),
+    (b"GET /a HTTP/1.1\r\nHost: x\r\n", "BadHead"),
+    (b"GET /\xff HTTP/1.1\r\n\r\n", "BadHead"),
+    (b"GET /\xc3\xa9 HTTP/1.1\r\n\r\n", "GET /\u{e9}? \nClosed"),
+    (
+        b"PUT /a HTTP/1.1\r\nContent-Length: 1\r\nContent-Length: 1\r\n\r\na",
+        "BadHead",
+    ),
+    (
+        b"PUT /a HTTP/1.1\r\nContent-Length: +5\r\n\r\nabcde",
+        "BadHead",
+    ),
+    (b"PUT /a HTTP/1.1\r\nContent-Length:\r\n\r\n", "BadHead"),
+    (
+        b"PUT /a HTTP/1.1\r\nContent-Length: 0000000000000000003\r\n\r\nabc",
+        "BadHead",
+    ),
+    (
+        b"PUT /a HTTP/1.1\r\nContent-Length: 000000000000000003\r\n\r\nabc",
+        "PUT /a? abc\nClosed",
+    ),
+    (
+        b"PUT /a HTTP/1.1\r\nContent-Length: 4194305\r\n\r\n",
+        "BodyTooLong",
+    ),
+    (
+        b"PUT /a HTTP/1.1\r\nContent-Length: 999999999999999999\r\n\r\n",
+        "BodyTooLong",
+    ),
+    (
+        b"PUT /a HTTP/1.1\r\nTransfer-Encoding: chunked\r\n\r\n0\r\n\r\n",
+        "TransferCoding",
+    ),
+    (
+        b"PUT /a HTTP/1.1\r\nContent-Length: 4194305\r\ntransfer-encoding: identity\r\n\r\n",
+        "TransferCoding",
+    ),
+    (
+        b"PUT /a HTTP/1.1\r\nContent-Length: 1\r\nContent-Length: 1\r\nTransfer-Encoding: chunked\r\n\r\n",
+        "BadHead",
+    ),
+    (b"PUT /a HTTP/1.1\r\nContent-Length: 3\r\n\r\nab", "CutOff"),
+    (
+        b"PUT /a HTTP/1.1\r\nContent-Length: 1\r\n\r\nabGET /b HTTP/1.1\r\n\r\n",
+        "PUT /a? a\nbGET /b? \nClosed",
+    ),
+];
+
+#[test]
+fn reads_requests_in_any_pieces(rt: HostRuntime) -> Result<(), Fail> {
+    for (bytes, want) in REQUESTS {
+        for piece in [1, 2, 5, 1000] {
+            let mut pieces = Vec::new(rt.alloc());
+            pieces.resize(200, piece)?;
+            let mut source = source_of(rt.alloc(), bytes, &[], pieces.as_slice())?;
+            assert_eq!(rt;
+                told(rt.alloc(), &mut source)?.as_str(),
+                want,
+                "in pieces of {piece}"
+            );
+        }
+    }
+    Ok(())
+}
+
+const TWO: &[u8] =
+    b"POST /query?a=b HTTP/1.1\r\nHost: x\r\nContent-Length: 5\r\n\r\n12345GET /c HTTP/1.1\r\nConnection: close\r\n\r\n";
+
+const TWO_TOLD: &str = "POST /query?a=b 12345\nGET /c? close \nClosed";
+
+#[test]
+fn reads_two_requests_across_each_split_and_fault(rt: HostRuntime) -> Result<(), Fail> {
+    for split in 1..TWO.len() {
+        let first = split as u64;
+        let mut source = source_of(rt.alloc(), TWO, &[], &[first, 1000])?;
+        assert_eq!(rt;
+            told(rt.alloc(), &mut source)?.as_str(),
+            TWO_TOLD,
+            "split at {first}"
+        );
+        let pieces = ones(rt.alloc(), 200)?;
+        let mut source = source_of(rt.alloc(), TWO, &[first], pieces.as_slice())?;
+        assert_eq!(rt;
+            told(rt.alloc(), &mut source)?.as_str(),
+            TWO_TOLD,
+            "fault at {first}"
+        );
+    }
+    Ok(())
+}
+
+/// A request with so many fields, and with so many bytes in its head where these are more.
+fn long_head(alloc: Global, fields: usize, size: usize) -> Result<Vec<u8>, AllocError> {
+    let mut text = Vec::from_slice(alloc, b"GET /a HTTP/1.1\r\n")?;
+    for _ in 1..fields {
+        text.extend_from_slice(b"a:b\r\n")?;
+    }
+    text.extend_from_slice(b"a:")?;
+    let filled = size.saturating_sub(4).max(text.len());
+    text.resize(filled, b'b')?;
+    text.extend_from_slice(b"\r\n\r\n")?;
+    Ok(text)
+}
+
+#[test]
+fn reads_no_byte_too_many(rt: HostRuntime) -> Result<(), Fail> {
+    for (fields, size, reads) in [
+        (1, 0, true),
+        (64, 0, true),
+        (65, 0, false),
+        (3, 16_384, true),
+        (3, 16_385, false),
+    ] {
+        let head = long_head(rt.alloc(), fields, size)?;
+        // A read behind the head would fail.
+        let behind = head.len() as u64 + 1;
+        let pieces = ones(rt.alloc(), head.len())?;
+        let mut source = source_of(rt.alloc(), head.as_slice(), &[behind], pieces.as_slice())?;
+        let mut buffer = Buffer::new(rt.alloc())?;
+        let answer = next_request(rt.alloc(), &mut source, &mut buffer).map(
+            |request| request.close,
+        );
+        let want = if reads {
+            Ok(false)
+        } else {
+            Err(HttpEnd::BadHead)
+        };
+        assert_eq!(rt; answer, want, "{fields} fields, {size} bytes");
+    }
+    // A body for which the buffer grows several times.
+    let mut message = Vec::from_slice(
+        rt.alloc(),
+        b"PUT /a HTTP/1.1\r\nContent-Length: 70000\r\n\r\n",
+    )?;
+    let size = message.len() + 70_000;
+    message.resize(size, b'x')?;
+    let mut pieces = Vec::new(rt.alloc());
+    pieces.resize(100, 1500)?;
+    let mut source = source_of(rt.alloc(), message.as_slice(), &[], pieces.as_slice())?;
+    let mut buffer = Buffer::new(rt.alloc())?;
+    let request = next_request(rt.alloc(), &mut source, &mut buffer)?;
+    assert_eq!(rt; request.body.len(), 70_000);
+    Ok(())
+}
+
+/// A reply without the field `Allow`.
+fn reply(alloc: Global, status: u16, body: &[u8]) -> Result<Response, OutOfMemory>
+    ensures status { IfOk result (λ r. r.status ≡ status) }
+    ensures allow { IfOk result (λ r. r.allow ≡ None) }
+{
+    Ok(Response {
+        status,
+        allow: None,
+        body: list_of(alloc, body)?,
+    })
+}
+
+/// What a sink of this room has taken then, in which a second write fails.
+fn taken(
+    alloc: Global,
+    response: &Response,
+    close: bool,
+    head_only: bool,
+    room: u64,
+) -> Result<Vec<u8>, AllocError>
+    requires status { IsSome (phrase_of response.now.status) }
+    requires allow { IsAllowed response.now.status response.now.allow }
+    requires empty { response.now.status ≡ 204 → response.now.body ≡ [] }
+{
+    let mut sink = MemSink::new(alloc, room, list_of(alloc, &[2])?);
+    let end = write_response(alloc, &mut sink, response, close, head_only);
+    if end.is_ok() != (room == 1000) {
+        return Ok(Vec::new(alloc));
+    }
+    Vec::from_slice(alloc, sink.taken())
+}
+
+const PLAIN: &[u8] =
+    b"HTTP/1.1 200 OK\r\nContent-Length: 3\r\nContent-Type: application/json\r\n\r\n[]\n";
+
+const CLOSING: &[u8] =
+    b"HTTP/1.1 200 OK\r\nContent-Length: 3\r\nContent-Type: application/json\r\nConnection: close\r\n\r\n[]\n";
+
+const HEAD_ALONE: &[u8] =
+    b"HTTP/1.1 200 OK\r\nContent-Length: 3\r\nContent-Type: application/json\r\n\r\n";
+
+const NO_CONTENT: &[u8] = b"HTTP/1.1 204 No Content\r\n\r\n";
+
+const BAD_METHOD: &[u8] =
+    b"HTTP/1.1 405 Method Not Allowed\r\nContent-Length: 30\r\nContent-Type: application/json\r\nAllow: POST\r\n\r\n{\"error\":{\"code\":\"BadMethod\"}}";
+
+const TOO_LONG: &[u8] =
+    b"HTTP/1.1 413 Content Too Large\r\nContent-Length: 48\r\nContent-Type: application/json\r\nConnection: close\r\n\r\n{\"error\":{\"code\":\"BodyTooLong\",\"limit\":4194304}}";
+
+#[test]
+fn writes_replies(rt: HostRuntime) -> Result<(), Fail> {
+    for (close, head_only, room, want) in [
+        (false, false, 1000, PLAIN),
+        (true, false, 1000, CLOSING),
+        (false, true, 1000, HEAD_ALONE),
+        (false, false, 10, b"HTTP/1.1 2".as_slice()),
+    ] {
+        let response = reply(rt.alloc(), 200, b"[]\n")?;
+        let text = taken(rt.alloc(), &response, close, head_only, room)?;
+        assert_eq!(rt; text.as_slice(), want);
+    }
+    Ok(())
+}
+
+#[test]
+fn writes_replies_of_other_statuses(rt: HostRuntime) -> Result<(), Fail> {
+    let done = Response {
+        status: 204,
+        allow: None,
+        body: List::new(rt.alloc()),
+    };
+    let text = taken(rt.alloc(), &done, false, false, 1000)?;
+    assert_eq!(rt; text.as_slice(), NO_CONTENT);
+    let method = Response {
+        status: 405,
+        allow: Some(Text::from_str(rt.alloc(), "POST")?),
+        body: list_of(rt.alloc(), b"{\"error\":{\"code\":\"BadMethod\"}}")?,
+    };
+    let text = taken(rt.alloc(), &method, false, false, 1000)?;
+    assert_eq!(rt; text.as_slice(), BAD_METHOD);
+    let long = reply(
+        rt.alloc(),
+        413,
+        b"{\"error\":{\"code\":\"BodyTooLong\",\"limit\":4194304}}",
+    )?;
+    let text = taken(rt.alloc(), &long, true, false, 1000)?;
+    assert_eq!(rt; text.as_slice(), TOO_LONG);
+    Ok(())
+}
+
+#[test]
+fn writes_requests(rt: HostRuntime) -> Result<(), Fail> {
+    for (method, target, body, want) in [
+        (
+            "GET",
+            "/canon",
+            None,
+            "GET /canon HTTP/1.1\r\nHost: localhost:8080\r\nConnection: close\r\n\r\n",
+        ),
+        (
+            "POST",
+            "/query",
+            Some(b"{}".as_slice()),
+            "POST /query HTTP/1.1\r\nHost: localhost:8080\r\nConnection: close\r\nContent-Length: 2\r\nContent-Type: application/json\r\n\r\n{}",
+        ),
+    ] {
+        let mut sink = MemSink::new(rt.alloc(), 1000, list_of(rt.alloc(), &[2])?);
+        write_request(
+            rt.alloc(),
+            &mut sink,
+            "localhost",
+            8080,
+            method,
+            target,
+            body,
+        )?;
+        assert_eq!(rt; sink.taken(), want.as_bytes());
+    }
+    Ok(())
+}
+
+const REPLIES: [(&[u8], Option<(u16, &str, &str)>); 16] = [
+    (
+        b"HTTP/1.1 200 OK\r\nContent-Length: 3\r\nContent-Type: application/json\r\n\r\n[]\nHTTP",
+        Some((200, "none", "[]\n")),
+    ),
+    (
+        b"HTTP/1.0 404\ncontent-length:0\n\n",
+        Some((404, "none", "")),
+    ),
+    (
+        b"HTTP/1.1 405 No\r\nAllow: \tGET, POST \r\nAllow: PUT\r\nContent-Length: 2\r\n\r\n{}",
+        Some((405, "GET, POST", "{}")),
+    ),
+    (
+        b"HTTP/1.1 405 No\r\nAllow: \xff\r\nContent-Length: 2\r\n\r\n{}",
+        Some((405, "none", "{}")),
+    ),
+    (
+        b"HTTP/1.1 204 No Content\r\n\r\nrest",
+        Some((204, "none", "")),
+    ),
+    (
+        b"HTTP/1.1 204 No Content\r\nContent-Length: 4\r\n\r\nrest",
+        Some((204, "none", "")),
+    ),
+    (b"", None),
+    (b"HTTP/1.1 2", None),
+    (b"HTTP/1.1 200 OK\r\n\r\n", None),
+    (b"HTTP/1.1 200 OK\r\nContent-Length: 3\r\n\r\n[]", None),
+    (
+        b"HTTP/1.1 200 OK\r\nContent-Length: 2\r\nContent-Length: 2\r\n\r\n[]",
+        None,
+    ),
+    (
+        b"HTTP/1.1 200 OK\r\nContent-Length: 134217729\r\n\r\n[]",
+        None,
+    ),
+    (
+        b"HTTP/1.1 204 No Content\r\nContent-Length: 134217729\r\n\r\n",
+        None,
+    ),
+    (
+        b"HTTP/1.1 204 No Content\r\nContent-Length: x\r\n\r\n",
+        None,
+    ),
+    (b"HTTP/2.0 200 OK\r\nContent-Length: 2\r\n\r\n[]", None),
+    (b"GET / HTTP/1.1\r\nContent-Length: 2\r\n\r\n[]", None),
+];
+
+#[test]
+fn reads_replies_in_any_pieces(rt: HostRuntime) -> Result<(), Fail> {
+    for (bytes, want) in REPLIES {
+        for piece in [1, 3, 1000] {
+            let mut pieces = Vec::new(rt.alloc());
+            pieces.resize(200, piece)?;
+            let mut source = source_of(rt.alloc(), bytes, &[], pieces.as_slice())?;
+            let mut buffer = Buffer::new(rt.alloc())?;
+            match (next_response(rt.alloc(), &mut source, &mut buffer), want) {
+                (Ok(response), Some((status, allow, body))) => {
+                    assert_eq!(rt; response.status, status);
+                    let told = response
+                        .allow
+                        .as_ref()
+                        .map_or("none", |methods| methods.as_str());
+                    assert_eq!(rt; told, allow);
+                    assert_eq!(rt; response.body.as_slice(), body.as_bytes());
+                }
+                (answer, want) => {
+                    assert_eq!(rt;
+                        answer.map(|response| response.status),
+                        Err(ReplyEnd::BadReply)
+                    );
+                    assert!(rt; want.is_none());
+                }
+            }
+        }
+    }
+    let mut source = source_of(
+        rt.alloc(),
+        b"HTTP/1.1 200 OK\r\nContent-Length: 2\r\n\r\n[]",
+        &[2],
+        &[9],
+    )?;
+    let mut buffer = Buffer::new(rt.alloc())?;
+    let first = next_response(rt.alloc(), &mut source, &mut buffer).map(|response| response.status);
+    assert_eq!(rt; first, Err(ReplyEnd::ReadFault));
+    let again = next_response(rt.alloc(), &mut source, &mut buffer).map(|response| response.status);
+    assert_eq!(rt; again, Ok(200));
+    Ok(())
+}
