@@ -1,0 +1,14 @@
+//! Queries over a graph of digital twins, as plain data.
+#![tactic(auto)]
+
+mod cond;
+mod copies;
+mod operand;
+mod query;
+
+pub use cond::{Cond, Kind, PartKind};
+pub use operand::{Compare, Literal, Operand};
+pub use query::{Item, Join, Projection, Query};
+
+#[cfg(test)]
+mod tests;
