@@ -1,0 +1,119 @@
+//! The names in a query's text that aliases and their uses are judged by.
+
+ghost use Rattle.std.specs.Prelude.{◌≡◌, IfOk};
+ghost use Rattle.query_grammar.specs.Grammar.{no_notes};
+ghost use Rattle.query_grammar.specs.Machinery.Steps.{noting_alias, noting_output, noting_use};
+
+use dt_base::{List, OutOfMemory, Text};
+use std::alloc::Global;
+use std::marker::Model;
+
+/// A name and the byte of the text at which it stands. Contracts see it as a pair.
+#[derive(Drop)]
+pub struct Spot {
+    pub at: u32,
+    pub name: Text,
+}
+
+impl Model for Spot {
+    ghost use Rattle.std.specs.Prelude.{ℕ, List};
+    ghost use Rattle.std.specs.Coded.{coded_list, coded_ℕ, coded×};
+
+    ghost Value = { ℕ × List ℕ };
+
+    ghost coded = { coded× coded_ℕ (coded_list coded_ℕ) };
+
+    ghost view = { λ s. (s.at, s.name) };
+}
+
+/// What a name that is used has to be bound to.
+#[derive(Clone, Copy)]
+pub enum Role {
+    /// It begins a path.
+    Path,
+    /// It names the source of a join, behind so many other joins.
+    Source(usize),
+    /// It names the twin of a test for a model.
+    Model,
+    /// It is the name of a test for a model without an alias.
+    Bare,
+}
+
+/// A use of a name.
+#[derive(Drop)]
+pub struct Use {
+    pub spot: Spot,
+    pub role: Role,
+}
+
+/// The names that were met, each list in the order of the text: the aliases of the source and of the joins, the
+/// names that items have in the answer, and the uses of aliases.
+#[derive(Drop)]
+pub struct Notes {
+    pub aliases: List<Spot>,
+    pub outputs: List<Spot>,
+    pub uses: List<Use>,
+}
+
+impl Notes {
+    pub fn new(alloc: Global) -> Notes
+        ensures { result ≡ no_notes }
+    {
+        Notes {
+            aliases: List::new(alloc),
+            outputs: List::new(alloc),
+            uses: List::new(alloc),
+        }
+    }
+
+    /// These names and one alias more.
+    pub fn with_alias(self, spot: Spot) -> Result<Notes, OutOfMemory>
+        ensures { IfOk result (λ n. n ≡ noting_alias self spot) }
+    {
+        let Notes {
+            mut aliases,
+            outputs,
+            uses,
+        } = self;
+        aliases.push(spot)?;
+        Ok(Notes {
+            aliases,
+            outputs,
+            uses,
+        })
+    }
+
+    /// These names and one name of an item more.
+    pub fn with_output(self, spot: Spot) -> Result<Notes, OutOfMemory>
+        ensures { IfOk result (λ n. n ≡ noting_output self spot) }
+    {
+        let Notes {
+            aliases,
+            mut outputs,
+            uses,
+        } = self;
+        outputs.push(spot)?;
+        Ok(Notes {
+            aliases,
+            outputs,
+            uses,
+        })
+    }
+
+    /// These names and one use more.
+    pub fn with_use(self, spot: Spot, role: Role) -> Result<Notes, OutOfMemory>
+        ensures { IfOk result (λ n. n ≡ noting_use self spot role) }
+    {
+        let Notes {
+            aliases,
+            outputs,
+            mut uses,
+        } = self;
+        uses.push(Use { spot, role })?;
+        Ok(Notes {
+            aliases,
+            outputs,
+            uses,
+        })
+    }
+}

@@ -1,0 +1,8 @@
+//! The tokens of the query language.
+#![tactic(auto)]
+
+mod names;
+mod token;
+
+pub use names::{same_letters, word_of};
+pub use token::{Mark, Token, Word};
