@@ -49,7 +49,8 @@ impl Interface {
     }
 }
 
-fn copy_ids(alloc: Global, ids: &[Dtmi]) -> Result<List<Dtmi>, OutOfMemory>
+/// A list of equal identifiers.
+pub fn copy_ids(alloc: Global, ids: &[Dtmi]) -> Result<List<Dtmi>, OutOfMemory>
     ensures { IfOk result (λ copies. copies ≡ ids.now) }
 {
     let mut copies = Vec::with_capacity(alloc, ids.len())?;
@@ -59,7 +60,8 @@ fn copy_ids(alloc: Global, ids: &[Dtmi]) -> Result<List<Dtmi>, OutOfMemory>
     Ok(List::from_vec(copies))
 }
 
-fn copy_schemas(alloc: Global, schemas: &[Schema]) -> Result<List<Schema>, OutOfMemory>
+/// A list of equal schemas.
+pub fn copy_schemas(alloc: Global, schemas: &[Schema]) -> Result<List<Schema>, OutOfMemory>
     ensures { IfOk result (λ copies. copies ≡ schemas.now) }
 {
     let mut copies = Vec::with_capacity(alloc, schemas.len())?;

@@ -11,6 +11,7 @@ mod laws;
 mod limit;
 mod options;
 mod primitive;
+mod resolved;
 mod schema;
 mod uploaded;
 
@@ -22,6 +23,7 @@ pub use interface::Interface;
 pub use laws::{same_as_itself, same_both_ways, same_throughout, same_under_a_name};
 pub use limit::Limit;
 pub use primitive::{Primitive, primitive_named};
+pub use resolved::{NamedIn, PartOf, Resolved, ResolvedContent};
 pub use schema::{Payload, Schema};
 pub use uploaded::Uploaded;
 

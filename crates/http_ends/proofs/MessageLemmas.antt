@@ -20,7 +20,7 @@ use Rattle.http_ends.specs.declared.request_head.Head.{Head}
 use Rattle.http_ends.specs.Fields.{codings}
 use Rattle.http_ends.specs.Heads.{fields_of, BeginsWith, body_length}
 use Rattle.http_ends.specs.Messages.{BeginsWithMessage, IsCoded, IsTooLong, IsCutOff, HasNoHead, Holds, message, coded, too_long}
-use Rattle.http_ends.specs.Streams.{stream_of, OnStreams, Answers}
+use Rattle.http_ends.specs.Streams.{stream_of, OnStreams, ReadsNext}
 use Rattle.http_ends.specs.reading.Judging.{is_some_list, IsHeadAt, HeadEnds}
 use Rattle.http_ends.specs.reading.Reads.{IsUnread}
 use Rattle.http_ends.proofs.SliceLemmas.{slice_range-front}
@@ -138,12 +138,12 @@ held bytes head h at none small (too_long some) =
 -- ---- an answer about the head alone
 
 pub head_ends : (old : List ℕ) (before : Option (List ℕ)) (mid : List ℕ) (after : Option (List ℕ)) (bytes : List ℕ) (e : HttpEnd) → mid ≡ old ++ bytes → Consumes before after bytes → HeadEnds mid after e
-    → OnStreams (stream_of old before) (stream_of mid after) (Answers (Err e))
+    → OnStreams (stream_of old before) (stream_of mid after) (ReadsNext (Err e))
 head_ends old before mid after bytes Closed grown taken ends =
-    on_streams old before mid mid after bytes (Answers (Err Closed)) grown taken
+    on_streams old before mid mid after bytes (ReadsNext (Err Closed)) grown taken
     (λ more is. (ap (λ bs. bs ++ more) ends.0 ∙ subst IsAtEnd is ends.1, refl))
 head_ends old before mid after bytes BadHead grown taken ends =
-    on_streams old before mid mid after bytes (Answers (Err BadHead)) grown taken
+    on_streams old before mid mid after bytes (ReadsNext (Err BadHead)) grown taken
     (λ more is. (λ none. ends.0 (nil_front mid more none), subst (λ left. IfSome left (λ bs. HasNoHead (mid ++ bs))) is ends.1, refl))
   where
     nil_front : (xs ys : List ℕ) → xs ++ ys ≡ [] → xs ≡ []
@@ -152,8 +152,8 @@ head_ends old before mid after bytes BadHead grown taken ends =
 head_ends old before mid after bytes BodyTooLong grown taken ends = absurd ends
 head_ends old before mid after bytes TransferCoding grown taken ends = absurd ends
 head_ends old before mid after bytes CutOff grown taken ends = absurd ends
-head_ends old before mid after bytes ReadFault grown taken ends = on_streams old before mid mid after bytes (Answers (Err ReadFault)) grown taken (λ more is. refl)
-head_ends old before mid after bytes OutOfMemory grown taken ends = on_streams old before mid mid after bytes (Answers (Err OutOfMemory)) grown taken (λ more is. refl)
+head_ends old before mid after bytes ReadFault grown taken ends = on_streams old before mid mid after bytes (ReadsNext (Err ReadFault)) grown taken (λ more is. refl)
+head_ends old before mid after bytes OutOfMemory grown taken ends = on_streams old before mid mid after bytes (ReadsNext (Err OutOfMemory)) grown taken (λ more is. refl)
 
 -- ---- texts and limits
 

@@ -19,7 +19,7 @@ OnStreams (Some before) (Some after) P = P before after
 
 -- The answer is what comes next in the stream. After a read that failed, and after want of memory, the stream is as
 -- before.
-abbrev pub Answers : Result Request HttpEnd → List ℕ → List ℕ → Type 0
-Answers (Err ReadFault) before after = after ≡ before
-Answers (Err OutOfMemory) before after = after ≡ before
-Answers answer before after = IsNext before answer after
+abbrev pub ReadsNext : Result Request HttpEnd → List ℕ → List ℕ → Type 0
+ReadsNext (Err ReadFault) before after = after ≡ before
+ReadsNext (Err OutOfMemory) before after = after ≡ before
+ReadsNext answer before after = IsNext before answer after

@@ -8,7 +8,7 @@ ghost use Rattle.http_ends.specs.declared.buffer.Filled.TheVariants.{More, Ended
 ghost use Rattle.http_ends.specs.declared.request.HttpEnd.TheVariants.{ReadFault};
 ghost use Rattle.http_ends.specs.Heads.{BeginsWith};
 ghost use Rattle.http_ends.specs.Messages.{Holds};
-ghost use Rattle.http_ends.specs.Streams.{stream_of, OnStreams, Answers};
+ghost use Rattle.http_ends.specs.Streams.{stream_of, OnStreams, ReadsNext};
 ghost use Rattle.http_ends.specs.reading.Judging.{IsHeadAt, HeadEnds};
 ghost use Rattle.http_ends.specs.reading.Reads.{Reads, IsUnread};
 
@@ -151,7 +151,7 @@ pub fn next_request<S: Source>(
     link: &mut S,
     buffer: &mut Buffer,
 ) -> Result<Request, HttpEnd>
-    ensures next { OnStreams (stream_of buffer.old (S.left link.old)) (stream_of buffer.new (S.left link.new)) (Answers result) }
+    ensures next { OnStreams (stream_of buffer.old (S.left link.old)) (stream_of buffer.new (S.left link.new)) (ReadsNext result) }
     ensures within { IfOk result (λ r. (length r.path + length r.query ≤ 16384) × (length r.body ≤ 4194304)) }
     ensures unread { Holds buffer.old → link.new ≡ link.old }
     ensures fault { result ≡ Err ReadFault → Holds buffer.new → ⊥ }

@@ -26,7 +26,7 @@ use Rattle.query_grammar.specs.declared.state.Chain.{Chain}
 use Rattle.query_grammar.specs.declared.state.Around.{Around}
 use Rattle.query_grammar.specs.declared.state.Goal.{Goal}
 use Rattle.query_grammar.specs.declared.state.Goal.TheVariants as goals
-use Rattle.query_grammar.specs.Phrases.{Placed, Spot, Rest, On, choice, only_some, word_number, mark_number, word, mark, number, field}
+use Rattle.query_grammar.specs.Phrases.{Placed, PlacedName, Rest, On, choice, only_some, word_number, mark_number, word, mark, number, field}
 use Rattle.query_grammar.specs.Grammar.{steps, top_size, factor, no_notes, operand, literal, relationships, twins, at_end, model_and_exact}
 use Rattle.query_grammar.specs.Machinery.Steps.{when, is_mark, is_word, noting_output, select_step, behind_top_step, top_closed, item_start_step, item_path_step, behind_item_step, source_step, relationships_alias_step, behind_relationships_step, twins_alias_step, behind_twins_step, join_alias_step, factor_step, operand_step, literal_step, takes_literal, path_of, behind_factor_step, behind_left_step, behind_step, path_step, list_item_step, behind_list_item_step, model_start_step, model_text_step, behind_model_step, step, with_both, negations, inside}
 use Rattle.query_grammar.specs.Machinery.Remains.{Whole, Remains, Follows, after_select, behind_top, operand_for, goal_rest, factor_rest, Numbered, behind_related, behind_name, literals_rest, model_start}
@@ -45,7 +45,7 @@ mark-in m K n at (tokens.Name v name) rest e x = absurd cc
 mark-in m K n at (tokens.Number d) rest e x = absurd cc
 mark-in m K n at (tokens.Text t o) rest e x = absurd cc
 
-word-in : (v : Word) (K : Spot → Rest) (n : Notes) (at : ℕ) (t : Token) (rest : List Placed) → is_word v t ≡ true → ((name : List ℕ) → K (at, name) n rest) → word v K n ((at, t) ∷ rest)
+word-in : (v : Word) (K : PlacedName → Rest) (n : Notes) (at : ℕ) (t : Token) (rest : List Placed) → is_word v t ≡ true → ((name : List ℕ) → K (at, name) n rest) → word v K n ((at, t) ∷ rest)
 word-in v K n at (tokens.Name o name) rest e x = on-in (word_number v == word_number o) (K (at, name) n rest) e (x name)
 word-in v K n at (tokens.Mark o) rest e x = absurd cc
 word-in v K n at (tokens.Number d) rest e x = absurd cc
@@ -91,7 +91,7 @@ back-behind_item n top items at (tokens.Mark marks.Comma) rest w h =
     (suc p.1.0, on-in (nat_lt (length items) 20) _ p.0 p.1.1)
 back-behind_item n top items at t rest w h = absurd h
 
-back-item_path : (n : Notes) (top : Option ℕ) (items : List Item) (path : List (List ℕ)) (last : Spot) (at : ℕ) (t : Token) (rest : List Placed) (w : Whole)
+back-item_path : (n : Notes) (top : Option ℕ) (items : List Item) (path : List (List ℕ)) (last : PlacedName) (at : ℕ) (t : Token) (rest : List Placed) (w : Whole)
     → Follows (item_path_step n top items path last t) rest w → Remains (states.ItemPath n top items path last) ((at, t) ∷ rest) w
 back-item_path n top items path last at (tokens.Mark marks.Dot) rest w h = (h.0, (suc h.1.0, h.1.1))
 back-item_path n top items path last at (tokens.Name words.As name) rest w h = (h.0, (zero, inl h.1))
@@ -200,7 +200,7 @@ back-path n a g path at t rest w h =
     (r.0, (r.1.0, (r.1.1.0, (zero, ((zero, []), r.1.1.1)))))
 
 -- the last name of a path in a condition does not matter
-any_last : (j : ℕ) (path : List (List ℕ)) (one other : Spot) (K : Operand → Rest) (n : Notes) (ts : List Placed)
+any_last : (j : ℕ) (path : List (List ℕ)) (one other : PlacedName) (K : Operand → Rest) (n : Notes) (ts : List Placed)
     → steps j path one (λ p. K (operands.Path p.0)) n ts → steps j path other (λ p. K (operands.Path p.0)) n ts
 any_last zero path one other K n ts h = h
 any_last (suc j) path one other K n ts h = h
@@ -278,11 +278,11 @@ back-behind_list_item n a o within ls at (tokens.Mark marks.Comma) rest w (m, (l
 back-behind_list_item n a o within ls at (tokens.Mark marks.CloseList) rest w (m, (l, (ms, x))) = (m, (l, (ms, (zero, x))))
 back-behind_list_item n a o within ls at t rest w h = absurd h
 
-back-model_start : (n : Notes) (a : Around) (spot : Spot) (at : ℕ) (t : Token) (rest : List Placed) (w : Whole)
-    → Follows (model_start_step n a spot at t) rest w → Remains (states.ModelStart n a spot) ((at, t) ∷ rest) w
-back-model_start n a spot at (tokens.Name words.Alias name) rest w (m, (l, (ms, x))) = (m, (l, (ms, inl x)))
-back-model_start n a spot at (tokens.Text t (Some model)) rest w (m, (l, (ms, x))) = (m, (l, (ms, inr x)))
-back-model_start n a spot at t rest w h = absurd h
+back-model_start : (n : Notes) (a : Around) (placed : PlacedName) (at : ℕ) (t : Token) (rest : List Placed) (w : Whole)
+    → Follows (model_start_step n a placed at t) rest w → Remains (states.ModelStart n a placed) ((at, t) ∷ rest) w
+back-model_start n a placed at (tokens.Name words.Alias name) rest w (m, (l, (ms, x))) = (m, (l, (ms, inl x)))
+back-model_start n a placed at (tokens.Text t (Some model)) rest w (m, (l, (ms, x))) = (m, (l, (ms, inr x)))
+back-model_start n a placed at t rest w h = absurd h
 
 back-model_text : (n : Notes) (a : Around) (twin : Option (List ℕ)) (at : ℕ) (t : Token) (rest : List Placed) (w : Whole)
     → Follows (model_text_step n a twin t) rest w → Remains (states.ModelText n a twin) ((at, t) ∷ rest) w
@@ -367,10 +367,10 @@ backward (states.ListOpen n a o within) at t rest w h =
     )
 backward (states.ListItem n a o within ls) at t rest w h = back-list_item n a o within ls at t rest w h
 backward (states.BehindListItem n a o within ls) at t rest w h = back-behind_list_item n a o within ls at t rest w h
-backward (states.ModelOpen n a spot) at t rest w h =
-    let p = back-when (is_mark marks.Open t) (states.ModelStart n a spot) rest w h in let x = p.1 in
-    (x.0, (x.1.0, (x.1.1.0, mark-in marks.Open (λ _. model_start spot (factor_rest x.0 x.1.0 x.1.1.0 a w)) n at t rest p.0 x.1.1.1)))
-backward (states.ModelStart n a spot) at t rest w h = back-model_start n a spot at t rest w h
+backward (states.ModelOpen n a placed) at t rest w h =
+    let p = back-when (is_mark marks.Open t) (states.ModelStart n a placed) rest w h in let x = p.1 in
+    (x.0, (x.1.0, (x.1.1.0, mark-in marks.Open (λ _. model_start placed (factor_rest x.0 x.1.0 x.1.1.0 a w)) n at t rest p.0 x.1.1.1)))
+backward (states.ModelStart n a placed) at t rest w h = back-model_start n a placed at t rest w h
 backward (states.ModelComma n a twin) at t rest w h =
     let p = back-when (is_mark marks.Comma t) (states.ModelText n a (Some twin)) rest w h in let x = p.1 in
     (x.0, (x.1.0, (x.1.1.0, mark-in marks.Comma (λ _. model_and_exact (Some twin) (factor_rest x.0 x.1.0 x.1.1.0 a w)) n at t rest p.0 x.1.1.1)))

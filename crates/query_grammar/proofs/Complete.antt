@@ -22,14 +22,14 @@ use Rattle.query_grammar.specs.declared.state.Chain.{Chain}
 use Rattle.query_grammar.specs.declared.state.Around.{Around}
 use Rattle.query_grammar.specs.declared.state.Goal.{Goal}
 use Rattle.query_grammar.specs.declared.state.Goal.TheVariants as goals
-use Rattle.query_grammar.specs.Phrases.{Placed, Spot}
+use Rattle.query_grammar.specs.Phrases.{Placed, PlacedName}
 use Rattle.query_grammar.specs.Grammar.{no_notes}
 use Rattle.query_grammar.specs.Machinery.Steps.{noting_output, noting_alias, path_of, step, asked_of, head_of, joined, closed, membership, noting_use, with_both, with_either, negations}
 use Rattle.query_grammar.specs.Machinery.Remains.{Whole, Remains, Follows}
 use Rattle.std.specs.Prelude.{pos, neg_ℤ, ◌≤ℤ◌}
 use Rattle.json_decimal.specs.declared.decimal.Decimal.{Decimal}
 use Rattle.query_terms.specs.declared.operand.Compare.TheVariants as compares
-use Rattle.query_grammar.specs.declared.names.Role.TheVariants as roles
+use Rattle.query_grammar.specs.declared.names.Referent.TheVariants as referents
 use Rattle.query_grammar.proofs.Backward.{backward}
 
 pub data Simple : Type 0 where
@@ -123,7 +123,7 @@ live-join_dot : (n : Notes) (d : Head) (target source : List ℕ) → Live (stat
 live-join_dot n d target source = via _ _ a_dot refl (live-join_name n d target source)
 
 live-join_source : (n : Notes) (d : Head) (target : List ℕ) → Live (states.JoinSource n d target)
-live-join_source n d target = via _ _ an_alias refl (live-join_dot (noting_use n (0, codes "a") (roles.Source (length d.joins))) d target (codes "a"))
+live-join_source n d target = via _ _ an_alias refl (live-join_dot (noting_use n (0, codes "a") (referents.Source (length d.joins))) d target (codes "a"))
 
 live-join_related : (n : Notes) (d : Head) (target : List ℕ) → Live (states.JoinRelated n d target)
 live-join_related n d target = via _ _ a_related refl (live-join_source n d target)
@@ -144,7 +144,7 @@ live-behind_item n top items = via _ _ a_from refl (live-source n (projections.I
 live-item_as : (n : Notes) (top : Option ℕ) (items : List Item) (path : List (List ℕ)) → Live (states.ItemAs n top items path)
 live-item_as n top items path = via _ _ an_alias refl (live-behind_item (noting_output n (0, codes "a")) top (items ++ (record { path = path; out = codes "a" }) ∷ []))
 
-live-item_path : (n : Notes) (top : Option ℕ) (items : List Item) (path : List (List ℕ)) (last : Spot) → Live (states.ItemPath n top items path last)
+live-item_path : (n : Notes) (top : Option ℕ) (items : List Item) (path : List (List ℕ)) (last : PlacedName) → Live (states.ItemPath n top items path last)
 live-item_path n top items path last =
     via _ _ a_from refl (live-source (noting_output n last) (projections.Items top (items ++ (record { path = path; out = last.1 }) ∷ [])))
 
@@ -152,7 +152,7 @@ live-item_field : (n : Notes) (top : Option ℕ) (items : List Item) (path : Lis
 live-item_field n top items path = via _ _ an_alias refl (live-item_path n top items (path ++ codes "a" ∷ []) (0, codes "a"))
 
 live-item_start : (n : Notes) (top : Option ℕ) (items : List Item) → Live (states.ItemStart n top items)
-live-item_start n top items = via _ _ an_alias refl (live-item_path (noting_use n (0, codes "a") roles.Path) top items (codes "a" ∷ []) (0, codes "a"))
+live-item_start n top items = via _ _ an_alias refl (live-item_path (noting_use n (0, codes "a") referents.Path) top items (codes "a" ∷ []) (0, codes "a"))
 
 live-behind_top : (size : ℕ) → Live (states.BehindTop size)
 live-behind_top size = via _ _ a_from refl (live-source no_notes (projections.Star (Some size)))
@@ -197,7 +197,7 @@ live-field : (n : Notes) (a : Around) (g : Goal) (path : List (List ℕ)) → Li
 live-field n a g path = via _ _ an_alias refl (live-path n a g (path ++ codes "a" ∷ []))
 
 live-operand : (n : Notes) (a : Around) (g : Goal) → Live (states.Operand n a g)
-live-operand n a g = via _ _ an_alias refl (live-path (noting_use n (0, codes "a") roles.Path) a g (codes "a" ∷ []))
+live-operand n a g = via _ _ an_alias refl (live-path (noting_use n (0, codes "a") referents.Path) a g (codes "a" ∷ []))
 
 live-behind_list_item : (n : Notes) (a : Around) (o : Operand) (within : Bool) (ls : List Literal) → Live (states.BehindListItem n a o within ls)
 live-behind_list_item n a o within ls = via _ _ close_list refl (live-closed n a (membership within o ls))
@@ -217,8 +217,8 @@ live-behind_model n a twin m = via _ _ a_close refl (live-closed n a (of_model t
 live-model_text : (n : Notes) (a : Around) (twin : Option (List ℕ)) → Live (states.ModelText n a twin)
 live-model_text n a twin = via _ _ a_model refl (live-behind_model n a twin model)
 
-live-model_start : (n : Notes) (a : Around) (spot : Spot) → Live (states.ModelStart n a spot)
-live-model_start n a spot = via _ _ a_model refl (live-behind_model (noting_use n spot roles.Bare) a None model)
+live-model_start : (n : Notes) (a : Around) (placed : PlacedName) → Live (states.ModelStart n a placed)
+live-model_start n a placed = via _ _ a_model refl (live-behind_model (noting_use n placed referents.Bare) a None model)
 
 pub complete : (s : State) → Live s
 complete states.Start = via _ _ a_select refl (via states.Select _ a_star refl (live-behind_select no_notes (projections.Star None)))
@@ -255,8 +255,8 @@ complete (states.Behind n a g o) = live-behind n a g o
 complete (states.ListOpen n a o within) = via _ _ open_list refl (live-list_item n a o within [])
 complete (states.ListItem n a o within ls) = live-list_item n a o within ls
 complete (states.BehindListItem n a o within ls) = live-behind_list_item n a o within ls
-complete (states.ModelOpen n a spot) = via _ _ an_open refl (live-model_start n a spot)
-complete (states.ModelStart n a spot) = live-model_start n a spot
+complete (states.ModelOpen n a placed) = via _ _ an_open refl (live-model_start n a placed)
+complete (states.ModelStart n a placed) = live-model_start n a placed
 complete (states.ModelComma n a twin) = via _ _ a_comma refl (live-model_text n a (Some twin))
 complete (states.ModelText n a twin) = live-model_text n a twin
 complete (states.BehindModel n a twin m) = live-behind_model n a twin m

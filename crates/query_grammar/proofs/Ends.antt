@@ -119,9 +119,9 @@ ends_forward (states.ListItem n a o within ls) w (m, (l, (ms, (k, inr (inr (inl 
 ends_forward (states.ListItem n a o within ls) w (m, (l, (ms, (k, inr (inr (inr h)))))) = absurd h
 ends_forward (states.BehindListItem n a o within ls) w (m, (l, (ms, (suc k, h)))) = absurd h
 ends_forward (states.BehindListItem n a o within ls) w (m, (l, (ms, (zero, h)))) = absurd h
-ends_forward (states.ModelOpen n a spot) w (m, (l, (ms, h))) = absurd h
-ends_forward (states.ModelStart n a spot) w (m, (l, (ms, inl h))) = absurd h
-ends_forward (states.ModelStart n a spot) w (m, (l, (ms, inr h))) = absurd h
+ends_forward (states.ModelOpen n a placed) w (m, (l, (ms, h))) = absurd h
+ends_forward (states.ModelStart n a placed) w (m, (l, (ms, inl h))) = absurd h
+ends_forward (states.ModelStart n a placed) w (m, (l, (ms, inr h))) = absurd h
 ends_forward (states.ModelComma n a twin) w (m, (l, (ms, h))) = absurd h
 ends_forward (states.ModelText n a twin) w (m, (l, (ms, h))) = absurd h
 ends_forward (states.BehindModel n a twin model) w (m, (l, (ms, inl h))) = absurd h

@@ -26,7 +26,7 @@ use Rattle.query_grammar.specs.declared.state.Chain.{Chain}
 use Rattle.query_grammar.specs.declared.state.Around.{Around}
 use Rattle.query_grammar.specs.declared.state.Goal.{Goal}
 use Rattle.query_grammar.specs.declared.state.Goal.TheVariants as goals
-use Rattle.query_grammar.specs.Phrases.{Placed, Spot, Rest, On, choice, only_some, word_number, mark_number, word, mark, number, field}
+use Rattle.query_grammar.specs.Phrases.{Placed, PlacedName, Rest, On, choice, only_some, word_number, mark_number, word, mark, number, field}
 use Rattle.query_grammar.specs.Grammar.{top_size, factor, no_notes, operand, literal, relationships, twins, at_end, model_and_exact}
 use Rattle.query_grammar.specs.Machinery.Steps.{when, is_mark, is_word, noting_output, select_step, behind_top_step, top_closed, item_start_step, item_path_step, behind_item_step, source_step, relationships_alias_step, behind_relationships_step, twins_alias_step, behind_twins_step, join_alias_step, factor_step, operand_step, takes_literal, path_of, behind_factor_step, behind_left_step, behind_step, path_step, list_item_step, behind_list_item_step, model_start_step, model_text_step, behind_model_step, step, with_both, negations}
 use Rattle.query_grammar.specs.Machinery.Remains.{Whole, Remains, Follows, after_select, behind_top, operand_for, goal_rest, factor_rest, behind_related, behind_name, literals_rest, model_start}
@@ -42,7 +42,7 @@ fwd-mark m K s n at (tokens.Name v name) rest w f h = absurd h
 fwd-mark m K s n at (tokens.Number d) rest w f h = absurd h
 fwd-mark m K s n at (tokens.Text x o) rest w f h = absurd h
 
-fwd-word : (v : Word) (K : Spot → Rest) (s : State) (n : Notes) (at : ℕ) (t : Token) (rest : List Placed) (w : Whole)
+fwd-word : (v : Word) (K : PlacedName → Rest) (s : State) (n : Notes) (at : ℕ) (t : Token) (rest : List Placed) (w : Whole)
     → ((name : List ℕ) → K (at, name) n rest → Remains s rest w) → word v K n ((at, t) ∷ rest) → Follows (when (is_word v t) s) rest w
 fwd-word v K s n at (tokens.Name o name) rest w f h = on_when (word_number v == word_number o) (K (at, name) n rest) s rest w (f name) h
 fwd-word v K s n at (tokens.Mark o) rest w f h = absurd h
@@ -94,7 +94,7 @@ fwd-behind_item n top items at (tokens.Mark marks.Comma) rest w (suc k, h) =
 fwd-behind_item n top items at t rest w (zero, h) = absurd h
 fwd-behind_item n top items at t rest w (suc k, h) = absurd h
 
-fwd-item_path : (n : Notes) (top : Option ℕ) (items : List Item) (path : List (List ℕ)) (last : Spot) (at : ℕ) (t : Token) (rest : List Placed) (w : Whole)
+fwd-item_path : (n : Notes) (top : Option ℕ) (items : List Item) (path : List (List ℕ)) (last : PlacedName) (at : ℕ) (t : Token) (rest : List Placed) (w : Whole)
     → Remains (states.ItemPath n top items path last) ((at, t) ∷ rest) w → Follows (item_path_step n top items path last t) rest w
 fwd-item_path n top items path last at (tokens.Mark marks.Dot) rest w (k, (suc j, h)) = (k, (j, h))
 fwd-item_path n top items path last at (tokens.Mark marks.Dot) rest w (k, (zero, inl h)) = absurd h
@@ -310,12 +310,12 @@ fwd-behind_list_item n a o within ls at (tokens.Mark marks.CloseList) rest w (m,
 fwd-behind_list_item n a o within ls at t rest w (m, (l, (ms, (suc k, x)))) = absurd x
 fwd-behind_list_item n a o within ls at t rest w (m, (l, (ms, (zero, x)))) = absurd x
 
-fwd-model_start : (n : Notes) (a : Around) (spot : Spot) (at : ℕ) (t : Token) (rest : List Placed) (w : Whole)
-    → Remains (states.ModelStart n a spot) ((at, t) ∷ rest) w → Follows (model_start_step n a spot at t) rest w
-fwd-model_start n a spot at (tokens.Name words.Alias name) rest w (m, (l, (ms, inl x))) = (m, (l, (ms, x)))
-fwd-model_start n a spot at (tokens.Text t (Some model)) rest w (m, (l, (ms, inr x))) = (m, (l, (ms, x)))
-fwd-model_start n a spot at t rest w (m, (l, (ms, inl x))) = absurd x
-fwd-model_start n a spot at t rest w (m, (l, (ms, inr x))) = absurd x
+fwd-model_start : (n : Notes) (a : Around) (placed : PlacedName) (at : ℕ) (t : Token) (rest : List Placed) (w : Whole)
+    → Remains (states.ModelStart n a placed) ((at, t) ∷ rest) w → Follows (model_start_step n a placed at t) rest w
+fwd-model_start n a placed at (tokens.Name words.Alias name) rest w (m, (l, (ms, inl x))) = (m, (l, (ms, x)))
+fwd-model_start n a placed at (tokens.Text t (Some model)) rest w (m, (l, (ms, inr x))) = (m, (l, (ms, x)))
+fwd-model_start n a placed at t rest w (m, (l, (ms, inl x))) = absurd x
+fwd-model_start n a placed at t rest w (m, (l, (ms, inr x))) = absurd x
 
 fwd-model_text : (n : Notes) (a : Around) (twin : Option (List ℕ)) (at : ℕ) (t : Token) (rest : List Placed) (w : Whole)
     → Remains (states.ModelText n a twin) ((at, t) ∷ rest) w → Follows (model_text_step n a twin t) rest w
@@ -372,8 +372,8 @@ forward (states.ListOpen n a o within) at t rest w (m, (l, (ms, (k, h)))) =
     fwd-mark marks.OpenList (λ _. literal (λ x. literals_rest k within o (factor_rest m l ms a w) (x ∷ []))) (states.ListItem n a o within []) n at t rest w (λ x. (m, (l, (ms, (k, x))))) h
 forward (states.ListItem n a o within ls) at t rest w h = fwd-list_item n a o within ls at t rest w h
 forward (states.BehindListItem n a o within ls) at t rest w h = fwd-behind_list_item n a o within ls at t rest w h
-forward (states.ModelOpen n a spot) at t rest w (m, (l, (ms, h))) = fwd-mark marks.Open (λ _. model_start spot (factor_rest m l ms a w)) (states.ModelStart n a spot) n at t rest w (λ x. (m, (l, (ms, x)))) h
-forward (states.ModelStart n a spot) at t rest w h = fwd-model_start n a spot at t rest w h
+forward (states.ModelOpen n a placed) at t rest w (m, (l, (ms, h))) = fwd-mark marks.Open (λ _. model_start placed (factor_rest m l ms a w)) (states.ModelStart n a placed) n at t rest w (λ x. (m, (l, (ms, x)))) h
+forward (states.ModelStart n a placed) at t rest w h = fwd-model_start n a placed at t rest w h
 forward (states.ModelComma n a twin) at t rest w (m, (l, (ms, h))) = fwd-mark marks.Comma (λ _. model_and_exact (Some twin) (factor_rest m l ms a w)) (states.ModelText n a (Some twin)) n at t rest w (λ x. (m, (l, (ms, x)))) h
 forward (states.ModelText n a twin) at t rest w h = fwd-model_text n a twin at t rest w h
 forward (states.BehindModel n a twin model) at t rest w h = fwd-behind_model n a twin model at t rest w h

@@ -16,12 +16,12 @@ use Rattle.query_tokens.specs.Words.{same_letters}
 use Rattle.query_tokens.specs.declared.token.Word.TheVariants as words
 use Rattle.query_tokens.specs.declared.token.Mark.TheVariants as marks
 use Rattle.query_grammar.specs.declared.names.Notes.{Notes}
-use Rattle.query_grammar.specs.declared.names.Role.TheVariants as roles
-use Rattle.query_grammar.specs.Phrases.{Placed, Spot, Rest, Phrase, ◌>>=◌, ◌>>◌, pure, choice, some_number, only_if, only_some, word, alias, field, kind_word, part_word, mark, compare_mark, number, text, note_alias, note_output, note_use}
+use Rattle.query_grammar.specs.declared.names.Referent.TheVariants as referents
+use Rattle.query_grammar.specs.Phrases.{Placed, PlacedName, Rest, Phrase, ◌>>=◌, ◌>>◌, pure, choice, some_number, only_if, only_some, word, alias, field, kind_word, part_word, mark, compare_mark, number, text, note_alias, note_output, note_use}
 
 -- ---- paths
 -- So many names, each behind a point, that follow these; with the last name.
-abbrev pub steps : ℕ → List (List ℕ) → Spot → Phrase (List (List ℕ) × Spot)
+abbrev pub steps : ℕ → List (List ℕ) → PlacedName → Phrase (List (List ℕ) × PlacedName)
 steps zero path last = pure (path, last)
 steps (suc k) path last = do
   mark marks.Dot
@@ -29,10 +29,10 @@ steps (suc k) path last = do
   steps k (path ++ name.0 ∷ []) name.1
 
 -- An alias and any number of names.
-abbrev pub path : Phrase (List (List ℕ) × Spot)
+abbrev pub path : Phrase (List (List ℕ) × PlacedName)
 path = some_number (λ k. do
   first ← alias
-  note_use first roles.Path
+  note_use first referents.Path
   steps k (first.1 ∷ []) first)
 
 -- ---- what is selected
@@ -115,7 +115,7 @@ join before = do
   note_alias target
   word words.Related
   source ← alias
-  note_use source (roles.Source before)
+  note_use source (referents.Source before)
   mark marks.Dot
   name ← field
   rel ← alias_here
@@ -211,11 +211,11 @@ model_test = do
   choice
       (do
         twin ← alias
-        note_use twin roles.Model
+        note_use twin referents.Model
         mark marks.Comma
         model_and_exact (Some twin.1))
       (do
-        note_use name roles.Bare
+        note_use name referents.Bare
         model_and_exact None)
 
 abbrev pub function : Phrase Condition

@@ -13,15 +13,15 @@ use Rattle.query_tokens.specs.declared.token.Mark.TheVariants as marks
 use Rattle.query_tokens.specs.declared.token.Token.{Token}
 use Rattle.query_tokens.specs.declared.token.Token.TheVariants as tokens
 use Rattle.query_grammar.specs.declared.names.Notes.{Notes}
-use Rattle.query_grammar.specs.declared.names.Role.{Role}
+use Rattle.query_grammar.specs.declared.names.Referent.{Referent}
 
 -- A token and the byte of the text at which it stands.
 abbrev pub Placed : Type 0
 Placed = ℕ × Token
 
 -- A name and the byte at which it stands.
-abbrev pub Spot : Type 0
-Spot = ℕ × List ℕ
+abbrev pub PlacedName : Type 0
+PlacedName = ℕ × List ℕ
 
 -- A fact about the names that were noted and the tokens that follow.
 abbrev pub Rest : Type 1
@@ -102,7 +102,7 @@ mark_number marks.CloseList = 6
 mark_number (marks.Compare compare) = 7
 
 -- This keyword, with where it stands.
-abbrev pub word : Word → Phrase Spot
+abbrev pub word : Word → Phrase PlacedName
 word w K n ((at, tokens.Name v name) ∷ ts) = On (word_number w == word_number v) (K (at, name) n ts)
 word w K n ((at, tokens.Number d) ∷ ts) = ⊥
 word w K n ((at, tokens.Text t m) ∷ ts) = ⊥
@@ -110,11 +110,11 @@ word w K n ((at, tokens.Mark m) ∷ ts) = ⊥
 word w K n [] = ⊥
 
 -- A name that is no keyword.
-abbrev pub alias : Phrase Spot
+abbrev pub alias : Phrase PlacedName
 alias = word words.Alias
 
 -- Any name.
-abbrev pub field : Phrase (List ℕ × Spot)
+abbrev pub field : Phrase (List ℕ × PlacedName)
 field K n ((at, tokens.Name v name) ∷ ts) = K (name, (at, name)) n ts
 field K n ((at, tokens.Number d) ∷ ts) = ⊥
 field K n ((at, tokens.Text t m) ∷ ts) = ⊥
@@ -151,11 +151,11 @@ text K n ((at, tokens.Text content id) ∷ ts) = K (content, id) n ts
 text K n other = ⊥
 
 -- ---- notes
-abbrev pub note_alias : Spot → Phrase (Unit {0})
+abbrev pub note_alias : PlacedName → Phrase (Unit {0})
 note_alias s K n ts = K tt (record n { aliases = n.aliases ++ s ∷ [] }) ts
 
-abbrev pub note_output : Spot → Phrase (Unit {0})
+abbrev pub note_output : PlacedName → Phrase (Unit {0})
 note_output s K n ts = K tt (record n { outputs = n.outputs ++ s ∷ [] }) ts
 
-abbrev pub note_use : Spot → Role → Phrase (Unit {0})
-note_use s role K n ts = K tt (record n { uses = n.uses ++ (record { spot = s; role = role }) ∷ [] }) ts
+abbrev pub note_use : PlacedName → Referent → Phrase (Unit {0})
+note_use s referent K n ts = K tt (record n { uses = n.uses ++ (record { placed = s; referent = referent }) ∷ [] }) ts

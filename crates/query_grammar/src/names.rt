@@ -10,12 +10,12 @@ use std::marker::Model;
 
 /// A name and the byte of the text at which it stands. Contracts see it as a pair.
 #[derive(Drop)]
-pub struct Spot {
+pub struct PlacedName {
     pub at: u32,
     pub name: Text,
 }
 
-impl Model for Spot {
+impl Model for PlacedName {
     ghost use Rattle.std.specs.Prelude.{ℕ, List};
     ghost use Rattle.std.specs.Coded.{coded_list, coded_ℕ, coded×};
 
@@ -26,9 +26,9 @@ impl Model for Spot {
     ghost view = { λ s. (s.at, s.name) };
 }
 
-/// What a name that is used has to be bound to.
+/// What a name that is used refers to, which it has to be bound to.
 #[derive(Clone, Copy)]
-pub enum Role {
+pub enum Referent {
     /// It begins a path.
     Path,
     /// It names the source of a join, behind so many other joins.
@@ -42,16 +42,16 @@ pub enum Role {
 /// A use of a name.
 #[derive(Drop)]
 pub struct Use {
-    pub spot: Spot,
-    pub role: Role,
+    pub placed: PlacedName,
+    pub referent: Referent,
 }
 
 /// The names that were met, each list in the order of the text: the aliases of the source and of the joins, the
 /// names that items have in the answer, and the uses of aliases.
 #[derive(Drop)]
 pub struct Notes {
-    pub aliases: List<Spot>,
-    pub outputs: List<Spot>,
+    pub aliases: List<PlacedName>,
+    pub outputs: List<PlacedName>,
     pub uses: List<Use>,
 }
 
@@ -67,15 +67,15 @@ impl Notes {
     }
 
     /// These names and one alias more.
-    pub fn with_alias(self, spot: Spot) -> Result<Notes, OutOfMemory>
-        ensures { IfOk result (λ n. n ≡ noting_alias self spot) }
+    pub fn with_alias(self, placed: PlacedName) -> Result<Notes, OutOfMemory>
+        ensures { IfOk result (λ n. n ≡ noting_alias self placed) }
     {
         let Notes {
             mut aliases,
             outputs,
             uses,
         } = self;
-        aliases.push(spot)?;
+        aliases.push(placed)?;
         Ok(Notes {
             aliases,
             outputs,
@@ -84,15 +84,15 @@ impl Notes {
     }
 
     /// These names and one name of an item more.
-    pub fn with_output(self, spot: Spot) -> Result<Notes, OutOfMemory>
-        ensures { IfOk result (λ n. n ≡ noting_output self spot) }
+    pub fn with_output(self, placed: PlacedName) -> Result<Notes, OutOfMemory>
+        ensures { IfOk result (λ n. n ≡ noting_output self placed) }
     {
         let Notes {
             aliases,
             mut outputs,
             uses,
         } = self;
-        outputs.push(spot)?;
+        outputs.push(placed)?;
         Ok(Notes {
             aliases,
             outputs,
@@ -101,15 +101,15 @@ impl Notes {
     }
 
     /// These names and one use more.
-    pub fn with_use(self, spot: Spot, role: Role) -> Result<Notes, OutOfMemory>
-        ensures { IfOk result (λ n. n ≡ noting_use self spot role) }
+    pub fn with_use(self, placed: PlacedName, referent: Referent) -> Result<Notes, OutOfMemory>
+        ensures { IfOk result (λ n. n ≡ noting_use self placed referent) }
     {
         let Notes {
             aliases,
             outputs,
             mut uses,
         } = self;
-        uses.push(Use { spot, role })?;
+        uses.push(Use { placed, referent })?;
         Ok(Notes {
             aliases,
             outputs,

@@ -2,7 +2,7 @@
 
 ghost use Rattle.std.specs.Prelude.{◌≡◌, [], ◌∷◌, ◌++◌, OnOk, OnErr, MatchOption};
 
-use crate::names::{Notes, Spot};
+use crate::names::{Notes, PlacedName};
 use dt_base::{List, OutOfMemory, Text};
 use dtmi_name::Dtmi;
 use query_terms::{Compare, Cond, Item, Join, Kind, Literal, Operand, PartKind, Projection};
@@ -123,7 +123,7 @@ pub enum State {
     BehindTop(u32),
     BehindSelect(Notes, Projection),
     ItemStart(Notes, Option<u32>, List<Item>),
-    ItemPath(Notes, Option<u32>, List<Item>, List<Text>, Spot),
+    ItemPath(Notes, Option<u32>, List<Item>, List<Text>, PlacedName),
     ItemField(Notes, Option<u32>, List<Item>, List<Text>),
     ItemAs(Notes, Option<u32>, List<Item>, List<Text>),
     BehindItem(Notes, Option<u32>, List<Item>),
@@ -147,8 +147,8 @@ pub enum State {
     ListOpen(Notes, Around, Operand, bool),
     ListItem(Notes, Around, Operand, bool, List<Literal>),
     BehindListItem(Notes, Around, Operand, bool, List<Literal>),
-    ModelOpen(Notes, Around, Spot),
-    ModelStart(Notes, Around, Spot),
+    ModelOpen(Notes, Around, PlacedName),
+    ModelStart(Notes, Around, PlacedName),
     ModelComma(Notes, Around, Text),
     ModelText(Notes, Around, Option<Text>),
     BehindModel(Notes, Around, Option<Text>, Dtmi),

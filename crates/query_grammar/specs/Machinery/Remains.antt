@@ -13,7 +13,7 @@ use Rattle.query_terms.specs.Queries.{Asked}
 use Rattle.query_tokens.specs.declared.token.Word.TheVariants as words
 use Rattle.query_tokens.specs.declared.token.Mark.TheVariants as marks
 use Rattle.query_grammar.specs.declared.names.Notes.{Notes}
-use Rattle.query_grammar.specs.declared.names.Role.TheVariants as roles
+use Rattle.query_grammar.specs.declared.names.Referent.TheVariants as referents
 use Rattle.query_grammar.specs.declared.state.State.{State}
 use Rattle.query_grammar.specs.declared.state.State.TheVariants as states
 use Rattle.query_grammar.specs.declared.state.Head.{Head}
@@ -21,7 +21,7 @@ use Rattle.query_grammar.specs.declared.state.Chain.{Chain}
 use Rattle.query_grammar.specs.declared.state.Around.{Around}
 use Rattle.query_grammar.specs.declared.state.Goal.{Goal}
 use Rattle.query_grammar.specs.declared.state.Goal.TheVariants as goals
-use Rattle.query_grammar.specs.Phrases.{Placed, Spot, Rest, Phrase, ◌>>=◌, ◌>>◌, pure, choice, only_some, word, alias, field, mark, compare_mark, number, note_alias, note_output, note_use}
+use Rattle.query_grammar.specs.Phrases.{Placed, PlacedName, Rest, Phrase, ◌>>=◌, ◌>>◌, pure, choice, only_some, word, alias, field, mark, compare_mark, number, note_alias, note_output, note_use}
 use Rattle.query_grammar.specs.Grammar.{steps, path, item, more_items, top_size, whole_or_items, select, alias_here, more_joins, literal, operand, more_literals, literal_list, exact, model_and_exact, more_factors, more_terms, factor, condition_here, relationships, twins, query, no_notes, at_end}
 use Rattle.query_grammar.specs.Machinery.Steps.{asked_of, head_of, joined, with_both, with_either, negations, membership, path_of}
 
@@ -39,7 +39,7 @@ behind_top w size = choice (whole_or_items (Some size)) (pure (projections.Star 
 abbrev pub items_rest : ℕ → Option ℕ → Whole → List Item → Rest
 items_rest k top w items = more_items k items (λ is. after_select w (projections.Items top is))
 
-abbrev pub item_end : List (List ℕ) × Spot → Phrase Item
+abbrev pub item_end : List (List ℕ) × PlacedName → Phrase Item
 item_end p = do
   out ← choice (word words.As >> alias) (pure p.1)
   note_output out
@@ -60,7 +60,7 @@ behind_source k h w target source = mark marks.Dot (λ _. field (λ name. behind
 
 abbrev pub behind_related : ℕ → Head → Whole → List ℕ → Rest
 behind_related k h w target =
-    alias (λ source. note_use source (roles.Source (length h.joins)) (λ _. behind_source k h w target source.1))
+    alias (λ source. note_use source (referents.Source (length h.joins)) (λ _. behind_source k h w target source.1))
 
 -- ---- conditions
 -- Behind a factor: so many factors more in its term, and so many terms more.
@@ -117,15 +117,15 @@ behind_model twin model = do
   mark marks.Close
   pure (of_model twin model exactly)
 
-abbrev pub model_start : Spot → Phrase Condition
+abbrev pub model_start : PlacedName → Phrase Condition
 model_start name = choice
     (do
       twin ← alias
-      note_use twin roles.Model
+      note_use twin referents.Model
       mark marks.Comma
       model_and_exact (Some twin.1))
     (do
-      note_use name roles.Bare
+      note_use name referents.Bare
       model_and_exact None)
 
 -- The tokens may remain, and the query then asks for this.
@@ -165,7 +165,7 @@ Remains (states.FunctionOpen n a g) ts w =
     Numbered (λ m l ms. mark marks.Open (λ _. operand_for g (goal_rest g (factor_rest m l ms a w))) n ts)
 Remains (states.Operand n a g) ts w = Numbered (λ m l ms. operand_for g (goal_rest g (factor_rest m l ms a w)) n ts)
 Remains (states.Path n a g path) ts w =
-    Numbered (λ m l ms. (j : ℕ) × ((last : Spot) × steps j path last (λ p. goal_rest g (factor_rest m l ms a w) (operands.Path p.0)) n ts))
+    Numbered (λ m l ms. (j : ℕ) × ((last : PlacedName) × steps j path last (λ p. goal_rest g (factor_rest m l ms a w) (operands.Path p.0)) n ts))
 Remains (states.Field n a g path) ts w =
     Numbered (λ m l ms. (j : ℕ) × field (λ name. steps j (path ++ name.0 ∷ []) name.1 (λ p. goal_rest g (factor_rest m l ms a w) (operands.Path p.0))) n ts)
 Remains (states.Behind n a g o) ts w = Numbered (λ m l ms. goal_rest g (factor_rest m l ms a w) o n ts)
@@ -175,8 +175,8 @@ Remains (states.ListItem n a o within ls) ts w =
     Numbered (λ m l ms. (k : ℕ) × literal (λ x. literals_rest k within o (factor_rest m l ms a w) (ls ++ x ∷ [])) n ts)
 Remains (states.BehindListItem n a o within ls) ts w =
     Numbered (λ m l ms. (k : ℕ) × literals_rest k within o (factor_rest m l ms a w) ls n ts)
-Remains (states.ModelOpen n a spot) ts w = Numbered (λ m l ms. mark marks.Open (λ _. model_start spot (factor_rest m l ms a w)) n ts)
-Remains (states.ModelStart n a spot) ts w = Numbered (λ m l ms. model_start spot (factor_rest m l ms a w) n ts)
+Remains (states.ModelOpen n a placed) ts w = Numbered (λ m l ms. mark marks.Open (λ _. model_start placed (factor_rest m l ms a w)) n ts)
+Remains (states.ModelStart n a placed) ts w = Numbered (λ m l ms. model_start placed (factor_rest m l ms a w) n ts)
 Remains (states.ModelComma n a twin) ts w =
     Numbered (λ m l ms. mark marks.Comma (λ _. model_and_exact (Some twin) (factor_rest m l ms a w)) n ts)
 Remains (states.ModelText n a twin) ts w = Numbered (λ m l ms. model_and_exact twin (factor_rest m l ms a w) n ts)

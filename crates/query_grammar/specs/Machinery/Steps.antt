@@ -19,8 +19,8 @@ use Rattle.query_tokens.specs.declared.token.Mark.TheVariants as marks
 use Rattle.query_tokens.specs.declared.token.Token.{Token}
 use Rattle.query_tokens.specs.declared.token.Token.TheVariants as tokens
 use Rattle.query_grammar.specs.declared.names.Notes.{Notes}
-use Rattle.query_grammar.specs.declared.names.Role.{Role}
-use Rattle.query_grammar.specs.declared.names.Role.TheVariants as roles
+use Rattle.query_grammar.specs.declared.names.Referent.{Referent}
+use Rattle.query_grammar.specs.declared.names.Referent.TheVariants as referents
 use Rattle.query_grammar.specs.declared.state.State.{State}
 use Rattle.query_grammar.specs.declared.state.State.TheVariants as states
 use Rattle.query_grammar.specs.declared.state.Head.{Head}
@@ -28,20 +28,20 @@ use Rattle.query_grammar.specs.declared.state.Chain.{Chain}
 use Rattle.query_grammar.specs.declared.state.Around.{Around}
 use Rattle.query_grammar.specs.declared.state.Goal.{Goal}
 use Rattle.query_grammar.specs.declared.state.Goal.TheVariants as goals
-use Rattle.query_grammar.specs.Phrases.{Spot, word_number, mark_number}
+use Rattle.query_grammar.specs.Phrases.{PlacedName, word_number, mark_number}
 use Rattle.query_grammar.specs.Grammar.{top_size, no_notes}
 
 abbrev pub when : Bool → State → Option State
 when b s = if b then Some s else None
 
-abbrev pub noting_alias : Notes → Spot → Notes
+abbrev pub noting_alias : Notes → PlacedName → Notes
 noting_alias n s = record n { aliases = n.aliases ++ s ∷ [] }
 
-abbrev pub noting_output : Notes → Spot → Notes
+abbrev pub noting_output : Notes → PlacedName → Notes
 noting_output n s = record n { outputs = n.outputs ++ s ∷ [] }
 
-abbrev pub noting_use : Notes → Spot → Role → Notes
-noting_use n s role = record n { uses = n.uses ++ (record { spot = s; role = role }) ∷ [] }
+abbrev pub noting_use : Notes → PlacedName → Referent → Notes
+noting_use n s referent = record n { uses = n.uses ++ (record { placed = s; referent = referent }) ∷ [] }
 
 -- ---- tests
 abbrev pub is_dot : Token → Bool
@@ -59,7 +59,7 @@ start_step other = None
 
 -- the first name of the path of an item
 abbrev pub item_begun : Notes → Option ℕ → List Item → ℕ → List ℕ → State
-item_begun n top items at name = states.ItemPath (noting_use n (at, name) roles.Path) top items (name ∷ []) (at, name)
+item_begun n top items at name = states.ItemPath (noting_use n (at, name) referents.Path) top items (name ∷ []) (at, name)
 
 abbrev pub select_step : ℕ → Token → Option State
 select_step at (tokens.Name words.Count name) = Some states.CountOpen
@@ -103,7 +103,7 @@ behind_item_step n top items (tokens.Name words.From name) = Some (states.Source
 behind_item_step n top items (tokens.Mark marks.Comma) = when (nat_lt (length items) 20) (states.ItemStart n top items)
 behind_item_step n top items other = None
 
-abbrev pub item_path_step : Notes → Option ℕ → List Item → List (List ℕ) → Spot → Token → Option State
+abbrev pub item_path_step : Notes → Option ℕ → List Item → List (List ℕ) → PlacedName → Token → Option State
 item_path_step n top items path last t =
     if is_dot t then Some (states.ItemField n top items path)
     else if is_as t then Some (states.ItemAs n top items path)
@@ -162,7 +162,7 @@ join_target_step n h at other = None
 
 abbrev pub join_source_step : Notes → Head → List ℕ → ℕ → Token → Option State
 join_source_step n h target at (tokens.Name words.Alias name) =
-    Some (states.JoinDot (noting_use n (at, name) (roles.Source (length h.joins))) h target name)
+    Some (states.JoinDot (noting_use n (at, name) (referents.Source (length h.joins))) h target name)
 join_source_step n h target at other = None
 
 abbrev pub join_name_step : Notes → Head → List ℕ → List ℕ → Token → Option State
@@ -210,7 +210,7 @@ abbrev pub inside : Around → ℕ → Around
 inside a room = record { head = a.head; chain = fresh room; chains = a.chain ∷ a.chains; room = room }
 
 abbrev pub path_begun : Notes → Around → Goal → ℕ → List ℕ → State
-path_begun n a g at name = states.Path (noting_use n (at, name) roles.Path) a g (name ∷ [])
+path_begun n a g at name = states.Path (noting_use n (at, name) referents.Path) a g (name ∷ [])
 
 abbrev pub factor_step : Notes → Around → ℕ → Token → Option State
 factor_step n a at (tokens.Name words.Not name) = with_room a.room (λ room. states.Factor n (negating a room))
@@ -302,10 +302,10 @@ behind_list_item_step n a o within ls (tokens.Mark marks.Comma) = Some (states.L
 behind_list_item_step n a o within ls (tokens.Mark marks.CloseList) = Some (closed n a (membership within o ls))
 behind_list_item_step n a o within ls other = None
 
-abbrev pub model_start_step : Notes → Around → Spot → ℕ → Token → Option State
-model_start_step n a spot at (tokens.Name words.Alias name) = Some (states.ModelComma (noting_use n (at, name) roles.Model) a name)
-model_start_step n a spot at (tokens.Text t (Some model)) = Some (states.BehindModel (noting_use n spot roles.Bare) a None model)
-model_start_step n a spot at other = None
+abbrev pub model_start_step : Notes → Around → PlacedName → ℕ → Token → Option State
+model_start_step n a placed at (tokens.Name words.Alias name) = Some (states.ModelComma (noting_use n (at, name) referents.Model) a name)
+model_start_step n a placed at (tokens.Text t (Some model)) = Some (states.BehindModel (noting_use n placed referents.Bare) a None model)
+model_start_step n a placed at other = None
 
 abbrev pub model_text_step : Notes → Around → Option (List ℕ) → Token → Option State
 model_text_step n a twin (tokens.Text t (Some model)) = Some (states.BehindModel n a twin model)
@@ -356,8 +356,8 @@ step (states.Behind n a g o) at t = behind_step n a g o t
 step (states.ListOpen n a o within) at t = when (is_mark marks.OpenList t) (states.ListItem n a o within [])
 step (states.ListItem n a o within ls) at t = list_item_step n a o within ls t
 step (states.BehindListItem n a o within ls) at t = behind_list_item_step n a o within ls t
-step (states.ModelOpen n a spot) at t = when (is_mark marks.Open t) (states.ModelStart n a spot)
-step (states.ModelStart n a spot) at t = model_start_step n a spot at t
+step (states.ModelOpen n a placed) at t = when (is_mark marks.Open t) (states.ModelStart n a placed)
+step (states.ModelStart n a placed) at t = model_start_step n a placed at t
 step (states.ModelComma n a twin) at t = when (is_mark marks.Comma t) (states.ModelText n a (Some twin))
 step (states.ModelText n a twin) at t = model_text_step n a twin t
 step (states.BehindModel n a twin model) at t = behind_model_step n a twin model t

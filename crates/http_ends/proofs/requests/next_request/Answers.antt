@@ -6,7 +6,7 @@ use Rattle.httparse.specs.Spans.{span_bytes}
 use Rattle.httparse.proofs.RunLemmas.{length-slice_range}
 use Rattle.http_ends.specs.declared.request.HttpEnd.TheVariants.{BodyTooLong, TransferCoding, CutOff}
 use Rattle.http_ends.specs.declared.buffer.Filled.TheVariants.{Ended, Failed}
-use Rattle.http_ends.specs.Streams.{Answers}
+use Rattle.http_ends.specs.Streams.{ReadsNext}
 use Rattle.http_ends.proofs.ReadingLemmas.{Reads-trans, on_streams}
 use Rattle.http_ends.proofs.MessageLemmas.{IsHeadAt-append, is_coded, is_too_long, is_cut_off, IsMadeOf, is_message, held, unread, head_ends, token_text, target_within}
 use Rattle.http_ends.proofs.requests.next_request.Given.{Over}
@@ -22,14 +22,14 @@ pub returns-then-head-clause-next : goal.returns-then-head-clause-next
 returns-then-head-clause-next g c =
     let read = c.read_head.ensures.read in
     let found = c.in_ok-head.ensures.head in
-    on_streams c.args.buffer.now (g.S.Source.left c.args.link.now) c.read_head.new.buffer c.read_head.new.buffer (g.S.Source.left c.read_head.new.link) read.bytes (Answers (Err TransferCoding)) read.grown read.taken
+    on_streams c.args.buffer.now (g.S.Source.left c.args.link.now) c.read_head.new.buffer c.read_head.new.buffer (g.S.Source.left c.read_head.new.link) read.bytes (ReadsNext (Err TransferCoding)) read.grown read.taken
     (λ more is. (is_coded c.read_head.new.buffer more c.in_ok-head.head found.0 found.1 c.if-head.true, refl))
 
 pub returns-then-head-gt-MOST_BODY-clause-next : goal.returns-then-head-gt-MOST_BODY-clause-next
 returns-then-head-gt-MOST_BODY-clause-next g c =
     let read = c.read_head.ensures.read in
     let found = c.in_ok-head.ensures.head in
-    on_streams c.args.buffer.now (g.S.Source.left c.args.link.now) c.read_head.new.buffer c.read_head.new.buffer (g.S.Source.left c.read_head.new.link) read.bytes (Answers (Err BodyTooLong)) read.grown read.taken
+    on_streams c.args.buffer.now (g.S.Source.left c.args.link.now) c.read_head.new.buffer c.read_head.new.buffer (g.S.Source.left c.read_head.new.link) read.bytes (ReadsNext (Err BodyTooLong)) read.grown read.taken
     (λ more is. (is_too_long c.read_head.new.buffer more c.in_ok-head.head found.0 found.1 c.if-head.false c.if-head-gt-MOST_BODY.true, refl))
 
 pub returns-in_err-await_body-clause-unread : goal.returns-in_err-await_body-clause-unread
@@ -63,7 +63,7 @@ returns-in-Ended-clause-next g c =
     let at = IsHeadAt-append c.read_head.new.buffer c.await_body.ensures.read.bytes c.await_body.new.buffer c.in_ok-head.head c.in_ok-head.ensures.head.0 c.await_body.ensures.read.grown c.in_ok-head.ensures.head.1 in
     let ended : c.await_body.result ≡ Ok Ended = c.in_ok-await_body.was ∙ ap Ok c.in-Ended.is in
     let end : IsAtEnd (g.S.Source.left c.await_body.new.link) = c.await_body.ensures.ended ended in
-    on_streams c.args.buffer.now (g.S.Source.left c.args.link.now) c.await_body.new.buffer c.await_body.new.buffer (g.S.Source.left c.await_body.new.link) read.bytes (Answers (Err CutOff)) read.grown read.taken
+    on_streams c.args.buffer.now (g.S.Source.left c.args.link.now) c.await_body.new.buffer c.await_body.new.buffer (g.S.Source.left c.await_body.new.link) read.bytes (ReadsNext (Err CutOff)) read.grown read.taken
     (λ more is. (is_cut_off c.await_body.new.buffer more c.in_ok-head.head c.in_ok-head.ensures.head.0 at c.if-head.false c.if-head-gt-MOST_BODY.false (c.await_body.ensures.short (inl ended)) (subst IsAtEnd is end), refl))
 
 pub returns-in-Failed-clause-fault : goal.returns-in-Failed-clause-fault
@@ -97,7 +97,7 @@ returns-clause-next g c =
     let read = Reads-trans g.S.Source.left g.S.Source.aside g.S.Source.faults c.read_head.ensures.read c.await_body.ensures.read in
     let at = IsHeadAt-append c.read_head.new.buffer c.await_body.ensures.read.bytes c.await_body.new.buffer c.in_ok-head.head c.in_ok-head.ensures.head.0 c.await_body.ensures.read.grown c.in_ok-head.ensures.head.1 in
     let room = c.await_body.ensures.more (c.in_ok-await_body.was ∙ ap Ok c.in-More.is) in
-    on_streams c.args.buffer.now (g.S.Source.left c.args.link.now) c.await_body.new.buffer c.consume.new.self (g.S.Source.left c.await_body.new.link) read.bytes (Answers (Ok c.in_ok-request.request)) read.grown read.taken
+    on_streams c.args.buffer.now (g.S.Source.left c.args.link.now) c.await_body.new.buffer c.consume.new.self (g.S.Source.left c.await_body.new.link) read.bytes (ReadsNext (Ok c.in_ok-request.request)) read.grown read.taken
     (λ more is. rw c.consume.ensures (is_message c.await_body.new.buffer more c.in_ok-head.head c.in_ok-head.ensures.head.0 c.in_ok-request.request at c.if-head.false c.if-head-gt-MOST_BODY.false room (made g c)))
 
 pub returns-clause-within : goal.returns-clause-within
