@@ -39,10 +39,10 @@ lengths fields = values_named (codes "content-length") fields
 abbrev pub codings : List (List ℕ × List ℕ) → List (List ℕ)
 codings fields = values_named (codes "transfer-encoding") fields
 
--- The text without the spaces and tabs around it is this word in any case.
-abbrev pub is_word : List ℕ → List ℕ → Bool
-is_word word text = str_eq_ignore_ascii_case (trim_ows text) word
+-- The text without the spaces and tabs around it is this connection option, in any case (RFC 9110, section 7.6.1).
+abbrev pub is_connection_option : List ℕ → List ℕ → Bool
+is_connection_option option text = str_eq_ignore_ascii_case (trim_ows text) option
 
--- The field is a `Connection` that has the word `close` between its commas (RFC 9112, section 9.6).
+-- The field is a `Connection` that has the option `close` between its commas (RFC 9112, section 9.6).
 abbrev pub says_close : List ℕ × List ℕ → Bool
-says_close field = is_named (codes "connection") field && list_any (is_word (codes "close")) (slice_split (λ b. b == comma) field.1)
+says_close field = is_named (codes "connection") field && list_any (is_connection_option (codes "close")) (slice_split (λ b. b == comma) field.1)

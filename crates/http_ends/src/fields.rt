@@ -4,7 +4,7 @@ ghost use Rattle.std.specs.Str.Parse.{digits_value};
 ghost use Rattle.httparse.specs.Ascii.{comma};
 ghost use Rattle.httparse.specs.Grammar.{skip_ows};
 ghost use Rattle.httparse.specs.Spans.{IsHeaderWithin, header_bytes};
-ghost use Rattle.http_ends.specs.Fields.{is_named, values_named, is_number, is_framed, length_said, lengths, is_word, says_close};
+ghost use Rattle.http_ends.specs.Fields.{is_named, values_named, is_number, is_framed, length_said, lengths, is_connection_option, says_close};
 ghost use Rattle.http_ends.specs.reading.Finding.{Finds};
 
 use httparse::is_space_or_tab;
@@ -101,29 +101,30 @@ fn trim_end(mut text: &[u8]) -> &[u8]
     text
 }
 
-/// Whether the text without the spaces and tabs around it is this word, in any case.
-fn is_word(text: &[u8], word: &[u8]) -> bool
-    ensures { result ≡ is_word word.now text.now }
+/// Whether the text without the spaces and tabs around it is this connection option (RFC 9110, section 7.6.1), in any
+/// case.
+fn is_connection_option(text: &[u8], option: &[u8]) -> bool
+    ensures { result ≡ is_connection_option option.now text.now }
 {
-    trim_end(trim_start(text)).eq_ignore_ascii_case(word)
+    trim_end(trim_start(text)).eq_ignore_ascii_case(option)
 }
 
-/// Whether the word stands between the commas of a value.
-fn has_word(value: &[u8], word: &[u8]) -> bool
-    ensures { result ≡ list_any (is_word word.now) (slice_split (λ b. b == comma) value.now) }
+/// Whether this connection option stands between the commas of a value.
+fn has_connection_option(value: &[u8], option: &[u8]) -> bool
+    ensures { result ≡ list_any (is_connection_option option.now) (slice_split (λ b. b == comma) value.now) }
 {
     value
         .split(|byte| *byte == b',')
-        .any(|text| is_word(text, word))
+        .any(|text| is_connection_option(text, option))
 }
 
-/// Whether a field `Connection` has the word `close`.
+/// Whether a field `Connection` has the option `close`.
 pub(crate) fn says_close(bytes: &[u8], fields: &[HeaderSpan]) -> bool
     requires { All (IsHeaderWithin (length bytes.now)) fields.now }
     ensures { result ≡ list_any says_close (map (header_bytes bytes.now) fields.now) }
 {
     'asking: for field in fields {
-        if is_named(bytes, field, b"connection") && has_word(field.value.of(bytes), b"close") {
+        if is_named(bytes, field, b"connection") && has_connection_option(field.value.of(bytes), b"close") {
             return true;
         }
     }

@@ -1,7 +1,7 @@
 use Rattle.std.proofs.Common.{rules}
 use Rattle.std.proofs.lemmas.Slice.Eq.{bytes_eq-Decides}
 use Rattle.httparse.specs.Grammar.{trim_ows}
-use Rattle.http_ends.proofs.fields.is_word.Goals as goal
+use Rattle.http_ends.proofs.fields.is_connection_option.Goals as goal
 
 pub returns : goal.returns
 unfolding trim_ows
