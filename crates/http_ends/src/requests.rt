@@ -144,8 +144,8 @@ fn request_of(alloc: Global, bytes: &[u8], head: &Head) -> Result<Request, OutOf
 /// most 16,384 bytes and 64 fields, with a target in UTF-8 and at most one `Content-Length` of 1 to 18 digits. A
 /// message is a head and as many bytes as it says (RFC 9112, section 6), at most 4,194,304. `HttpEnd` says what comes
 /// in place of a request. A request takes exactly the bytes of its message from the stream, and whatever else is
-/// answered takes none: then bytes have at most moved from the link to the buffer. The link is not read where the buffer alone holds
-/// a message, or a head that is refused for its transfer coding or its length.
+/// answered takes none: then bytes have at most moved from the link to the buffer. The link is not read where the
+/// buffer alone holds a message, or a head that is refused for its transfer coding or its length.
 pub fn next_request<S: Source>(
     alloc: Global,
     link: &mut S,
