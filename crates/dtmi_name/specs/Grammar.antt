@@ -1,8 +1,11 @@
 -- The grammar of names and of digital twin model identifiers (DTDL v2, "Digital Twin Model Identifier").
-use Rattle.std.specs.Prelude.{◌≡◌, ℕ, ◌-◌, ◌<◌, ◌≤◌, Bool, ◌||◌, ◌==◌, nat_eq, false, List, ◌∷◌, ◌++◌, length, take, drop, slice_index, IsTrue, refl, codes}
+use Rattle.std.specs.Prelude.{◌≡◌, ℕ, ◌-◌, ◌<◌, ◌≤◌, Bool, ◌||◌, ◌==◌, nat_eq, bytes_eq, false, List, ◌∷◌, ◌++◌, length, take, drop, slice_index, IsTrue, refl, codes}
 use Rattle.std.specs.List.{All, AllPass, join_with_byte, slice_split, starts_with}
 use Rattle.std.specs.Char.{is_ascii_alphabetic, is_ascii_alphanumeric}
 use Rattle.std.specs.Fmt.{decimal}
+use Rattle.std.specs.declared.cmp.Ordering.{Ordering}
+use Rattle.std.specs.Ordering.{nat_cmp}
+use Rattle.std.specs.Cmp.Lexicographic.{slice_cmp}
 use Rattle.std.specs.Coded.{Coded, code_by, coded×, coded_ℕ, coded_list}
 
 -- a letter, a digit or an underscore
@@ -32,6 +35,14 @@ identifier_code =
 -- `dtmi:`, the segments with `:` between them, `;` and the decimal digits of the version
 abbrev pub dtmi_text : Identifier → List ℕ
 dtmi_text i = codes "dtmi:" ++ (join_with_byte 58 i.segments ++ 59 ∷ decimal i.version)
+
+-- the order of the printed bytes, in which versions stand as their digits do: `10` before `9`
+abbrev pub id_cmp : Identifier → Identifier → Ordering
+id_cmp a b = slice_cmp nat_cmp (dtmi_text a) (dtmi_text b)
+
+-- equal in the printed bytes
+abbrev pub id_eq : Identifier → Identifier → Bool
+id_eq a b = bytes_eq (dtmi_text a) (dtmi_text b)
 
 -- the bytes are of the grammar, whatever their number, and spell this identifier
 pub record HasDtmiForm (bytes : List ℕ) (i : Identifier) : Type 0 where

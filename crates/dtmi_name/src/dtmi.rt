@@ -25,7 +25,8 @@ const OPENING: usize = 5;
 /// `;` and a version, 2,048 bytes at most (DTDL v2, "Digital Twin Model Identifier"; that the texts that
 /// begin with `dtmi:dtdl:` or `dtmi:standard:` are reserved is this project's own).
 ///
-/// Contracts see its segments and its version.
+/// Contracts see its segments and its version. Identifiers are equal where their texts are, and ordered by the bytes of
+/// these, in which versions stand as their digits do: `10` before `9`.
 #[derive(Debug, Drop)]
 pub struct Dtmi {
     text: String,
@@ -102,6 +103,60 @@ impl Dtmi {
         ensures parts { slice_split (λ b. b == 58) result.now ≡ self.now.segments }
     {
         &self.text.as_bytes()[OPENING..self.path_end as usize]
+    }
+}
+
+impl PartialEq for Dtmi {
+    ghost use Rattle.std.proofs.Common.{rules};
+    ghost use Rattle.std.specs.Cmp.Rules.{comparing};
+    ghost use Rattle.dtmi_name.specs.Grammar.{id_eq};
+
+    ghost eq = { id_eq };
+
+    ghost laws = { Prim.search (comparing, rules) };
+
+    fn eq(&self, other: &Dtmi) -> bool {
+        self.text == other.text
+    }
+}
+
+impl Eq for Dtmi {
+    ghost use Rattle.std.proofs.Common.{rules};
+    ghost use Rattle.std.specs.Cmp.Rules.{comparing};
+
+    ghost laws = { Prim.search (comparing, rules) };
+}
+
+impl PartialOrd for Dtmi {
+    ghost use Rattle.std.proofs.Common.{rules};
+    ghost use Rattle.std.specs.Cmp.Rules.{comparing};
+    ghost use Rattle.std.specs.Ordering.{as_partial_cmp};
+    ghost use Rattle.dtmi_name.specs.Grammar.{id_cmp};
+
+    ghost partial_cmp = { as_partial_cmp id_cmp };
+
+    ghost laws = { Prim.search (comparing, rules) };
+
+    fn partial_cmp(&self, other: &Dtmi) -> Option<Ordering> {
+        Some(self.cmp(other))
+    }
+}
+
+impl Ord for Dtmi {
+    ghost use Rattle.std.proofs.Common.{rules};
+    ghost use Rattle.std.specs.Cmp.Rules.{comparing};
+    ghost use Rattle.dtmi_name.specs.Grammar.{id_cmp};
+
+    ghost cmp = { id_cmp };
+
+    ghost total = { Prim.search (comparing, rules) };
+
+    ghost matches_partial_cmp = { Prim.search (comparing, rules) };
+
+    ghost matches_eq = { Prim.search (comparing, rules) };
+
+    fn cmp(&self, other: &Dtmi) -> Ordering {
+        order(self, other)
     }
 }
 
