@@ -5,3 +5,5 @@ pub mod Terms
 pub mod TermViews
 pub mod Distinct
 pub mod Equality
+pub mod Sets
+pub mod Spots
