@@ -3,3 +3,4 @@ pub mod OneTerm
 pub mod SameElements
 pub mod SameDeclarations
 pub mod ByName
+pub mod Keyed

@@ -1,13 +1,10 @@
 -- To declare the same is an equivalence.
-use Rattle.std.proofs.Common.{◌≡◌, ◌⊎◌, inl, inr, List, [], ◌∷◌, map, Option, Some, None, refl, sym, ◌∙◌}
+use Rattle.std.proofs.Common.{◌≡◌, inl, inr, List, [], ◌∷◌, map, Option, Some, None, refl, sym, ◌∙◌}
 use Rattle.std.specs.List.{AllByRecursion}
-use Rattle.dtmi_name.specs.Grammar.{Identifier}
 use Rattle.dtdl_terms.specs.Terms.{SchemaTerm, primitive, named, array_of, enumeration, map_of, object_of, PayloadTerm, payload, PayloadTerms, no_payloads, more_payloads, ContentTerm, content, KindTerm, telemetry, property, command, relationship, component, ContentTerms, no_contents, more_contents}
 use Rattle.dtdl_terms.specs.TermViews.{schema_term, content_term}
-use Rattle.dtdl_terms.specs.Equality.{AnyByRecursion, SameElements, SameLocalized, SameCommon, SameEnumEntry, payload_list, SameSchema, SamePayload, EachPayloadIn, IsPayloadOf, SameOptionalPayload, content_list, SameKind, SameContent, EachContentIn, IsContentOf, DeclareTheSame}
+use Rattle.dtdl_terms.specs.Equality.{AnyByRecursion, SameElements, SameCommon, SameEnumEntry, payload_list, SameSchema, SamePayload, EachPayloadIn, IsPayloadOf, SameOptionalPayload, content_list, SameKind, SameContent, EachContentIn, IsContentOf, DeclareTheSame}
 use Rattle.dtdl_terms.specs.declared.common.Common.{Common}
-use Rattle.dtdl_terms.specs.declared.common.Entry.{Entry}
-use Rattle.dtdl_terms.specs.declared.common.Localized.{Localized}
 use Rattle.dtdl_terms.specs.declared.enumeration.EnumEntry.{EnumEntry}
 use Rattle.dtdl_terms.specs.declared.interface.Interface.{Interface}
 use Rattle.dtdl_terms.proofs.SameElements.{same_elements_self, same_elements_back, same_elements_through, everywhere}

@@ -1,5 +1,5 @@
 -- `SameElements` is an equivalence wherever its relation is one on the elements.
-use Rattle.std.proofs.Common.{◌≡◌, ◌⊎◌, inl, inr, List, [], ◌∷◌, refl, subst}
+use Rattle.std.proofs.Common.{◌≡◌, inl, inr, List, [], ◌∷◌, refl, subst}
 use Rattle.std.specs.List.{AllByRecursion}
 use Rattle.dtdl_terms.specs.Equality.{AnyByRecursion, SameElements}
 

@@ -1,6 +1,6 @@
 -- Sets of interfaces: a finite map from identifier to interface, as the list of its interfaces in the order of the
 -- printed bytes of their identifiers.
-use Rattle.std.specs.Prelude.{◌≡◌, ℕ, List, Bool, true, Option, Some, None, map, slice_get}
+use Rattle.std.specs.Prelude.{List, Bool, true, Option, Some, None, map, slice_get}
 use Rattle.std.specs.Ordering.{is_lt}
 use Rattle.std.specs.List.{filter}
 use Rattle.std.specs.List.Sorted.{IsStrictlySortedBy}

@@ -25,6 +25,7 @@ pub struct ModelSet {
 impl Model for ModelSet {
     ghost use Rattle.std.specs.Prelude.{List, ◌≡◌};
     ghost use Rattle.std.specs.Coded.{coded_list};
+    ghost use Rattle.dtdl_terms.specs.contracts.interface.Interface as interface;
     ghost use Rattle.std.specs.Map.{values_of};
     ghost use Rattle.std.specs.BTreeMap.{IsOrdered};
     ghost use Rattle.dtmi_name.specs.Grammar.{id_cmp};
@@ -32,6 +33,8 @@ impl Model for ModelSet {
     ghost use Rattle.dtdl_terms.specs.Sets.{keyed};
 
     ghost Value = { List Interface };
+
+    ghost coded = { coded_list interface.the_row.coded };
 
     ghost view = { λ s. values_of s.interfaces.entries };
 
@@ -67,10 +70,13 @@ impl ModelSet {
     /// The interface with the least identifier past a given one, or with the least of all; `None` exactly where there is
     /// none. Takes no memory.
     pub fn after(&self, id: Option<&Dtmi>) -> Option<&Interface>
-        ensures { option_copied result ≡ next_past (option_copied id) self.now }
+        ensures { option_copied result ≡ next_past (option_copied id.entry) self.now }
     {
         match id {
-            Some(id) => first_of(self.interfaces.range((Bound::Excluded(id), Bound::Unbounded))),
+            Some(id) => first_of(
+                self.interfaces
+                    .range((Bound::Excluded(id), Bound::Unbounded)),
+            ),
             None => first_of(self.interfaces.range(..)),
         }
     }

@@ -24,11 +24,7 @@ pub enum Spot {
 
 /// The JSON pointer (RFC 6901) of a place of an interface in its document. A parent that `extends` names as a text
 /// alone stands at `extends`. Fails only for want of memory.
-pub fn spot_pointer(
-    alloc: Global,
-    uploaded: &Uploaded,
-    spot: &Spot,
-) -> Result<Text, OutOfMemory>
+pub fn spot_pointer(alloc: Global, uploaded: &Uploaded, spot: &Spot) -> Result<Text, OutOfMemory>
     ensures { IfOk result (λ text. text ≡ uploaded.now.base ++ spot_text uploaded.now.parents_as_text spot.now) }
 {
     let mut out = String::from_str(alloc, uploaded.base.as_str())?;
