@@ -124,7 +124,9 @@ pub(crate) fn says_close(bytes: &[u8], fields: &[HeaderSpan]) -> bool
     ensures { result ≡ list_any says_close (map (header_bytes bytes.now) fields.now) }
 {
     'asking: for field in fields {
-        if is_named(bytes, field, b"connection") && has_connection_option(field.value.of(bytes), b"close") {
+        if is_named(bytes, field, b"connection")
+            && has_connection_option(field.value.of(bytes), b"close")
+        {
             return true;
         }
     }

@@ -10,5 +10,5 @@ pub use laws::{
     begins_as_run, each_state_goes_on, ends_as_nothing_remains, one_query, query_as_run,
     steps_as_remains,
 };
-pub use names::{Notes, Referent, PlacedName, Use};
+pub use names::{Notes, PlacedName, Referent, Use};
 pub use state::{Around, Built, Chain, Chains, Goal, Head, State};
