@@ -1,0 +1,106 @@
+-- The breaches of the rules on sets, and the first of them.
+use Rattle.std.specs.Prelude.{◌≡◌, ◌≢◌, ◌<◌, ◌≤◌, ℕ, List, [], ◌∷◌, Bool, true, false, Option, Some, None, map, take, length, slice_get, codes}
+use Rattle.std.specs.Option.{unwrap_or}
+use Rattle.std.specs.declared.cmp.Ordering.{Ordering}
+use Rattle.std.specs.declared.cmp.Ordering.TheVariants.{Greater}
+use Rattle.std.specs.Ordering.{nat_cmp, ordering_then}
+use Rattle.std.specs.Cmp.Lexicographic.{slice_cmp}
+use Rattle.dtdl_terms.specs.declared.interface.Interface.{Interface}
+use Rattle.dtdl_terms.specs.declared.spot.Spot.{Spot}
+use Rattle.dtdl_terms.specs.declared.spot.Spot.TheVariants as spots
+use Rattle.dtdl_terms.specs.declared.uploaded.Uploaded.{Uploaded}
+use Rattle.extend_resolve.specs.SetRules.{together, RepeatsId, LacksParent, LacksComponent, IsInCycle, IsLongChain, HasNameClash, HasComponentInComponent, HasTooManyContents}
+use Rattle.extend_resolve.specs.declared.rule.SetRule.{SetRule}
+use Rattle.extend_resolve.specs.declared.rule.SetRule.TheVariants as rules
+
+-- the codes of the rules, as they are printed
+abbrev pub rule_code : SetRule → List ℕ
+rule_code rules.RepeatedId = codes "RepeatedId"
+rule_code rules.AbsentReference = codes "AbsentReference"
+rule_code rules.Cycle = codes "Cycle"
+rule_code rules.LongChain = codes "LongChain"
+rule_code rules.NameClash = codes "NameClash"
+rule_code rules.ComponentInComponent = codes "ComponentInComponent"
+rule_code rules.TooManyResolved = codes "TooManyResolved"
+
+-- the order of the rules at one place
+abbrev pub rule_number : SetRule → ℕ
+rule_number rules.RepeatedId = 1
+rule_number rules.AbsentReference = 2
+rule_number rules.Cycle = 3
+rule_number rules.LongChain = 4
+rule_number rules.NameClash = 5
+rule_number rules.ComponentInComponent = 6
+rule_number rules.TooManyResolved = 7
+
+-- an interface of a set, with those that came before it, breaks a rule at a place
+abbrev pub Breaks : List Interface → List Interface → Interface → SetRule → Spot → Type 0
+Breaks set earlier i rules.RepeatedId spots.Id = RepeatsId earlier i
+Breaks set earlier i rules.RepeatedId other = ⊥
+Breaks set earlier i rules.AbsentReference (spots.Parent k) = LacksParent set i k
+Breaks set earlier i rules.AbsentReference (spots.ContentSchema k) = LacksComponent set i k
+Breaks set earlier i rules.AbsentReference other = ⊥
+Breaks set earlier i rules.Cycle (spots.Parent k) = IsInCycle set i k
+Breaks set earlier i rules.Cycle other = ⊥
+Breaks set earlier i rules.LongChain spots.Parents = IsLongChain set i
+Breaks set earlier i rules.LongChain other = ⊥
+Breaks set earlier i rules.NameClash (spots.Parent k) = HasNameClash set i k
+Breaks set earlier i rules.NameClash other = ⊥
+Breaks set earlier i rules.ComponentInComponent (spots.ContentSchema k) = HasComponentInComponent set i k
+Breaks set earlier i rules.ComponentInComponent other = ⊥
+Breaks set earlier i rules.TooManyResolved spots.Whole = HasTooManyContents set i
+Breaks set earlier i rules.TooManyResolved other = ⊥
+
+-- The new interface at a position breaks a rule at a place.
+abbrev pub BreaksAt : List Interface → List Uploaded → ℕ → SetRule → Spot → Type 0
+BreaksAt set new index rule spot =
+    (u : Uploaded) × (slice_get new index ≡ Some u) × Breaks (together set new) (map (λ v. v.interface) (take index new)) u.interface rule spot
+
+-- a set of which no interface breaks a rule
+abbrev pub BreaksNoRule : List Interface → Type 0
+BreaksNoRule set = (k : ℕ) (i : Interface) (rule : SetRule) (spot : Spot) → slice_get set k ≡ Some i → Breaks set (take k set) i rule spot → ⊥
+
+-- ---- the order of breaches
+-- Where a place of an interface stands in its text: none of a member's ordinals for the whole, which comes first, and
+-- then the ordinal of the member and the position in it.
+abbrev pub parent_place : Bool → ℕ → ℕ → List ℕ
+parent_place true at k = at ∷ []
+parent_place false at k = at ∷ k ∷ []
+
+abbrev pub place_in : Uploaded → Spot → List ℕ
+place_in u spots.Whole = []
+place_in u spots.Id = u.id_at ∷ []
+place_in u spots.Parents = unwrap_or u.parents_at 0 ∷ []
+place_in u (spots.Parent k) = parent_place u.parents_as_text (unwrap_or u.parents_at 0) k
+place_in u (spots.ContentSchema k) = unwrap_or u.contents_at 0 ∷ k ∷ []
+
+-- the same behind the position of the interface
+abbrev pub place_of : Option Uploaded → Spot → List ℕ
+place_of None spot = []
+place_of (Some u) spot = place_in u spot
+
+abbrev pub place_at : List Uploaded → ℕ → Spot → List ℕ
+place_at new index spot = index ∷ place_of (slice_get new index) spot
+
+-- by position, place and rule
+pub record Breach : Type 0 where
+  pub index : ℕ
+  pub rule : SetRule
+  pub spot : Spot
+
+abbrev pub breach_cmp : List Uploaded → Breach → Breach → Ordering
+breach_cmp new b c = ordering_then (slice_cmp nat_cmp (place_at new b.index b.spot) (place_at new c.index c.spot)) (nat_cmp (rule_number b.rule) (rule_number c.rule))
+
+abbrev pub IsBreach : List Interface → List Uploaded → Breach → Type 0
+IsBreach set new b = BreaksAt set new b.index b.rule b.spot
+
+-- a breach before which there is no other
+pub record IsFirstBreach (set : List Interface) (new : List Uploaded) (b : Breach) : Type 0 where
+  pub breach : IsBreach set new b
+  pub least : (c : Breach) → IsBreach set new c → breach_cmp new b c ≢ Greater
+
+-- What the ordinals of an interface's members tell, by which its places are told apart: those of `extends` and
+-- `contents` differ, and a text alone names one parent.
+pub record HasOrdinals (u : Uploaded) : Type 0 where
+  pub apart : 0 < length u.interface.parents → 0 < length u.interface.contents → unwrap_or u.parents_at 0 ≢ unwrap_or u.contents_at 0
+  pub alone : u.parents_as_text ≡ true → length u.interface.parents ≤ 1

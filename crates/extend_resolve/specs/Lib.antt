@@ -1,0 +1,4 @@
+pub mod Chains
+pub mod SetRules
+pub mod Breaches
+pub mod Resolving

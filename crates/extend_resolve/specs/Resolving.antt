@@ -1,0 +1,54 @@
+-- What an interface has with all that it inherits (DTDL v2, "Interface", the property `extends`) and with what its
+-- components consist of.
+use Rattle.std.specs.Prelude.{◌≡◌, ◌↔◌, ◌⊎◌, ℕ, List, map, Some, Contains}
+use Rattle.std.specs.Ordering.{nat_cmp}
+use Rattle.std.specs.Cmp.Lexicographic.{slice_cmp}
+use Rattle.std.specs.List.Sorted.{IsStrictlySortedBy}
+use Rattle.dtmi_name.specs.Grammar.{Identifier, id_cmp}
+use Rattle.dtdl_terms.specs.declared.interface.Interface.{Interface}
+use Rattle.dtdl_terms.specs.declared.resolved.NamedIn.{NamedIn}
+use Rattle.dtdl_terms.specs.declared.resolved.PartOf.{PartOf}
+use Rattle.dtdl_terms.specs.declared.resolved.Resolved.{Resolved}
+use Rattle.dtdl_terms.specs.declared.resolved.ResolvedContent.{ResolvedContent}
+use Rattle.dtdl_terms.specs.Sets.{interface_at}
+use Rattle.extend_resolve.specs.Chains.{IsAncestor}
+use Rattle.extend_resolve.specs.SetRules.{IsComponentOf}
+
+-- an ancestor of the interface declares the content
+abbrev pub Has : List Interface → Interface → ResolvedContent → Type 0
+Has set i r = (a : Interface) × IsAncestor set i a × (r.from ≡ a.id) × Contains a.contents r.content
+
+-- exactly these contents, in the order of their names
+pub record ListsContents (set : List Interface) (i : Interface) (rs : List ResolvedContent) : Type 0 where
+  pub each : (r : ResolvedContent) → Contains rs r ↔ Has set i r
+  pub sorted : IsStrictlySortedBy (slice_cmp nat_cmp) (map (λ r. r.content.name) rs)
+
+-- exactly the identifiers of the ancestors, in their order
+pub record ListsAncestors (set : List Interface) (i : Interface) (ids : List Identifier) : Type 0 where
+  pub each : (id : Identifier) → Contains ids id ↔ ((a : Interface) × IsAncestor set i a × (id ≡ a.id))
+  pub sorted : IsStrictlySortedBy id_cmp ids
+
+-- a component that the interface has is of `q`
+abbrev pub HasPart : List Interface → Interface → Interface → Type 0
+HasPart set i q = (r : ResolvedContent) × (p : Identifier) × Has set i r × IsComponentOf r.content p × (interface_at p set ≡ Some q)
+
+-- each interface of which it has a component, in the order of their identifiers, with exactly the contents that it has
+pub record ListsParts (set : List Interface) (i : Interface) (parts : List PartOf) : Type 0 where
+  pub each : (part : PartOf) → Contains parts part → (q : Interface) × HasPart set i q × (part.of ≡ q.id) × ListsContents set q part.contents
+  pub every : (q : Interface) → HasPart set i q → Contains (map (λ part. part.of) parts) q.id
+  pub sorted : IsStrictlySortedBy id_cmp (map (λ part. part.of) parts)
+
+-- an interface from which its contents, or those of its parts, may come
+abbrev pub IsSource : List Interface → Interface → Interface → Type 0
+IsSource set i a = IsAncestor set i a ⊎ ((q : Interface) × HasPart set i q × IsAncestor set q a)
+
+-- exactly the schemas that each of these declares, in the order of their identifiers
+pub record ListsNamed (set : List Interface) (i : Interface) (named : List NamedIn) : Type 0 where
+  pub each : (n : NamedIn) → Contains named n ↔ ((a : Interface) × IsSource set i a × (n.of ≡ a.id) × (n.schemas ≡ a.schemas))
+  pub sorted : IsStrictlySortedBy id_cmp (map (λ n. n.of) named)
+
+pub record IsResolved (set : List Interface) (i : Interface) (r : Resolved) : Type 0 where
+  pub contents : ListsContents set i r.contents
+  pub ancestors : ListsAncestors set i r.ancestors
+  pub named : ListsNamed set i r.named
+  pub parts : ListsParts set i r.parts

@@ -1,0 +1,9 @@
+//! Sets of interfaces: the rules on extension and components over whole sets, with the first breach, and what an
+//! interface has with all that it inherits.
+#![tactic(auto)]
+
+mod laws;
+mod rule;
+
+pub use laws::{ancestors_of_ancestors, one_first_breach};
+pub use rule::SetRule;
