@@ -13,12 +13,11 @@ module _ (set : List Interface) where
   end-append i (j ∷ js) ks = end-append j js ks
 
   pub ancestor-trans : (i a b : Interface) → IsAncestor set i a → IsAncestor set a b → IsAncestor set i b
-  ancestor-trans i a b (js, c, e) (ks, d, f) =
-      (
-        js ++ ks,
-        chain-append i js ks c (subst (λ x. IsChain set x ks) (sym e) d),
-        end-append i js ks ∙ subst (λ x. chain_end x ks ≡ b) (sym e) f,
-      )
+  ancestor-trans i a b (js, c, e) (ks, d, f) = (
+    js ++ ks,
+    chain-append i js ks c (subst (λ x. IsChain set x ks) (sym e) d),
+    end-append i js ks ∙ subst (λ x. chain_end x ks ≡ b) (sym e) f,
+  )
 
   -- a parent of an ancestor is an ancestor
   pub ancestor-parent : (i a b : Interface) → IsAncestor set i a → IsParent set a b → IsAncestor set i b

@@ -1,6 +1,6 @@
 -- The rules on sets of interfaces (this project's own, by the limits of DTDL v2, "Interface"), each one predicate over
 -- the whole set.
-use Rattle.std.specs.Prelude.{◌≡◌, ◌<◌, ◌⊎◌, ℕ, List, ◌∷◌, ◌++◌, map, sum, length, slice_get, Option, Some, None, Contains}
+use Rattle.std.specs.Prelude.{◌≡◌, ◌<◌, ◌⊎◌, ℕ, List, ◌∷◌, ◌++◌, map, sum, length, slice_get, Some, None, Contains}
 use Rattle.std.specs.List.{AllByRecursion}
 use Rattle.dtmi_name.specs.Grammar.{Identifier, dtmi_text}
 use Rattle.dtdl_terms.specs.Distinct.{AreDistinct}
