@@ -2,8 +2,10 @@
 //! interface has with all that it inherits.
 #![tactic(auto)]
 
+mod ancestry;
 mod laws;
 mod rule;
 
+pub use ancestry::is_a;
 pub use laws::{ancestors_of_ancestors, one_first_breach};
 pub use rule::SetRule;
