@@ -122,5 +122,7 @@ fn compares_dtmis(rt: HostRuntime) -> Result<(), Fail> {
     assert_eq!(rt; order(&first, &second), Ordering::Less);
     assert_eq!(rt; order(&other, &first), Ordering::Greater);
     assert_eq!(rt; order(&first, &first.copy(alloc)?), Ordering::Equal);
+    assert!(rt; first < second && other > first);
+    assert!(rt; first == first.copy(alloc)? && first != other);
     Ok(())
 }

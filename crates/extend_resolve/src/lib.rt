@@ -9,3 +9,6 @@ mod rule;
 pub use ancestry::is_a;
 pub use laws::{ancestors_of_ancestors, one_first_breach};
 pub use rule::SetRule;
+
+#[cfg(test)]
+mod tests;
