@@ -10,18 +10,23 @@ const EDGES_EACH: u64 = 4;
 /// The texts that edges share.
 #[derive(Drop)]
 pub struct Graph {
+    /// The ids of the twins, which are the sources and the targets.
     pub twins: Vec<Text>,
+    /// The names under which edges stand.
     pub names: Vec<Text>,
 }
 
-/// An edge's source and id.
+/// What an edge is looked up by.
 #[derive(Drop)]
 pub struct Query {
+    /// The id of the twin from which it leads.
     pub source: Text,
+    /// Its own id, of which its source has no other.
     pub id: Text,
 }
 
 impl Graph {
+    /// The texts for so many edges, of which there are four for each twin. Fails only for want of memory.
     pub fn new(alloc: Global, edges: u64) -> Result<Graph, OutOfMemory> {
         let mut twins = Vec::new(alloc);
         for k in 0..edges / EDGES_EACH {
@@ -43,7 +48,7 @@ fn mixed(x: u64) -> u64 {
     x ^ (x >> 31)
 }
 
-/// One of the texts.
+/// A copy of one of the texts, which the number decides. Fails for want of memory, and where there are no texts.
 fn pick(alloc: Global, texts: &[Text], x: u64) -> Result<Text, OutOfMemory> {
     let count = texts.len() as u64;
     if count == 0 {
@@ -53,7 +58,7 @@ fn pick(alloc: Global, texts: &[Text], x: u64) -> Result<Text, OutOfMemory> {
     text.copy(alloc)
 }
 
-/// The edge of a number.
+/// The edge of a number: equal ones for equal numbers. Fails as `pick` does.
 pub fn edge_of(alloc: Global, graph: &Graph, k: u64) -> Result<Edge<u64>, OutOfMemory> {
     let x = k.wrapping_mul(4);
     Ok(Edge {
@@ -65,7 +70,7 @@ pub fn edge_of(alloc: Global, graph: &Graph, k: u64) -> Result<Edge<u64>, OutOfM
     })
 }
 
-/// So many edges, and the source and id of each.
+/// So many edges, and what each is looked up by, in the order of their numbers. Fails as `pick` does.
 pub fn queries_of(
     alloc: Global,
     graph: &Graph,

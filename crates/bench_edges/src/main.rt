@@ -18,7 +18,7 @@ use std::time::{Clock, Instant};
 /// The number of edges with no argument.
 const FEW: u64 = 2_000;
 
-/// Puts each edge.
+/// Puts each edge, and answers how many there are then. Fails only for want of memory.
 fn put_all(rels: &mut Rels<u64>, edges: Vec<Edge<u64>>) -> Result<u64, OutOfMemory> {
     for edge in edges {
         let Ok(_old) = rels.put(edge) else {
@@ -28,7 +28,7 @@ fn put_all(rels: &mut Rels<u64>, edges: Vec<Edge<u64>>) -> Result<u64, OutOfMemo
     Ok(rels.len())
 }
 
-/// Looks each edge up.
+/// Looks each edge up, and answers the sum of the payloads.
 fn get_all(rels: &Rels<u64>, queries: &[Query]) -> u64 {
     let mut sum: u64 = 0;
     for query in queries {
@@ -39,7 +39,7 @@ fn get_all(rels: &Rels<u64>, queries: &[Query]) -> u64 {
     sum
 }
 
-/// Lists the edges of each source.
+/// Lists the edges of each source, and answers the sum of the payloads.
 fn out_all(rels: &Rels<u64>, graph: &Graph) -> u64 {
     let mut sum: u64 = 0;
     for twin in &graph.twins {
@@ -50,7 +50,7 @@ fn out_all(rels: &Rels<u64>, graph: &Graph) -> u64 {
     sum
 }
 
-/// Lists the edges of each target.
+/// Lists the edges of each target, and answers the sum of the payloads.
 fn into_all(rels: &Rels<u64>, graph: &Graph) -> u64 {
     let mut sum: u64 = 0;
     for twin in &graph.twins {
@@ -61,7 +61,7 @@ fn into_all(rels: &Rels<u64>, graph: &Graph) -> u64 {
     sum
 }
 
-/// Counts the edges of each source and name.
+/// Counts the edges of each source and name, and answers how many there are.
 fn count_all(rels: &Rels<u64>, graph: &Graph) -> u64 {
     let mut sum: u64 = 0;
     for twin in &graph.twins {
@@ -72,7 +72,7 @@ fn count_all(rels: &Rels<u64>, graph: &Graph) -> u64 {
     sum
 }
 
-/// Takes each edge out.
+/// Takes each edge out, and answers the sum of the payloads and of how many edges are left.
 fn remove_all(rels: &mut Rels<u64>, queries: &[Query]) -> u64 {
     let mut sum: u64 = 0;
     for query in queries {
@@ -83,7 +83,7 @@ fn remove_all(rels: &mut Rels<u64>, queries: &[Query]) -> u64 {
     sum.wrapping_add(rels.len())
 }
 
-/// Prints a part's sum, and its time where it is asked for.
+/// Prints a part's sum, and its time since `start` where it is asked for; answers when the next part starts.
 fn tell(
     rt: &(impl Print + Clock),
     part: &str,
@@ -100,7 +100,7 @@ fn tell(
     Ok(Instant::now(rt)?)
 }
 
-/// Runs the parts one after another.
+/// Runs the parts one after another, and prints each.
 fn run(rt: &(impl Print + Clock), alloc: Global, edges: u64, timed: bool) -> anyhow::Result<()> {
     let graph = Graph::new(alloc, edges)?;
     let (made, queries) = queries_of(alloc, &graph, edges)?;
@@ -121,7 +121,7 @@ fn run(rt: &(impl Print + Clock), alloc: Global, edges: u64, timed: bool) -> any
     Ok(())
 }
 
-/// Puts the edges, each made when it is put.
+/// Puts the edges, each made when it is put, and prints how many there are.
 fn hold(rt: &impl Print, alloc: Global, edges: u64) -> anyhow::Result<()> {
     let graph = Graph::new(alloc, edges)?;
     let mut rels = Rels::new(alloc);
@@ -134,6 +134,7 @@ fn hold(rt: &impl Print, alloc: Global, edges: u64) -> anyhow::Result<()> {
     Ok(())
 }
 
+/// Does what the arguments ask for.
 fn main(rt: HostRuntime) -> anyhow::Result<()> {
     let alloc = rt.alloc();
     let mut words = env::args(&rt)?.skip(1);

@@ -30,7 +30,7 @@ token_no_slash (b ∷ key) = all_append (token_byte b) (token_text key) (byte_no
 abbrev pub Starts : List ℕ → Type 0
 Starts rest = (rest ≡ []) ⊎ ((more : List ℕ) × (rest ≡ 47 ∷ more))
 
-pointer_starts : (tokens : List (List ℕ)) → Starts (pointer_text tokens)
+pub pointer_starts : (tokens : List (List ℕ)) → Starts (pointer_text tokens)
 pointer_starts [] = inl refl
 pointer_starts (token ∷ tokens) = inr (token_text token ++ pointer_text tokens, refl)
 
@@ -39,7 +39,7 @@ no_start y ys rest h (inl e) is = absurd cc
 no_start y ys rest h (inr e) is = let same : 47 ∷ e.0 ≡ y ∷ ys = sym e.1 ∙ is in h cc
 
 -- a text splits in one way into what has no slash and what starts with one
-same_split : (a b c d : List ℕ) → AllByRecursion IsNoSlash a → AllByRecursion IsNoSlash b → Starts c → Starts d → a ++ c ≡ b ++ d → (a ≡ b) × (c ≡ d)
+pub same_split : (a b c d : List ℕ) → AllByRecursion IsNoSlash a → AllByRecursion IsNoSlash b → Starts c → Starts d → a ++ c ≡ b ++ d → (a ≡ b) × (c ≡ d)
 same_split [] [] c d p q s t e = (refl, e)
 same_split [] (y ∷ b) c d p q s t e = absurd (no_start y (b ++ d) c q.0 s e)
 same_split (x ∷ a) [] c d p q s t e = absurd (no_start x (a ++ c) d p.0 t (sym e))
@@ -106,13 +106,13 @@ pub bad_start : (v : Json) (pointer bytes : List ℕ) → bytes ≡ pointer → 
 bad_start v pointer bytes same some first w h =
     slash_first v w bytes (some_bytes (length bytes) some) first (subst (λ bs. PointsTo v bs w) (sym same) h)
 
-rest_starts : (xs : List ℕ) (end : ℕ) → (end < length xs → get_or xs end 0 ≡ 47) → Starts (drop end xs)
+pub rest_starts : (xs : List ℕ) (end : ℕ) → (end < length xs → get_or xs end 0 ≡ 47) → Starts (drop end xs)
 rest_starts [] zero h = inl refl
 rest_starts [] (suc end) h = inl refl
 rest_starts (x ∷ xs) zero h = inr (xs, ap (λ (b : ℕ). b ∷ xs) (h (omega arith)))
 rest_starts (x ∷ xs) (suc end) h = rest_starts xs end (λ lt. h (omega (arith, lt)))
 
-first_split : (xs : List ℕ) (end : ℕ) → 0 < length xs → get_or xs 0 0 ≡ 47 → 1 ≤ end → xs ≡ 47 ∷ (slice_range xs 1 end ++ drop end xs)
+pub first_split : (xs : List ℕ) (end : ℕ) → 0 < length xs → get_or xs 0 0 ≡ 47 → 1 ≤ end → xs ≡ 47 ∷ (slice_range xs 1 end ++ drop end xs)
 first_split [] end some first low = absurd (omega (arith, some))
 first_split (x ∷ xs) end some first low = ap (λ (b : ℕ). b ∷ xs) first ∙ ap (λ (l : List ℕ). 47 ∷ l) (drop_split (x ∷ xs) 1 end low)
 

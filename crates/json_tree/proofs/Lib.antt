@@ -5,11 +5,11 @@ mod Escaped
 mod Printed
 mod Printable
 mod Characters
-mod FirstKeys
+pub mod FirstKeys
 mod TreeItems
 mod Tied
 mod SortedParts
 mod Indices
-mod Evaluated
-mod Stepped
+pub mod Evaluated
+pub mod Stepped
 pub mod OnePointer

@@ -15,10 +15,10 @@ use Rattle.json_tree.proofs.Parts.{item_within}
 use Rattle.json_tree.proofs.FirstKeys.{decimal_token}
 
 -- how a byte is spelled
-abbrev Shape : ℕ → List ℕ → Type 0
+abbrev pub Shape : ℕ → List ℕ → Type 0
 Shape b t = ((t ≡ 126 ∷ 48 ∷ []) × (b ≡ 126)) ⊎ (((t ≡ 126 ∷ 49 ∷ []) × (b ≡ 47)) ⊎ ((t ≡ b ∷ []) × (b ≢ 126)))
 
-shape : (b : ℕ) → Shape b (token_byte b)
+pub shape : (b : ℕ) → Shape b (token_byte b)
 shape b = choose (Shape b) (nat_eq b 126) _ _
     (λ e. inl (refl, is_byte b 126 e))
     (λ n. choose (Shape b) (nat_eq b 47) _ _ (λ e. inr (inl (refl, is_byte b 47 e))) (λ _. inr (inr (refl, no_byte b 126 n))))
@@ -26,7 +26,7 @@ shape b = choose (Shape b) (nat_eq b 126) _ _
 joined : (s s2 t t2 xs ys : List ℕ) → s ≡ s2 → t ≡ t2 → s ++ xs ≡ t ++ ys → s2 ++ xs ≡ t2 ++ ys
 joined s s2 t t2 xs ys p q e = sym (ap (λ (l : List ℕ). l ++ xs) p) ∙ e ∙ ap (λ (l : List ℕ). l ++ ys) q
 
-byte_split : (b c : ℕ) (s t xs ys : List ℕ) → Shape b s → Shape c t → s ++ xs ≡ t ++ ys → (b ≡ c) × (xs ≡ ys)
+pub byte_split : (b c : ℕ) (s t xs ys : List ℕ) → Shape b s → Shape c t → s ++ xs ≡ t ++ ys → (b ≡ c) × (xs ≡ ys)
 byte_split b c s t xs ys (inl p) (inl q) e =
     let f : 126 ∷ 48 ∷ xs ≡ 126 ∷ 48 ∷ ys = joined s _ t _ xs ys p.0 q.0 e in (p.1 ∙ sym q.1, cc)
 byte_split b c s t xs ys (inl p) (inr (inl q)) e =
@@ -46,7 +46,7 @@ byte_split b c s t xs ys (inr (inr p)) (inr (inl q)) e =
 byte_split b c s t xs ys (inr (inr p)) (inr (inr q)) e =
     let f : b ∷ xs ≡ c ∷ ys = joined s _ t _ xs ys p.0 q.0 e in (ap (λ (l : List ℕ). get_or l 0 0) f, cc)
 
-spelled_some : (b : ℕ) (s xs : List ℕ) → Shape b s → [] ≡ s ++ xs → ⊥
+pub spelled_some : (b : ℕ) (s xs : List ℕ) → Shape b s → [] ≡ s ++ xs → ⊥
 spelled_some b s xs (inl p) e = let f : [] ≡ 126 ∷ 48 ∷ xs = e ∙ ap (λ (l : List ℕ). l ++ xs) p.0 in absurd cc
 spelled_some b s xs (inr (inl p)) e = let f : [] ≡ 126 ∷ 49 ∷ xs = e ∙ ap (λ (l : List ℕ). l ++ xs) p.0 in absurd cc
 spelled_some b s xs (inr (inr p)) e = let f : [] ≡ b ∷ xs = e ∙ ap (λ (l : List ℕ). l ++ xs) p.0 in absurd cc

@@ -1,0 +1,115 @@
+-- Members changed at the position of a key are those of the finite map.
+use Rattle.std.proofs.Common.{◌≡◌, ℕ, zero, suc, ◌<◌, ◌≤◌, List, [], ◌∷◌, length, get_or, Bool, true, false, Option, Some, None, refl, sym, ap, ◌∙◌, subst, arith}
+use Rattle.std.proofs.Math.ListN.{set}
+use Rattle.std.specs.List.{insert, remove}
+use Rattle.std.specs.Prelude.{bytes_eq}
+use Rattle.std.specs.Ordering.{nat_cmp, is_eq, ordering_reverse, match_ordering}
+use Rattle.std.specs.declared.cmp.Ordering.{Ordering}
+use Rattle.std.specs.declared.cmp.Ordering.TheVariants.{Less, Equal, Greater}
+use Rattle.std.proofs.lemmas.Map.Text.{is_eq-slice_cmp}
+use Rattle.std.proofs.lemmas.Cmp.{nat_list_cmp_total}
+use Rattle.json_tree.specs.Values.{Json, Members, no_members, member}
+use Rattle.json_tree.specs.View.{view, member_view, members_view}
+use Rattle.json_tree.specs.Places.{member_at}
+use Rattle.json_tree.specs.declared.tree.Member.{Member}
+use Rattle.json_decimal.specs.Number.{Number}
+use Rattle.twin_patch.specs.Objects.{value_under, with_member, without_member}
+use Rattle.twin_patch.specs.Machinery.Orders.{compared, IsBefore, IsFoundAt, IsMissingAt, put_at}
+use Rattle.twin_patch.proofs.Found.{turned_back}
+
+reflexive : (o : Ordering) → o ≡ ordering_reverse o → o ≡ Equal
+reflexive Less e = absurd cc
+reflexive Equal e = refl
+reflexive Greater e = absurd cc
+
+pub equal_keys : (a b : List ℕ) → a ≡ b → compared a b ≡ Equal
+equal_keys a b e = subst (λ x. compared a x ≡ Equal) e (reflexive (compared a a) (nat_list_cmp_total.antisymm a a))
+
+-- a key is its own, and no lesser or greater one is
+pub same_test : (a b : List ℕ) → a ≡ b → bytes_eq b a ≡ true
+same_test a b e = sym (is_eq-slice_cmp b a) ∙ ap is_eq (equal_keys b a (sym e))
+
+pub greater_test : (key k : List ℕ) → compared key k ≡ Greater → bytes_eq k key ≡ false
+greater_test key k h = sym (is_eq-slice_cmp k key) ∙ ap is_eq (turned_back key k h)
+
+pub lesser_test : (key k : List ℕ) → compared key k ≡ Less → bytes_eq k key ≡ false
+lesser_test key k h = sym (is_eq-slice_cmp k key) ∙ ap is_eq (nat_list_cmp_total.antisymm k key ∙ ap ordering_reverse h)
+
+pub found_within : (ms : List Member) (key : List ℕ) (at : ℕ) → IsFoundAt key (members_view ms) at → at < length ms
+found_within [] key at h = absurd h
+found_within (m ∷ ms) key zero h = omega arith
+found_within (m ∷ ms) key (suc at) h = let r = found_within ms key at h.1 in omega (arith, r)
+
+pub missing_within : (ms : List Member) (key : List ℕ) (at : ℕ) → IsMissingAt key (members_view ms) at → at ≤ length ms
+missing_within [] key zero h = omega arith
+missing_within [] key (suc at) h = absurd h
+missing_within (m ∷ ms) key zero h = omega arith
+missing_within (m ∷ ms) key (suc at) h = let r = missing_within ms key at h.1 in omega (arith, r)
+
+-- what stands at the position is what the map has
+pub value_found : (ms : Members Number) (key : List ℕ) (at : ℕ) → IsFoundAt key ms at → (v : Json) × (value_under key ms ≡ Some v) × (member_at ms at ≡ Some (key, v))
+value_found no_members key at h = absurd h
+value_found (member k w ms) key zero h = (w, rw (same_test key k h) refl, ap (λ x. Some (x, w)) (sym h))
+value_found (member k w ms) key (suc at) h = let r = value_found ms key at h.1 in (r.0, rw (greater_test key k h.0) r.1, r.2)
+
+pub none_before : (ms : Members Number) (key : List ℕ) → IsBefore key ms → value_under key ms ≡ None
+none_before no_members key h = refl
+none_before (member k w ms) key h = rw (lesser_test key k h.0) (none_before ms key h.1)
+
+pub value_missing : (ms : Members Number) (key : List ℕ) (at : ℕ) → IsMissingAt key ms at → value_under key ms ≡ None
+value_missing no_members key at h = refl
+value_missing (member k w ms) key zero h = none_before (member k w ms) key h
+value_missing (member k w ms) key (suc at) h = rw (greater_test key k h.0) (value_missing ms key at h.1)
+
+pub put_found : (ms : Members Number) (key : List ℕ) (at : ℕ) (v : Json) → IsFoundAt key ms at → with_member key v ms ≡ put_at at v ms
+put_found no_members key at v h = absurd h
+put_found (member k w ms) key zero v h = rw (equal_keys key k h) refl
+put_found (member k w ms) key (suc at) v h = rw h.0 (ap (λ rest. member k w rest) (put_found ms key at v h.1))
+
+pub put_missing : (ms : List Member) (at : ℕ) (m : Member) → IsMissingAt m.key (members_view ms) at → with_member m.key (view m.value) (members_view ms) ≡ members_view (insert ms at m)
+put_missing [] zero m h = refl
+put_missing [] (suc at) m h = absurd h
+put_missing (n ∷ ms) zero m h = rw h.0 refl
+put_missing (n ∷ ms) (suc at) m h = rw h.0 (ap (λ rest. member n.key (view n.value) rest) (put_missing ms at m h.1))
+
+pub removed_found : (ms : List Member) (key : List ℕ) (at : ℕ) → IsFoundAt key (members_view ms) at → without_member key (members_view ms) ≡ members_view (remove ms at)
+removed_found [] key at h = absurd h
+removed_found (m ∷ ms) key zero h = rw (same_test key m.key h) refl
+removed_found (m ∷ ms) key (suc at) h = rw (greater_test key m.key h.0) (ap (λ rest. member m.key (view m.value) rest) (removed_found ms key at h.1))
+
+-- a member with another value, and the value that stood there
+pub set_value : (ms : List Member) (at : ℕ) (old new : Member) → at < length ms → old ≡ get_or ms at old → new.key ≡ old.key
+    → members_view (set ms at new) ≡ put_at at (view new.value) (members_view ms)
+set_value [] at old new lt is same = absurd (omega (arith, lt))
+set_value (m ∷ ms) zero old new lt is same = ap (λ k. member k (view new.value) (members_view ms)) (same ∙ ap (λ (n : Member). n.key) is)
+set_value (m ∷ ms) (suc at) old new lt is same = ap (λ rest. member m.key (view m.value) rest) (set_value ms at old new (omega (arith, lt)) is same)
+
+pub value_at : (ms : List Member) (at : ℕ) (m : Member) → at < length ms → m ≡ get_or ms at m → member_at (members_view ms) at ≡ Some (m.key, view m.value)
+value_at [] at m lt is = absurd (omega (arith, lt))
+value_at (n ∷ ms) zero m lt is = ap (λ (x : Member). Some (x.key, view x.value)) (sym is)
+value_at (n ∷ ms) (suc at) m lt is = value_at ms at m (omega (arith, lt)) is
+
+pub put_twice : (ms : Members Number) (at : ℕ) (v w : Json) → put_at at v (put_at at w ms) ≡ put_at at v ms
+put_twice no_members at v w = refl
+put_twice (member k x ms) zero v w = refl
+put_twice (member k x ms) (suc at) v w = ap (λ rest. member k x rest) (put_twice ms at v w)
+
+same_length : (ms ns : List Member) → members_view ns ≡ members_view ms → length ns ≡ length ms
+same_length [] [] h = refl
+same_length [] (n ∷ ns) h = absurd (let f : member n.key (view n.value) (members_view ns) ≡ no_members = h in cc)
+same_length (m ∷ ms) [] h = absurd (let f : no_members ≡ member m.key (view m.value) (members_view ms) = h in cc)
+same_length (m ∷ ms) (n ∷ ns) h =
+    let f : member n.key (view n.value) (members_view ns) ≡ member m.key (view m.value) (members_view ms) = h in
+    let g : members_view ns ≡ members_view ms = cc in ap suc (same_length ms ns g)
+
+pub put_length : (ms ns : List Member) (at : ℕ) (v : Json) → members_view ns ≡ put_at at v (members_view ms) → length ns ≡ length ms
+put_length [] [] at v h = refl
+put_length [] (n ∷ ns) at v h = absurd (let f : member n.key (view n.value) (members_view ns) ≡ no_members = h in cc)
+put_length (m ∷ ms) [] zero v h = absurd (let f : no_members ≡ member m.key v (members_view ms) = h in cc)
+put_length (m ∷ ms) [] (suc at) v h = absurd (let f : no_members ≡ member m.key (view m.value) (put_at at v (members_view ms)) = h in cc)
+put_length (m ∷ ms) (n ∷ ns) zero v h =
+    let f : member n.key (view n.value) (members_view ns) ≡ member m.key v (members_view ms) = h in
+    let g : members_view ns ≡ members_view ms = cc in ap suc (same_length ms ns g)
+put_length (m ∷ ms) (n ∷ ns) (suc at) v h =
+    let f : member n.key (view n.value) (members_view ns) ≡ member m.key (view m.value) (put_at at v (members_view ms)) = h in
+    let g : members_view ns ≡ put_at at v (members_view ms) = cc in ap suc (put_length ms ns at v g)

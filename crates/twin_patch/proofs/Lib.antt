@@ -1,0 +1,15 @@
+mod Found
+mod Edits
+mod Ordered
+mod Moved
+mod Overlays
+mod Merges
+mod Drafts
+mod Fronts
+mod Sorted
+mod Steps
+mod Tokens
+mod Entries
+pub mod Distinct
+mod Once
+mod Parts

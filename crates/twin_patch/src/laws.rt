@@ -1,0 +1,23 @@
+//! What the definitions say of patched values.
+
+ghost use Rattle.std.specs.Prelude.{◌≡◌, ℕ, List};
+ghost use Rattle.json_tree.specs.Sorting.{IsSortedOf};
+ghost use Rattle.json_tree.specs.Values.{Json, HasDistinctKeys};
+ghost use Rattle.twin_patch.specs.Operations.{Operation};
+ghost use Rattle.twin_patch.specs.Patched.{patched};
+ghost use Rattle.twin_patch.specs.Reading.{IsPatch, IsFault};
+ghost use Rattle.twin_patch.specs.declared.code.PatchCode.{PatchCode};
+ghost use Rattle.twin_patch.specs.declared.entry.PatchOf.{PatchOf};
+
+/// Values that are equal but for the order of members in their objects, so that both have one sorted form, are patched
+/// alike, where no object in them has two members of one key.
+pub fn order_of_members()
+    ensures { (v w sorted : Json) (os : List Operation) → HasDistinctKeys v → HasDistinctKeys w → IsSortedOf v sorted → IsSortedOf w sorted → patched os v ≡ patched os w }
+{}
+
+/// A value is a patch of one list of operations at most, has one fault at most, and never both.
+pub fn one_answer()
+    ensures patch { (of : PatchOf) (v : Json) (os ps : List Operation) → IsPatch of v os → IsPatch of v ps → os ≡ ps }
+    ensures fault { (of : PatchOf) (v : Json) (i j : ℕ) (c d : PatchCode) → IsFault of v i c → IsFault of v j d → (i ≡ j) × (c ≡ d) }
+    ensures either { (of : PatchOf) (v : Json) (os : List Operation) (i : ℕ) (c : PatchCode) → IsPatch of v os → IsFault of v i c → ⊥ }
+{}

@@ -1,0 +1,356 @@
+//! Rows: the examples of RFC 6902, the public vectors of json-patch-tests on objects, and each code at its least index.
+
+ghost use Rattle.std.specs.Prelude.{All, IfOk};
+ghost use Rattle.json_tree.specs.Values.{HasDistinctKeys};
+ghost use Rattle.json_tree.specs.View.{view};
+ghost use Rattle.twin_patch.specs.Operations.{change_of, BringsDistinctKeys};
+ghost use Rattle.twin_patch.specs.declared.patch.Op.{Op};
+
+use crate::{ApplyEnd, Patch, PatchCode, PatchEnd, PatchOf, apply, read_patch};
+use json_read::read;
+use json_tree::{Tree, print};
+use std::alloc::Global;
+use std::process::Abort;
+use std::test::Fail;
+
+/// The tree of a text.
+fn tree_of(alloc: Global, text: &str) -> Result<Tree, Fail>
+    ensures { IfOk result (λ tree. HasDistinctKeys (view tree)) }
+{
+    let tree = read(alloc, text.as_bytes())?;
+    Ok(tree)
+}
+
+/// What a patch of a twin makes of a tree, as it is printed: the patched tree, or a code and an index.
+fn outcome(alloc: Global, tree: &str, patch: &str, of: PatchOf) -> Result<String, Fail> {
+    let tree = tree_of(alloc, tree)?;
+    let patch = tree_of(alloc, patch)?;
+    match read_patch(alloc, &patch, of) {
+        Ok(patch) => applied(alloc, &tree, &patch),
+        Err(PatchEnd::Fault { index, code }) => Ok(format!(in alloc; "{} {index}", code.text())?),
+        Err(PatchEnd::OutOfMemory) => Ok(String::from_str(alloc, "out of memory")?),
+    }
+}
+
+/// What a copy of a patch makes of a tree.
+fn applied(alloc: Global, tree: &Tree, patch: &Patch) -> Result<String, Fail>
+    requires distinct { HasDistinctKeys (view tree.now) }
+    requires brought { All (λ (op : Op). BringsDistinctKeys (change_of op.kind)) patch.now.ops }
+{
+    let patch = patch.copy(alloc)?;
+    match apply(alloc, tree, &patch) {
+        Ok(tree) => Ok(print(alloc, &tree)?.inner),
+        Err(ApplyEnd::NoTarget { index }) => Ok(format!(in alloc;
+            "{} {index}",
+            PatchCode::NoTarget.text()
+        )?),
+        Err(ApplyEnd::OutOfMemory) => Ok(String::from_str(alloc, "out of memory")?),
+    }
+}
+
+/// The examples of RFC 6902, appendix A. Lists are no targets here.
+const EXAMPLES: [(&str, &str, &str); 11] = [
+    // RFC 6902, appendix A: A.1, A.3, A.5, A.10, A.11, A.12
+    (
+        r#"{"foo":"bar"}"#,
+        r#"[{"op":"add","path":"/baz","value":"qux"}]"#,
+        r#"{"baz":"qux","foo":"bar"}"#,
+    ),
+    (
+        r#"{"baz":"qux","foo":"bar"}"#,
+        r#"[{"op":"remove","path":"/baz"}]"#,
+        r#"{"foo":"bar"}"#,
+    ),
+    (
+        r#"{"baz":"qux","foo":"bar"}"#,
+        r#"[{"op":"replace","path":"/baz","value":"boo"}]"#,
+        r#"{"baz":"boo","foo":"bar"}"#,
+    ),
+    (
+        r#"{"foo":"bar"}"#,
+        r#"[{"op":"add","path":"/child","value":{"grandchild":{}}}]"#,
+        r#"{"child":{"grandchild":{}},"foo":"bar"}"#,
+    ),
+    (
+        r#"{"foo":"bar"}"#,
+        r#"[{"op":"add","path":"/baz","value":"qux","xyz":123}]"#,
+        r#"{"baz":"qux","foo":"bar"}"#,
+    ),
+    (
+        r#"{"foo":"bar"}"#,
+        r#"[{"op":"add","path":"/baz/bat","value":"qux"}]"#,
+        "NoTarget 0",
+    ),
+    // A.2, A.4, A.16: lists are no targets here; A.6, A.8, A.13: other operations
+    (
+        r#"{"foo":["bar","baz"]}"#,
+        r#"[{"op":"add","path":"/foo/1","value":"qux"}]"#,
+        "NoTarget 0",
+    ),
+    (
+        r#"{"foo":["bar","qux","baz"]}"#,
+        r#"[{"op":"remove","path":"/foo/1"}]"#,
+        "NoTarget 0",
+    ),
+    (
+        r#"{"foo":["bar"]}"#,
+        r#"[{"op":"add","path":"/foo/-","value":["abc","def"]}]"#,
+        "NoTarget 0",
+    ),
+    (
+        r#"{"foo":{"bar":"baz"},"qux":{}}"#,
+        r#"[{"op":"move","from":"/foo/bar","path":"/qux/thud"}]"#,
+        "BadOp 0",
+    ),
+    (
+        r#"{"baz":"qux"}"#,
+        r#"[{"op":"test","path":"/baz","value":"bar"}]"#,
+        "BadOp 0",
+    ),
+];
+
+/// The public vectors of json-patch-tests on objects.
+const VECTORS: [(&str, &str, &str); 18] = [
+    (
+        r#"{"foo":null}"#,
+        r#"[{"op":"add","path":"/foo","value":1}]"#,
+        r#"{"foo":1}"#,
+    ),
+    (
+        r#"{}"#,
+        r#"[{"op":"add","path":"/foo","value":"1"}]"#,
+        r#"{"foo":"1"}"#,
+    ),
+    (
+        r#"{}"#,
+        r#"[{"op":"add","path":"/","value":1}]"#,
+        r#"{"":1}"#,
+    ),
+    (
+        r#"{"foo":{}}"#,
+        r#"[{"op":"add","path":"/foo/","value":1}]"#,
+        r#"{"foo":{"":1}}"#,
+    ),
+    (
+        r#"{"foo":1}"#,
+        r#"[{"op":"add","path":"/bar","value":[1,2]}]"#,
+        r#"{"bar":[1,2],"foo":1}"#,
+    ),
+    (
+        r#"{"foo":1}"#,
+        r#"[{"op":"add","path":"/bar","value":null}]"#,
+        r#"{"bar":null,"foo":1}"#,
+    ),
+    (
+        r#"{"foo":1}"#,
+        r#"[{"op":"add","path":"/0","value":"bar"}]"#,
+        r#"{"0":"bar","foo":1}"#,
+    ),
+    (
+        r#"{"foo":"bar"}"#,
+        r#"[{"op":"add","path":"/FOO","value":"BAR"}]"#,
+        r#"{"FOO":"BAR","foo":"bar"}"#,
+    ),
+    (
+        r#"{"foo":1,"bar":[1,2,3,4]}"#,
+        r#"[{"op":"remove","path":"/bar"}]"#,
+        r#"{"foo":1}"#,
+    ),
+    (
+        r#"{"foo":null}"#,
+        r#"[{"op":"replace","path":"/foo","value":"truthy"}]"#,
+        r#"{"foo":"truthy"}"#,
+    ),
+    (
+        r#"{"foo":null}"#,
+        r#"[{"op":"remove","path":"/foo"}]"#,
+        r#"{}"#,
+    ),
+    (
+        r#"{"foo":"bar"}"#,
+        r#"[{"op":"replace","path":"/foo","value":null}]"#,
+        r#"{"foo":null}"#,
+    ),
+    (
+        r#"{"bar":"baz"}"#,
+        r#"[{"op":"replace","path":"/foo/bar","value":false}]"#,
+        "NoTarget 0",
+    ),
+    (
+        r#"{"foo":"bar"}"#,
+        r#"[{"op":"remove","path":"/baz"}]"#,
+        "NoTarget 0",
+    ),
+    (
+        r#"{"foo":"bar"}"#,
+        r#"[{"op":"remove","path":"/missing1/missing2"}]"#,
+        "NoTarget 0",
+    ),
+    (
+        r#"{"foo":"bar"}"#,
+        r#"[{"op":"add","path":"","value":{}}]"#,
+        "BadPath 0",
+    ),
+    (
+        r#"{"foo":"bar"}"#,
+        r#"[{"op":"add","path":"foo","value":"bar"}]"#,
+        "BadPath 0",
+    ),
+    (
+        r#"{"foo":"bar"}"#,
+        r#"[{"op":"spam","path":"/foo","value":1}]"#,
+        "BadOp 0",
+    ),
+];
+
+/// Patches, what they are for, and the least fault.
+const FAULTS: [(&str, PatchOf, &str); 11] = [
+    ("{}", PatchOf::Twin, "NotAList 0"),
+    ("[1]", PatchOf::Rel, "NotAnObject 0"),
+    (
+        r#"[{"op":"remove","path":"/a"},{"op":5}]"#,
+        PatchOf::Twin,
+        "BadOp 1",
+    ),
+    (r#"[{"path":"/a"}]"#, PatchOf::Part, "BadOp 0"),
+    (
+        r#"[{"op":"remove","path":null}]"#,
+        PatchOf::Twin,
+        "BadPath 0",
+    ),
+    (r#"[{"op":"remove"}]"#, PatchOf::Twin, "BadPath 0"),
+    (
+        r#"[{"op":"remove","path":"/a~2"}]"#,
+        PatchOf::Twin,
+        "BadPath 0",
+    ),
+    (
+        r#"[{"op":"remove","path":"/a~"}]"#,
+        PatchOf::Twin,
+        "BadPath 0",
+    ),
+    (
+        r#"[{"op":"add","path":"/a"}]"#,
+        PatchOf::Twin,
+        "MissingValue 0",
+    ),
+    (
+        r#"[{"op":"replace","path":"/$a"}]"#,
+        PatchOf::Twin,
+        "MissingValue 0",
+    ),
+    (
+        r#"[{"op":"remove","path":"/a"},{"op":"remove","path":"/$a/b"}]"#,
+        PatchOf::Twin,
+        "Protected 1",
+    ),
+];
+
+/// The same for protected members and marks, and patches that are applied.
+const OUTCOMES: [(&str, PatchOf, &str); 12] = [
+    (
+        r#"[{"op":"remove","path":"/$metadata/$model"}]"#,
+        PatchOf::Twin,
+        "Protected 0",
+    ),
+    (
+        r#"[{"op":"replace","path":"/$metadata/$model/x","value":1}]"#,
+        PatchOf::Twin,
+        "Protected 0",
+    ),
+    (
+        r#"[{"op":"replace","path":"/$metadata/$model","value":1}]"#,
+        PatchOf::Rel,
+        "Protected 0",
+    ),
+    (
+        r#"[{"op":"replace","path":"/$metadata/$model","value":1}]"#,
+        PatchOf::Twin,
+        "NoTarget 0",
+    ),
+    ("[]", PatchOf::Model, "NotAMark 0"),
+    (
+        r#"[{"op":"remove","path":"/decommissioned"}]"#,
+        PatchOf::Model,
+        "NotAMark 0",
+    ),
+    (
+        r#"[{"op":"add","path":"/decommissioned","value":1}]"#,
+        PatchOf::Model,
+        "NotAMark 0",
+    ),
+    (
+        r#"[{"op":"add","path":"/decommissioned","value":true},{"op":"add","path":"/a"}]"#,
+        PatchOf::Model,
+        "MissingValue 1",
+    ),
+    (
+        r#"[{"op":"replace","path":"/decommissioned","value":true}]"#,
+        PatchOf::Model,
+        "NoTarget 0",
+    ),
+    ("[]", PatchOf::Twin, r#"{"a":{"~/":0},"b":{"c":2,"d":1}}"#),
+    (
+        r#"[{"op":"remove","path":"/a/~0~1"},{"op":"add","path":"/b/a","value":{"y":1,"x":2}}]"#,
+        PatchOf::Twin,
+        r#"{"a":{},"b":{"a":{"x":2,"y":1},"c":2,"d":1}}"#,
+    ),
+    (
+        r#"[{"op":"remove","path":"/a"},{"op":"replace","path":"/b/c","value":3},{"op":"remove","path":"/a"}]"#,
+        PatchOf::Twin,
+        "NoTarget 2",
+    ),
+];
+
+fn applies(rt: &impl Abort, alloc: Global, rows: &[(&str, &str, &str)]) -> Result<(), Fail> {
+    for (tree, patch, line) in rows {
+        assert_eq!(rt;
+            outcome(alloc, tree, patch, PatchOf::Twin)?.as_str(),
+            *line,
+            "{patch}"
+        );
+    }
+    Ok(())
+}
+
+/// What the patches make of one tree.
+fn judges(rt: &impl Abort, alloc: Global, rows: &[(&str, PatchOf, &str)]) -> Result<(), Fail> {
+    for (patch, of, line) in rows {
+        assert_eq!(rt;
+            outcome(alloc, r#"{"b":{"d":1,"c":2},"a":{"~/":0}}"#, patch, *of)?.as_str(),
+            *line,
+            "{patch}"
+        );
+    }
+    Ok(())
+}
+
+#[test]
+fn applies_as_the_public_vectors_say(rt: HostRuntime) -> Result<(), Fail> {
+    applies(&rt, rt.alloc(), &EXAMPLES)?;
+    applies(&rt, rt.alloc(), &VECTORS)
+}
+
+#[test]
+fn names_the_least_fault(rt: HostRuntime) -> Result<(), Fail> {
+    judges(&rt, rt.alloc(), &FAULTS)?;
+    judges(&rt, rt.alloc(), &OUTCOMES)
+}
+
+#[test]
+fn bounds_the_parts_of_a_path(rt: HostRuntime) -> Result<(), Fail> {
+    for (parts, fits) in [(64, true), (65, false)] {
+        let mut text = String::from_str(rt.alloc(), r#"[{"op":"remove","path":""#)?;
+        for _ in 0..parts {
+            text.push_str("/a")?;
+        }
+        text.push_str(r#""}]"#)?;
+        let patch = read(rt.alloc(), text.as_bytes())?;
+        assert_eq!(rt;
+            read_patch(rt.alloc(), &patch, PatchOf::Twin).is_ok(),
+            fits,
+            "{parts}"
+        );
+    }
+    Ok(())
+}
