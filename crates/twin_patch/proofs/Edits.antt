@@ -1,4 +1,4 @@
--- Members changed at the position of a key are those of the finite map.
+-- The position of a key among members, and what stands there.
 use Rattle.std.proofs.Common.{◌≡◌, ℕ, zero, suc, ◌<◌, ◌≤◌, List, [], ◌∷◌, length, get_or, Bool, true, false, Option, Some, None, refl, sym, ap, ◌∙◌, subst, arith}
 use Rattle.std.proofs.Math.ListN.{set}
 use Rattle.std.specs.List.{insert, remove}
@@ -35,17 +35,6 @@ greater_test key k h = sym (is_eq-slice_cmp k key) ∙ ap is_eq (turned_back key
 pub lesser_test : (key k : List ℕ) → compared key k ≡ Less → bytes_eq k key ≡ false
 lesser_test key k h = sym (is_eq-slice_cmp k key) ∙ ap is_eq (nat_list_cmp_total.antisymm k key ∙ ap ordering_reverse h)
 
-pub found_within : (ms : List Member) (key : List ℕ) (at : ℕ) → IsFoundAt key (members_view ms) at → at < length ms
-found_within [] key at h = absurd h
-found_within (m ∷ ms) key zero h = omega arith
-found_within (m ∷ ms) key (suc at) h = let r = found_within ms key at h.1 in omega (arith, r)
-
-pub missing_within : (ms : List Member) (key : List ℕ) (at : ℕ) → IsMissingAt key (members_view ms) at → at ≤ length ms
-missing_within [] key zero h = omega arith
-missing_within [] key (suc at) h = absurd h
-missing_within (m ∷ ms) key zero h = omega arith
-missing_within (m ∷ ms) key (suc at) h = let r = missing_within ms key at h.1 in omega (arith, r)
-
 -- what stands at the position is what the map has
 pub value_found : (ms : Members Number) (key : List ℕ) (at : ℕ) → IsFoundAt key ms at → (v : Json) × (value_under key ms ≡ Some v) × (member_at ms at ≡ Some (key, v))
 value_found no_members key at h = absurd h
@@ -61,22 +50,6 @@ value_missing no_members key at h = refl
 value_missing (member k w ms) key zero h = none_before (member k w ms) key h
 value_missing (member k w ms) key (suc at) h = rw (greater_test key k h.0) (value_missing ms key at h.1)
 
-pub put_found : (ms : Members Number) (key : List ℕ) (at : ℕ) (v : Json) → IsFoundAt key ms at → with_member key v ms ≡ put_at at v ms
-put_found no_members key at v h = absurd h
-put_found (member k w ms) key zero v h = rw (equal_keys key k h) refl
-put_found (member k w ms) key (suc at) v h = rw h.0 (ap (λ rest. member k w rest) (put_found ms key at v h.1))
-
-pub put_missing : (ms : List Member) (at : ℕ) (m : Member) → IsMissingAt m.key (members_view ms) at → with_member m.key (view m.value) (members_view ms) ≡ members_view (insert ms at m)
-put_missing [] zero m h = refl
-put_missing [] (suc at) m h = absurd h
-put_missing (n ∷ ms) zero m h = rw h.0 refl
-put_missing (n ∷ ms) (suc at) m h = rw h.0 (ap (λ rest. member n.key (view n.value) rest) (put_missing ms at m h.1))
-
-pub removed_found : (ms : List Member) (key : List ℕ) (at : ℕ) → IsFoundAt key (members_view ms) at → without_member key (members_view ms) ≡ members_view (remove ms at)
-removed_found [] key at h = absurd h
-removed_found (m ∷ ms) key zero h = rw (same_test key m.key h) refl
-removed_found (m ∷ ms) key (suc at) h = rw (greater_test key m.key h.0) (ap (λ rest. member m.key (view m.value) rest) (removed_found ms key at h.1))
-
 -- a member with another value, and the value that stood there
 pub set_value : (ms : List Member) (at : ℕ) (old new : Member) → at < length ms → old ≡ get_or ms at old → new.key ≡ old.key
     → members_view (set ms at new) ≡ put_at at (view new.value) (members_view ms)
@@ -88,28 +61,3 @@ pub value_at : (ms : List Member) (at : ℕ) (m : Member) → at < length ms →
 value_at [] at m lt is = absurd (omega (arith, lt))
 value_at (n ∷ ms) zero m lt is = ap (λ (x : Member). Some (x.key, view x.value)) (sym is)
 value_at (n ∷ ms) (suc at) m lt is = value_at ms at m (omega (arith, lt)) is
-
-pub put_twice : (ms : Members Number) (at : ℕ) (v w : Json) → put_at at v (put_at at w ms) ≡ put_at at v ms
-put_twice no_members at v w = refl
-put_twice (member k x ms) zero v w = refl
-put_twice (member k x ms) (suc at) v w = ap (λ rest. member k x rest) (put_twice ms at v w)
-
-same_length : (ms ns : List Member) → members_view ns ≡ members_view ms → length ns ≡ length ms
-same_length [] [] h = refl
-same_length [] (n ∷ ns) h = absurd (let f : member n.key (view n.value) (members_view ns) ≡ no_members = h in cc)
-same_length (m ∷ ms) [] h = absurd (let f : no_members ≡ member m.key (view m.value) (members_view ms) = h in cc)
-same_length (m ∷ ms) (n ∷ ns) h =
-    let f : member n.key (view n.value) (members_view ns) ≡ member m.key (view m.value) (members_view ms) = h in
-    let g : members_view ns ≡ members_view ms = cc in ap suc (same_length ms ns g)
-
-pub put_length : (ms ns : List Member) (at : ℕ) (v : Json) → members_view ns ≡ put_at at v (members_view ms) → length ns ≡ length ms
-put_length [] [] at v h = refl
-put_length [] (n ∷ ns) at v h = absurd (let f : member n.key (view n.value) (members_view ns) ≡ no_members = h in cc)
-put_length (m ∷ ms) [] zero v h = absurd (let f : no_members ≡ member m.key v (members_view ms) = h in cc)
-put_length (m ∷ ms) [] (suc at) v h = absurd (let f : no_members ≡ member m.key (view m.value) (put_at at v (members_view ms)) = h in cc)
-put_length (m ∷ ms) (n ∷ ns) zero v h =
-    let f : member n.key (view n.value) (members_view ns) ≡ member m.key v (members_view ms) = h in
-    let g : members_view ns ≡ members_view ms = cc in ap suc (same_length ms ns g)
-put_length (m ∷ ms) (n ∷ ns) (suc at) v h =
-    let f : member n.key (view n.value) (members_view ns) ≡ member m.key (view m.value) (put_at at v (members_view ms)) = h in
-    let g : members_view ns ≡ put_at at v (members_view ms) = cc in ap suc (put_length ms ns at v g)

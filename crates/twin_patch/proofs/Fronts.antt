@@ -28,31 +28,12 @@ passed key items rest m out x more before is after =
 pub rise_behind : (items rest : List Member) (m : Member) → items ≡ m ∷ rest → KeysRise (members_view items) → KeysRise (members_view rest)
 rise_behind items rest m is rise = let all = subst (λ (l : List Member). KeysRise (members_view l)) is rise in all.1
 
-pub shorter : (items rest : List Member) (m : Member) → items ≡ m ∷ rest → length rest < length items
-shorter items rest m is = let same : length items ≡ suc (length rest) = ap length is in omega (arith, same)
-
--- where a first is there, one is taken
-longer : (n : ℕ) → suc n ≡ n → ⊥
-longer n h = absurd (omega (arith, h))
-
-pub some_taken : (key : List ℕ) (items rest : List Member) → IsFrontBefore key (members_view items) → items ≡ rest → rest ≡ drop 1 items → ⊥
-some_taken key [] rest before same is = before
-some_taken key (m ∷ ms) rest before same is = let all : m ∷ ms ≡ ms = same ∙ is in longer (length ms) (ap length all)
-
 -- the first is that of the key
 pub own_skipped : (key : List ℕ) (items : List Member) (x : Draft) (more : List (List ℕ × Draft)) → IsFrontAt key (members_view items) → AreAfter key more
     → overlaid draft_view ((key, x) ∷ more) (members_view items) ≡ front key (draft_view x) (overlaid draft_view more (members_view (drop 1 items)))
 own_skipped key [] x more at after = absurd at
 own_skipped key (m ∷ ms) x more at after =
     ap (λ (k : List ℕ). overlaid draft_view ((key, x) ∷ more) (member k (view m.value) (members_view ms))) at ∙ next_own draft_view key x (view m.value) more (members_view ms) after
-
-pub own_before : (key : List ℕ) (items : List Member) → KeysRise (members_view items) → IsFrontAt key (members_view items) → IsBefore key (members_view (drop 1 items))
-own_before key [] rise at = tt
-own_before key (m ∷ ms) rise at = subst (λ (k : List ℕ). IsBefore k (members_view ms)) at rise.0
-
-pub own_rise : (items : List Member) → KeysRise (members_view items) → KeysRise (members_view (drop 1 items))
-own_rise [] rise = tt
-own_rise (m ∷ ms) rise = rise.1
 
 -- the first comes behind the key
 pub past_before : (key : List ℕ) (ms : Members Number) → KeysRise ms → IsPast key ms → (IsFrontAt key ms → ⊥) → IsBefore key ms

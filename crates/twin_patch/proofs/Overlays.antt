@@ -278,7 +278,7 @@ looked_up f key (e ∷ es) ms o =
     entry_under key e.0 (f e.1) (overlaid f es ms) (overlay_rise f es ms o)
     ∙ ap (λ b. cond b (f e.1) (value_under key (overlaid f es ms))) (either_way e.0 key ∙ sym (is_eq-slice_cmp key e.0))
     ∙ step (is_at (compared key) e.0) (looked_up f key es ms o) where
-  step : (b : Bool) → value_under key (overlaid f es ms) ≡ found_or f (lookup (is_at (compared key)) es) (value_under key ms)
-      → cond b (f e.1) (value_under key (overlaid f es ms)) ≡ found_or f (cond b (Some e.1) (lookup (is_at (compared key)) es)) (value_under key ms)
-  step true later = refl
-  step false later = later
+      step : (b : Bool) → value_under key (overlaid f es ms) ≡ found_or f (lookup (is_at (compared key)) es) (value_under key ms)
+          → cond b (f e.1) (value_under key (overlaid f es ms)) ≡ found_or f (cond b (Some e.1) (lookup (is_at (compared key)) es)) (value_under key ms)
+      step true later = refl
+      step false later = later

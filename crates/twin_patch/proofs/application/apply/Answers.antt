@@ -1,4 +1,4 @@
-use Rattle.std.proofs.Common.{◌≡◌, ◌+◌, Bool, true, Option, Some, None, drop, refl, sym, ap, ◌∙◌, rules}
+use Rattle.std.proofs.Common.{◌≡◌, ◌+◌, true, Option, Some, None, drop, refl, sym, ap, ◌∙◌, rules}
 use Rattle.std.specs.Prelude.{is_some, option_and_then}
 use Rattle.json_tree.specs.Values.{Json}
 use Rattle.json_tree.specs.View.{view}
@@ -33,5 +33,5 @@ operations-preserved c =
       found.1,
       applied_order (change_of op.kind) op.path v found.0 c.operations.invariant.2 (sym is ∙ found.1),
       ap (λ (x : Option Json). go_on index x (patched_from (index + 1) (operations_of (drop (index + 1) ops)))) (sym found.1 ∙ is)
-      ∙ sym (one_more ops index op v c.operations-test.true c.op-item.is) ∙ c.operations.invariant.3,
+          ∙ sym (one_more ops index op v c.operations-test.true c.op-item.is) ∙ c.operations.invariant.3,
     )

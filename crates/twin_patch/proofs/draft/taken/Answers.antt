@@ -1,11 +1,10 @@
-use Rattle.std.proofs.Common.{◌≡◌, ℕ, List, Option, Some, None, refl, sym, ap, ◌∙◌}
+use Rattle.std.proofs.Common.{◌≡◌, ℕ, List, Option, Some, None, sym, ap, ◌∙◌}
 use Rattle.std.specs.Map.{lookup}
 use Rattle.std.specs.BTreeMap.{is_at}
-use Rattle.json_tree.specs.Values.{Json}
 use Rattle.json_tree.specs.View.{members_view}
 use Rattle.twin_patch.specs.Objects.{value_under, with_member}
 use Rattle.twin_patch.specs.Machinery.Orders.{compared}
-use Rattle.twin_patch.specs.Machinery.Drafts.{overlaid, draft_view, both}
+use Rattle.twin_patch.specs.Machinery.Drafts.{overlaid, draft_view}
 use Rattle.twin_patch.specs.declared.draft.Draft.{Draft}
 use Rattle.twin_patch.proofs.Overlays.{rise_by, set_after_removal, set_after_base, looked_up, found_or}
 use Rattle.twin_patch.proofs.draft.taken.Goals as goal

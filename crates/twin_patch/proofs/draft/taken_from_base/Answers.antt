@@ -1,10 +1,9 @@
-use Rattle.std.proofs.Common.{◌≡◌, ℕ, List, Some, None, false, refl, sym, ap, ◌∙◌, subst}
-use Rattle.std.specs.Prelude.{bytes_eq}
+use Rattle.std.proofs.Common.{sym, ap, ◌∙◌}
 use Rattle.json_tree.specs.Values.{null, Members}
 use Rattle.json_tree.specs.View.{view, members_view}
 use Rattle.json_decimal.specs.Number.{Number}
 use Rattle.twin_patch.specs.Objects.{value_under}
-use Rattle.twin_patch.specs.Machinery.Orders.{KeysRise, IsFoundAt, IsMissingAt, put_at}
+use Rattle.twin_patch.specs.Machinery.Orders.{IsFoundAt, IsMissingAt, put_at}
 use Rattle.twin_patch.proofs.Overlays.{rise_by, rise_test, rise_put, put_others}
 use Rattle.twin_patch.proofs.Drafts.{view_whole, view_absent}
 use Rattle.twin_patch.proofs.Edits.{value_missing}

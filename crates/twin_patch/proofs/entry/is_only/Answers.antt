@@ -1,5 +1,4 @@
-use Rattle.std.proofs.Common.{◌≡◌, sym, ◌∙◌, rules}
-use Rattle.twin_patch.proofs.Moved.{equal}
+use Rattle.std.proofs.Common.{◌≡◌, rules}
 use Rattle.twin_patch.proofs.Parts.{only_one}
 use Rattle.twin_patch.proofs.entry.is_only.Goals as goal
 

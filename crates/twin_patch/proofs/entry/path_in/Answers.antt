@@ -1,4 +1,4 @@
-use Rattle.std.proofs.Common.{◌≡◌, ◌<◌, ◌≤◌, length, sym, ap, ◌∙◌, arith}
+use Rattle.std.proofs.Common.{◌≡◌, length, ap, arith}
 use Rattle.json_tree.specs.Pointers.{pointer_text}
 use Rattle.json_tree.specs.View.{members_view}
 use Rattle.twin_patch.proofs.Once.{no_fit}

@@ -3,7 +3,7 @@ use Rattle.std.specs.Map.{keys_of}
 use Rattle.std.specs.List.Sorted.{IsStrictlySortedBy}
 use Rattle.json_decimal.specs.Number.{Number}
 use Rattle.json_tree.specs.Values.{Json, object, Members, member}
-use Rattle.json_tree.specs.View.{view, members_view}
+use Rattle.json_tree.specs.View.{members_view}
 use Rattle.json_tree.specs.declared.tree.Member.{Member}
 use Rattle.twin_patch.specs.Machinery.Drafts.{overlaid, draft_view, behind, front}
 use Rattle.twin_patch.specs.Machinery.Orders.{compared}

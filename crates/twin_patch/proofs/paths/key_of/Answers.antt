@@ -1,10 +1,10 @@
-use Rattle.std.proofs.Common.{◌≡◌, ◌+◌, ◌++◌, ◌<◌, ◌≤◌, ◌∷◌, [], length, get_or, string_bytes, refl, sym, ap, ◌∙◌, subst, arith}
+use Rattle.std.proofs.Common.{◌≡◌, ◌+◌, ◌++◌, ◌<◌, ◌∷◌, [], length, get_or, string_bytes, sym, ap, ◌∙◌, subst, arith}
 use Rattle.std.specs.List.{slice_range, AllByRecursion}
 use Rattle.std.specs.Str.{IsCharBoundary}
 use Rattle.std.proofs.lemmas.Str.{IsCharBoundary-start, IsCharBoundary-after_ascii}
 use Rattle.json_tree.specs.Pointers.{token_text}
 use Rattle.json_tree.specs.Machinery.Tokens.{IsNoSlash}
-use Rattle.twin_patch.proofs.Tokens.{Forward, Back, run_bare, run_forward, run_back, tilde_split, tilde_last, escape_forward, escape_back, no_escape, no_end, token_read, escape_ascii, escaped_small}
+use Rattle.twin_patch.proofs.Tokens.{Forward, run_bare, run_forward, run_back, tilde_split, tilde_last, escape_forward, escape_back, no_escape, no_end, token_read, escape_ascii, escaped_small}
 use Rattle.twin_patch.proofs.paths.key_of.Goals as goal
 
 pub runs-init : goal.runs-init

@@ -1,4 +1,4 @@
-use Rattle.std.proofs.Common.{length, ◌-◌, ◌≤◌, string_bytes}
+use Rattle.std.proofs.Common.{length, ◌-◌, string_bytes}
 use Rattle.std.specs.Str.{IsCharBoundary}
 use Rattle.twin_patch.proofs.Tokens.{Forward, Back}
 use Rattle.twin_patch.proofs.paths.key_of.Given as goal

@@ -1,4 +1,4 @@
-use Rattle.std.proofs.Common.{length, ◌-◌, ◌≤◌}
+use Rattle.std.proofs.Common.{length, ◌-◌}
 use Rattle.twin_patch.proofs.Tokens.{PathForward, PathBack}
 use Rattle.twin_patch.proofs.paths.path_of.Given as goal
 

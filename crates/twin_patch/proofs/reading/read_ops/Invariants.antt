@@ -1,4 +1,3 @@
-use Rattle.std.proofs.Common.{◌≡◌}
 use Rattle.twin_patch.proofs.Entries.{Behind, Failing}
 use Rattle.twin_patch.proofs.reading.read_ops.Given as goal
 
