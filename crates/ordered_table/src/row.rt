@@ -14,7 +14,7 @@ use std::collections::btree_map::Range;
 use std::marker::Model;
 use std::ops::Bound;
 
-/// Entries in the order of their keys.
+/// Entries in the order of their keys, no two with one key, which contracts see as a list of pairs.
 #[derive(Drop)]
 pub struct Row<K: Ord, V> {
     entries: BTreeMap<K, V>,
@@ -32,6 +32,7 @@ impl<K: Ord, V> Model for Row<K, V> {
 }
 
 impl<K: Ord, V> Row<K, V> {
+    /// The row without entries. Takes no memory.
     pub fn new(alloc: Global) -> Row<K, V>
         ensures empty { result ≡ [] }
         ensures ordered { IsStrictlySortedBy K.cmp (keys_of result) }
@@ -41,12 +42,14 @@ impl<K: Ord, V> Row<K, V> {
         }
     }
 
+    /// Whether there are no entries. Takes no memory.
     pub fn is_empty(&self) -> bool
         ensures { IsTrue result ↔ (self.now ≡ []) }
     {
         self.entries.is_empty()
     }
 
+    /// What stands under a key. Takes no memory.
     pub fn get(&self, key: &K) -> Option<&V>
         ensures { option_copied result ≡ lookup (is_at (K.cmp key.now)) self.now }
     {
@@ -55,14 +58,14 @@ impl<K: Ord, V> Row<K, V> {
 }
 
 impl<K: Ord, V> Row<K, V> {
-    /// The entries, in the order of their keys.
+    /// The entries, in the order of their keys. Takes no memory.
     pub fn entries(&self) -> Range<'_, K, V>
         ensures { result ≡ self.now }
     {
         self.entries.range(..)
     }
 
-    /// The entries whose keys are past a key, in the order of their keys.
+    /// The entries whose keys are past a key, in the order of their keys. Takes no memory.
     pub fn entries_after(&self, key: &K) -> Range<'_, K, V>
         ensures { result ≡ filter (λ e. is_lt (K.cmp key.now e.0)) self.now }
     {
@@ -71,6 +74,8 @@ impl<K: Ord, V> Row<K, V> {
 }
 
 impl<K: Ord + Drop, V> Row<K, V> {
+    /// Puts a value under a key, and gives the one that was there. `Err` is want of memory: it hands the key and the value
+    /// back, and nothing changes.
     pub fn insert(&mut self, key: K, value: V) -> Result<Option<V>, AllocFailed<(K, V)>>
         ensures old { IfOk result (λ old. old ≡ lookup (is_at (K.cmp key)) self.old) }
         ensures ok { OnOk result (self.new ≡ insert_entry K.cmp self.old key value) }
@@ -81,6 +86,7 @@ impl<K: Ord + Drop, V> Row<K, V> {
         self.entries.insert(key, value)
     }
 
+    /// Writes a value over the one under a key, where there is one. Takes no memory.
     pub fn set(&mut self, key: &K, value: V)
     where
         V: Drop,
@@ -93,6 +99,7 @@ impl<K: Ord + Drop, V> Row<K, V> {
         *old = value;
     }
 
+    /// Takes out what stands under a key, and gives it. Takes no memory.
     pub fn remove(&mut self, key: &K) -> Option<V>
         ensures value { result ≡ lookup (is_at (K.cmp key.now)) self.old }
         ensures entries { self.new ≡ remove_entry (is_at (K.cmp key.now)) self.old }
