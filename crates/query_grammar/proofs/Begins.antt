@@ -21,7 +21,7 @@ through_step : (o : Option State) (ts : List Placed) (u : State) (rest : List Pl
 through_step None ts u rest w more e = absurd cc
 through_step (Some v) ts u rest w more e = more v e
 
-through : (ts : List Placed) (s u : State) (rest : List Placed) (w : Whole) → Remains u rest w → behind s ts ≡ Some u → Remains s (ts ++ rest) w
+pub through : (ts : List Placed) (s u : State) (rest : List Placed) (w : Whole) → Remains u rest w → behind s ts ≡ Some u → Remains s (ts ++ rest) w
 through [] s u rest w h e = subst (λ (x : State). Remains x rest w) (sym (same_state s u e)) h
 through ((at, t) ∷ ts) s u rest w h e =
     backward s at t (ts ++ rest) w (through_step (step s at t) ts u rest w (λ v f. through ts v u rest w h f) e)

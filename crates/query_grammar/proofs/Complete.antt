@@ -60,7 +60,7 @@ one_most = search rules
 abbrev pub one : Decimal
 one = record { high = 0; low = 1; exponent = pos 0; negative = false; bounded = lit< tt; trimmed = λ e. e; least = one_least; most = one_most; zero = λ e. absurd (omega (arith, e)) }
 
-pub model : Identifier
+abbrev pub model : Identifier
 model = record { segments = (97 ∷ []) ∷ []; version = 1 }
 
 abbrev pub token_of : Simple → Token

@@ -1,0 +1,2 @@
+-- What the reader of tokens takes at a time. It ties functions to the spellings.
+pub mod Spans
