@@ -1,5 +1,5 @@
 -- The first byte tells what a token is.
-use Rattle.std.proofs.Common.{◌≡◌, ℕ, ◌+◌, ◌<◌, ◌≤◌, List, [], ◌∷◌, ◌++◌, length, get_or, Bool, true, false, cond, ◌==◌, refl, sym, ap, ◌∙◌, subst, arith, rules, length-append, if◌then◌else◌}
+use Rattle.std.proofs.Common.{◌≡◌, ℕ, ◌≤◌, List, [], ◌∷◌, ◌++◌, length, get_or, Bool, true, false, cond, ◌==◌, sym, ap, ◌∙◌, subst, arith, length-append, if◌then◌else◌}
 use Rattle.std.proofs.lemmas.Bool.Decides.{nat_tests}
 use Rattle.json_decimal.specs.Literal.{Literal, IsLiteral, IsDigit, IsInteger, minus_bytes, fraction_bytes, exponent_bytes}
 use Rattle.query_terms.specs.declared.operand.Compare.TheVariants as compares

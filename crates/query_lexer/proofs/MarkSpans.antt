@@ -1,9 +1,8 @@
 -- The longest mark in front.
-use Rattle.std.proofs.Common.{lit<, ◌≡◌, ℕ, zero, suc, ◌+◌, ◌<◌, ◌≤◌, List, [], ◌∷◌, ◌++◌, length, drop, get_or, Bool, true, false, ◌==◌, Option, Some, None, refl, sym, ap, ◌∙◌, subst, arith, length-append}
+use Rattle.std.proofs.Common.{lit<, ◌≡◌, ℕ, zero, suc, ◌<◌, ◌≤◌, List, [], ◌∷◌, ◌++◌, length, drop, get_or, false, Option, Some, None, refl, sym, ap, ◌∙◌, subst, arith, length-append}
 use Rattle.std.specs.List.{AllByRecursion}
 use Rattle.std.specs.Str.{IsUtf8, IsCharBoundary}
 use Rattle.std.proofs.lemmas.Bool.Decides.{nat_tests}
-use Rattle.query_terms.specs.declared.operand.Compare.{Compare}
 use Rattle.query_terms.specs.declared.operand.Compare.TheVariants as compares
 use Rattle.query_tokens.specs.declared.token.Mark.{Mark}
 use Rattle.query_tokens.specs.declared.token.Mark.TheVariants as marks

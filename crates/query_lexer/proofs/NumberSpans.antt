@@ -1,6 +1,6 @@
 -- The longest number in front.
-use Rattle.std.proofs.Common.{◌≡◌, ℕ, zero, suc, ◌+◌, ◌-◌, ◌^◌, ◌<◌, ◌≤◌, ◌⊎◌, inl, inr, List, [], ◌∷◌, ◌++◌, length, take, drop, get_or, Bool, true, false, Option, Some, None, refl, sym, ap, ◌∙◌, subst, arith, length-append}
-use Rattle.std.specs.Prelude.{IsTrue, IfSome, Result, Err, Ok}
+use Rattle.std.proofs.Common.{◌≡◌, ℕ, ◌+◌, ◌^◌, ◌<◌, ◌≤◌, ◌⊎◌, inl, inr, List, [], ◌∷◌, ◌++◌, length, take, drop, get_or, Bool, true, false, Option, Some, None, refl, sym, ap, ◌∙◌, subst, arith, length-append}
+use Rattle.std.specs.Prelude.{IsTrue, IfSome, Err}
 use Rattle.std.specs.List.{AllByRecursion}
 use Rattle.std.proofs.lemmas.List.{take-append-drop, get_or-take, length-take-le, take_at}
 use Rattle.std.proofs.lemmas.Int.{ints}
@@ -10,7 +10,7 @@ use Rattle.json_decimal.specs.declared.DecimalFault.{DecimalFault}
 use Rattle.json_decimal.specs.declared.DecimalFault.TheVariants.{NotALiteral, Range}
 use Rattle.json_decimal.specs.Number.{Number}
 use Rattle.json_decimal.specs.Decimals.{number_of, IsReadingOf}
-use Rattle.json_decimal.specs.Literal.{Literal, Exponent, Sign, no_sign, plus, minus, IsLiteral, IsLiteralOf, IsDigit, AreDigits, IsExponent, spelling, minus_bytes, fraction_bytes, exponent_bytes, sign_bytes}
+use Rattle.json_decimal.specs.Literal.{Literal, Exponent, Sign, no_sign, plus, minus, IsLiteral, IsLiteralOf, AreDigits, IsExponent, spelling, minus_bytes, fraction_bytes, exponent_bytes, sign_bytes}
 use Rattle.query_tokens.specs.declared.token.Token.{Token}
 use Rattle.query_tokens.specs.declared.token.Token.TheVariants as tokens
 use Rattle.query_lexer.specs.Spellings.{is_number_start, IsSpelling, IsLongest, BeginsNone}

@@ -1,14 +1,14 @@
 -- The text in quotes in front.
-use Rattle.std.proofs.Common.{◌≡◌, ℕ, zero, suc, ◌+◌, ◌<◌, ◌≤◌, ◌≢◌, ◌⊎◌, inl, inr, List, [], ◌∷◌, ◌++◌, length, take, drop, get_or, Bool, true, false, cond, not, ◌&&◌, ◌==◌, nat_le, Option, Some, None, refl, sym, ap, ◌∙◌, subst, arith, append_assoc, length-append, if◌then◌else◌}
+use Rattle.std.proofs.Common.{◌≡◌, ℕ, zero, suc, ◌<◌, ◌≤◌, ◌≢◌, ◌⊎◌, inl, inr, List, [], ◌∷◌, ◌++◌, length, take, drop, get_or, Bool, true, false, cond, ◌==◌, nat_le, Option, Some, None, refl, sym, ap, ◌∙◌, subst, arith, append_assoc, length-append}
 use Rattle.std.specs.Str.{IsUtf8, IsCharBoundary}
 use Rattle.std.proofs.lemmas.Bool.Decides.{nat_tests}
 use Rattle.dtmi_name.specs.Grammar.{Identifier}
 use Rattle.query_tokens.specs.declared.token.Token.{Token}
 use Rattle.query_tokens.specs.declared.token.Token.TheVariants as tokens
-use Rattle.query_lexer.specs.Spellings.{escape, IsCharacter, AreCharacters, IsModel, IsSpelling, IsLongest, BeginsNone}
+use Rattle.query_lexer.specs.Spellings.{escape, AreCharacters, IsModel, IsSpelling, IsLongest, BeginsNone}
 use Rattle.query_lexer.specs.Machinery.Spans.{is_plain, prepend, with_escape, content_in, content_at}
 use Rattle.query_lexer.proofs.Cuts.{behind_ascii}
-use Rattle.query_lexer.proofs.FirstBytes.{spelled_some, same_kind}
+use Rattle.query_lexer.proofs.FirstBytes.{same_kind}
 
 -- ---- what stands in front decides
 at_quote : (bs : List ℕ) → content_at (39 ∷ bs) ≡ Some ([], bs)

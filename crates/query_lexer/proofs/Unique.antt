@@ -1,5 +1,5 @@
 -- A spelling is of one token, and one token is the longest at a place.
-use Rattle.std.proofs.Common.{◌≡◌, ℕ, ◌+◌, ◌*◌, ◌%◌, ◌^◌, ◌<◌, ◌≤◌, List, [], ◌∷◌, ◌++◌, length, get_or, Bool, true, false, Option, Some, None, refl, sym, ap, ◌∙◌, subst, arith, length-append}
+use Rattle.std.proofs.Common.{◌≡◌, ℕ, ◌%◌, ◌^◌, ◌<◌, List, [], ◌∷◌, ◌++◌, length, get_or, Bool, true, false, Option, Some, None, refl, sym, ap, ◌∙◌, subst, arith}
 use Rattle.std.specs.Prelude.{ℤ, pos, neg_ℤ, ◌≤ℤ◌, IsTrue}
 use Rattle.std.specs.List.{AllByRecursion}
 use Rattle.std.proofs.lemmas.Bool.Decides.{nat_tests}
@@ -19,7 +19,7 @@ use Rattle.query_tokens.specs.declared.token.Token.TheVariants as tokens
 use Rattle.query_tokens.specs.Words.{word_of}
 use Rattle.query_lexer.specs.Spellings.{is_space, mark_bytes, AreCharacters, IsModel, IsSpelling, IsLongest, IsSpaces}
 use Rattle.query_lexer.specs.Machinery.Spans.{mark_at}
-use Rattle.query_lexer.proofs.FirstBytes.{kind_of, kind_at, same_kind, spelled_some}
+use Rattle.query_lexer.proofs.FirstBytes.{kind_of, kind_at, same_kind}
 use Rattle.query_lexer.proofs.TextSpans.{one_content}
 
 -- ---- decimals

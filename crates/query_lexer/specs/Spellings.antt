@@ -6,7 +6,6 @@ use Rattle.dtmi_name.specs.Grammar.{Identifier, OwnDtmiText}
 use Rattle.json_decimal.specs.Decimals.{number_of}
 use Rattle.json_decimal.specs.Literal.{IsLiteralOf}
 use Rattle.query_terms.specs.declared.operand.Compare.TheVariants as compares
-use Rattle.query_tokens.specs.declared.token.Word.{Word}
 use Rattle.query_tokens.specs.declared.token.Mark.{Mark}
 use Rattle.query_tokens.specs.declared.token.Mark.TheVariants as marks
 use Rattle.query_tokens.specs.declared.token.Token.{Token}

@@ -1,5 +1,4 @@
-use Rattle.std.proofs.Common.{◌≡◌, ℕ, List, ◌∷◌, [], drop, get_or, Option, Some, sym, ap, ◌∙◌, subst, string_bytes}
-use Rattle.query_lexer.specs.Machinery.Spans.{content_at}
+use Rattle.std.proofs.Common.{◌≡◌, ℕ, List, drop, get_or, Some, sym, ap, ◌∙◌, string_bytes}
 use Rattle.query_lexer.proofs.TextSpans.{quote_cut, content_ends, content_stops}
 use Rattle.query_lexer.proofs.texts.content_of.Goals as goal
 

@@ -1,4 +1,4 @@
-use Rattle.std.proofs.Common.{◌≡◌, ℕ, List, length, get_or, false, string_bytes}
+use Rattle.std.proofs.Common.{◌≡◌, length, get_or, false, string_bytes}
 use Rattle.std.specs.Str.{IsUtf8}
 use Rattle.query_lexer.specs.Machinery.Spans.{is_plain, prepend, content_at}
 use Rattle.query_lexer.proofs.texts.content_of.Given as goal

@@ -1,4 +1,4 @@
-use Rattle.std.proofs.Common.{◌≡◌, ◌<◌, ◌≤◌, ℕ, List, length, take, drop, get_or, true, sym, ap, ◌∙◌, subst}
+use Rattle.std.proofs.Common.{◌≡◌, ◌<◌, ◌≤◌, ℕ, List, length, drop, get_or, true, sym, ap, ◌∙◌, subst}
 use Rattle.query_lexer.specs.Machinery.Spans.{is_plain, prepend, content_at}
 use Rattle.query_lexer.proofs.TextSpans.{plain_front}
 use Rattle.query_lexer.proofs.texts.plain_run.Goals as goal

@@ -1,4 +1,4 @@
-use Rattle.std.proofs.Common.{◌≡◌, ℕ, List, length, drop, get_or, Option, Some, None, sym, ap, ◌∙◌, subst}
+use Rattle.std.proofs.Common.{◌≡◌, ℕ, List, drop, get_or, Option, Some, None, sym, ap, ◌∙◌, subst}
 use Rattle.std.specs.Str.{IsCharBoundary}
 use Rattle.query_tokens.specs.declared.token.Mark.{Mark}
 use Rattle.query_tokens.specs.declared.token.Token.TheVariants as tokens

@@ -1,4 +1,4 @@
-use Rattle.std.proofs.Common.{◌≡◌, ◌<◌, ◌≤◌, ℕ, List, length, get_or, true, false, sym, subst}
+use Rattle.std.proofs.Common.{◌≡◌, ◌<◌, ◌≤◌, ℕ, List, length, get_or, true, false, subst}
 use Rattle.query_lexer.specs.Spellings.{is_name_byte}
 use Rattle.query_lexer.proofs.Cuts.{behind_ascii, name_low}
 use Rattle.query_lexer.proofs.NameSpans.{IsNameRun, name_found}
