@@ -1,0 +1,12 @@
+//! The printed form of a query, and that it reads back.
+#![tactic(auto)]
+
+mod conditions;
+mod escapes;
+mod operands;
+mod printing;
+
+pub use printing::text;
+
+#[cfg(test)]
+mod tests;
