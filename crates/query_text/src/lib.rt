@@ -1,4 +1,4 @@
-//! The printed form of a query, and that it reads back.
+//! The printed form of a query.
 #![tactic(auto)]
 
 mod conditions;
