@@ -24,6 +24,3 @@ pub use replies::write_response;
 pub use request::{HttpEnd, Request};
 pub use requests::next_request;
 pub use response::{ReplyEnd, Response, SendEnd};
-
-#[cfg(test)]
-mod tests;

@@ -11,6 +11,3 @@ mod rels;
 pub use edge::{Edge, PutEnd};
 pub use listing::{Into, Listing, Out};
 pub use rels::Rels;
-
-#[cfg(test)]
-mod tests;

@@ -3,8 +3,11 @@
 ghost use Rattle.std.specs.Prelude.{◌≡◌, [], None, IfOk, IsSome};
 ghost use Rattle.http_ends.specs.Replies.{phrase_of, IsAllowed};
 
-use super::*;
 use dt_base::{List, MemSink, MemSource, OutOfMemory, Text};
+use http_ends::{
+    Buffer, HttpEnd, ReplyEnd, Response, SendEnd, next_request, next_response, write_request,
+    write_response,
+};
 use std::alloc::{AllocError, Global};
 use std::test::Fail;
 

@@ -1,7 +1,7 @@
 //! A plain list of edges is the definition's program: it is run beside `Rels`, and each call answers alike.
 
-use super::*;
 use dt_base::Text;
+use rel_graph::{Edge, Listing, Rels};
 use std::alloc::{AllocError, Global};
 use std::test::Fail;
 
