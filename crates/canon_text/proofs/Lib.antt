@@ -1,0 +1,13 @@
+pub mod SortedOnce
+pub mod SortedMap
+pub mod Zeros
+pub mod Steps
+pub mod Pairs
+pub mod Told
+pub mod Elements
+pub mod SameTrees
+pub mod Wholes
+pub mod ToldTrees
+pub mod Own
+pub mod Sets
+pub mod Keys

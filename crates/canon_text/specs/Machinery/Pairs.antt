@@ -1,0 +1,19 @@
+-- Values beside their names.
+use Rattle.std.specs.Prelude.{ℕ, List}
+use Rattle.json_tree.specs.Values.{Json}
+use Rattle.dtdl_terms.specs.TermViews.{payload_term, content_term}
+use Rattle.dtdl_terms.specs.declared.schema.Payload.{Payload}
+use Rattle.dtdl_terms.specs.declared.content.Content.{Content}
+use Rattle.canon_text.specs.Canonical.{payload_value, content_value}
+
+abbrev pub pair_name : List ℕ × Json → List ℕ
+pair_name m = m.0
+
+abbrev pub pair_value : List ℕ × Json → Json
+pair_value m = m.1
+
+abbrev pub payload_named : Payload → List ℕ × Json
+payload_named p = (p.name, payload_value (payload_term p))
+
+abbrev pub content_named : Content → List ℕ × Json
+content_named c = (c.name, content_value (content_term c))
