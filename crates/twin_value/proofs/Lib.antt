@@ -1,0 +1,12 @@
+pub mod Indexed
+pub mod Walked
+pub mod Fitting
+pub mod Schemas
+pub mod Contained
+pub mod Enumerated
+pub mod Answered
+pub mod Sounded
+pub mod Gathered
+pub mod Judged
+pub mod Bodies
+pub mod Linked

@@ -1,0 +1,86 @@
+-- Schemas of interfaces, properties of relationships and members, by their names.
+use Rattle.std.proofs.Common.{◌≡◌, ℕ, zero, suc, ◌+◌, ◌<◌, ◌≤◌, List, [], ◌∷◌, ◌++◌, length, get_or, drop, map, Bool, true, false, Option, Some, None, refl, sym, ap, subst, ◌∙◌, arith, add-one, bytes_eq}
+use Rattle.std.specs.Prelude.{if◌then◌else◌}
+use Rattle.std.specs.Borrow.{Bor}
+use Rattle.std.specs.List.{find}
+use Rattle.std.specs.Option.{option_map}
+use Rattle.dtmi_name.specs.Grammar.{Identifier, dtmi_text}
+use Rattle.json_tree.specs.View.{members_view}
+use Rattle.json_tree.specs.declared.tree.Member.{Member}
+use Rattle.dtdl_terms.specs.Terms.{ContentTerm}
+use Rattle.dtdl_terms.specs.Distinct.{content_name}
+use Rattle.dtdl_terms.specs.TermViews.{schema_term, kind_term, content_term, contents_term}
+use Rattle.dtdl_terms.specs.declared.schema.Schema.{Schema}
+use Rattle.dtdl_terms.specs.declared.content.Content.{Content}
+use Rattle.dtdl_terms.specs.declared.resolved.NamedIn.{NamedIn}
+use Rattle.twin_value.specs.Named.{is_called, named_of, properties_in, property_called}
+use Rattle.twin_value.specs.Roles.{Library, schemas_in, schemas_from, undeclared, declared_role, link_property_role}
+use Rattle.twin_value.specs.Breaches.{position_of}
+use Rattle.twin_value.proofs.Schemas.{found_map}
+
+-- ---- the schemas of an interface
+listed : (o : Option NamedIn) (x : List Schema) → Some x ≡ option_map (λ (n : NamedIn). n.schemas) o → x ≡ schemas_in o
+listed None x e = absurd cc
+listed (Some n) x e = cc
+
+unlisted : (o : Option NamedIn) → None ≡ option_map (λ (n : NamedIn). n.schemas) o → [] ≡ schemas_in o
+unlisted None e = refl
+unlisted (Some n) e = absurd cc
+
+pub schemas_found : (l : Library) (from : Identifier) (q : List ℕ) (found : Option (List Schema)) (x : List Schema) → q ≡ dtmi_text from
+    → found ≡ option_map (λ (n : NamedIn). n.schemas) (find (λ (n : NamedIn). is_called q (Some (dtmi_text n.of))) l.named) → found ≡ Some x → map schema_term x ≡ schemas_from l from
+schemas_found l from q found x e h is =
+    let same : Some x ≡ option_map (λ (n : NamedIn). n.schemas) (named_of from l.named) =
+    sym is ∙ h ∙ ap (λ (t : List ℕ). option_map (λ (n : NamedIn). n.schemas) (find (λ (n : NamedIn). is_called t (Some (dtmi_text n.of))) l.named)) e in
+    ap (map schema_term) (listed (named_of from l.named) x same)
+
+pub schemas_lost : (l : Library) (from : Identifier) (q : List ℕ) (found : Option (List Schema)) → q ≡ dtmi_text from
+    → found ≡ option_map (λ (n : NamedIn). n.schemas) (find (λ (n : NamedIn). is_called q (Some (dtmi_text n.of))) l.named) → found ≡ None → [] ≡ schemas_from l from
+schemas_lost l from q found e h is =
+    let same : None ≡ option_map (λ (n : NamedIn). n.schemas) (named_of from l.named) =
+    sym is ∙ h ∙ ap (λ (t : List ℕ). option_map (λ (n : NamedIn). n.schemas) (find (λ (n : NamedIn). is_called t (Some (dtmi_text n.of))) l.named)) e in
+    ap (map schema_term) (unlisted (named_of from l.named) same)
+
+-- ---- the properties of a relationship
+properties_list : (ps : List Content) → properties_in (contents_term ps) ≡ map content_term ps
+properties_list [] = refl
+properties_list (p ∷ ps) = ap (λ (l : List ContentTerm). content_term p ∷ l) (properties_list ps)
+
+pub property_found : (q : List ℕ) (ps : List Content) → property_called q (contents_term ps) ≡ option_map content_term (find (λ (p : Content). is_called q (Some p.name)) ps)
+property_found q ps =
+    ap (find (λ (p : ContentTerm). is_called q (Some (content_name p)))) (properties_list ps)
+    ∙ found_map (λ (p : ContentTerm). is_called q (Some (content_name p))) content_term ps
+
+pub property_role_found : (l : Library) (from : Option (Bor Identifier)) (f : Bor Identifier) (q : List ℕ) (ps : List Content) (o : Option (Bor Content)) (p : Bor Content) → from ≡ Some f
+    → option_map (λ (c : Bor Content). c.now) o ≡ find (λ (c : Content). is_called q (Some c.name)) ps → o ≡ Some p
+    → link_property_role l (option_map (λ (x : Bor Identifier). x.now) from) (property_called q (contents_term ps)) ≡ declared_role l f.now (kind_term p.now.kind)
+property_role_found l from f q ps o p e h is =
+    ap (λ (x : Option (Bor Identifier)). link_property_role l (option_map (λ (y : Bor Identifier). y.now) x) (property_called q (contents_term ps))) e
+    ∙ ap (link_property_role l (Some f.now)) (property_found q ps ∙ ap (option_map content_term) (sym h ∙ ap (option_map (λ (c : Bor Content). c.now)) is))
+
+pub property_role_lost : (l : Library) (from : Option (Bor Identifier)) (f : Bor Identifier) (q : List ℕ) (ps : List Content) (o : Option (Bor Content)) → from ≡ Some f
+    → option_map (λ (c : Bor Content). c.now) o ≡ find (λ (c : Content). is_called q (Some c.name)) ps → o ≡ None
+    → link_property_role l (option_map (λ (x : Bor Identifier). x.now) from) (property_called q (contents_term ps)) ≡ undeclared
+property_role_lost l from f q ps o e h is =
+    ap (λ (x : Option (Bor Identifier)). link_property_role l (option_map (λ (y : Bor Identifier). y.now) x) (property_called q (contents_term ps))) e
+    ∙ ap (link_property_role l (Some f.now)) (property_found q ps ∙ ap (option_map content_term) (sym h ∙ ap (option_map (λ (c : Bor Content). c.now)) is))
+
+-- ---- positions of members
+pub position_next : (key : List ℕ) (ms : List Member) (i : ℕ) (m : Member) → i < length ms → m ≡ get_or ms i m → bytes_eq m.key key ≡ false
+    → position_of key (members_view (drop i ms)) ≡ suc (position_of key (members_view (drop (suc i) ms)))
+position_next key [] i m within is other = absurd (omega (arith, within))
+position_next key (n ∷ ms) zero m within is other =
+    ap (λ (b : Bool). if b then 0 else suc (position_of key (members_view ms))) (ap (λ (x : Member). bytes_eq x.key key) (sym is) ∙ other)
+position_next key (n ∷ ms) (suc i) m within is other = position_next key ms i m (omega (arith, within)) is other
+
+pub position_here : (key : List ℕ) (ms : List Member) (i : ℕ) (m : Member) → i < length ms → m ≡ get_or ms i m → bytes_eq m.key key ≡ true → position_of key (members_view (drop i ms)) ≡ 0
+position_here key [] i m within is same = absurd (omega (arith, within))
+position_here key (n ∷ ms) zero m within is same =
+    ap (λ (b : Bool). if b then 0 else suc (position_of key (members_view ms))) (ap (λ (x : Member). bytes_eq x.key key) (sym is) ∙ same)
+position_here key (n ∷ ms) (suc i) m within is same = position_here key ms i m (omega (arith, within)) is same
+
+pub position_past : (key : List ℕ) (ms : List Member) (i : ℕ) → length ms ≤ i → position_of key (members_view (drop i ms)) ≡ 0
+position_past key [] zero past = refl
+position_past key [] (suc i) past = refl
+position_past key (n ∷ ms) zero past = absurd (omega (arith, past))
+position_past key (n ∷ ms) (suc i) past = position_past key ms i (omega (arith, past))

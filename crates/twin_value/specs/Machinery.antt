@@ -1,0 +1,5 @@
+pub mod Indexes
+pub mod Sound
+pub mod Views
+pub mod Walks
+pub mod Gathering

@@ -1,0 +1,28 @@
+//! Twins and relationships as values: which bodies have a breach, and what the others tell.
+#![tactic(auto)]
+
+mod code;
+mod contents;
+mod end;
+mod fit;
+mod gather;
+mod ids;
+mod index;
+mod judge;
+mod keys;
+mod library;
+mod link;
+mod names;
+mod print;
+mod role;
+mod shapes;
+mod twin;
+mod walk;
+
+pub use code::BodyCode;
+pub use end::BodyEnd;
+pub use fit::fit_value;
+pub use ids::{is_model_id, is_twin_id};
+pub use link::{Relationship, read_rel};
+pub use print::{print_part, print_rel, print_twin};
+pub use twin::{Twin, read_twin};

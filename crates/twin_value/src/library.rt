@@ -1,0 +1,131 @@
+//! What the contents of a model refer to.
+
+ghost use Rattle.std.specs.Prelude.{◌≡◌, ℕ, List, Some, map, IfOk, OnOk};
+ghost use Rattle.std.specs.Option.{option_or};
+ghost use Rattle.std.specs.Ordering.{nat_cmp};
+ghost use Rattle.std.specs.Cmp.Lexicographic.{slice_cmp};
+ghost use Rattle.std.specs.BTreeMap.{get_by};
+ghost use Rattle.dtmi_name.specs.Grammar.{dtmi_text};
+ghost use Rattle.dtdl_terms.specs.TermViews.{schema_term};
+ghost use Rattle.twin_value.specs.Breaches.{library_of};
+ghost use Rattle.twin_value.specs.Roles.{schemas_from, contents_in};
+ghost use Rattle.twin_value.specs.Named.{part_of};
+ghost use Rattle.twin_value.specs.Machinery.Indexes.{AreSchemas, is_there};
+
+use crate::index::{Index, Keyed};
+use dt_base::OutOfMemory;
+use dtdl_terms::{NamedIn, PartOf, Resolved, ResolvedContent, Schema};
+use dtmi_name::Dtmi;
+use std::alloc::Global;
+use std::collections::BTreeMap;
+use std::marker::Model;
+
+impl Keyed for PartOf {
+    ghost use Rattle.std.specs.Prelude.{Some};
+    ghost use Rattle.dtmi_name.specs.Grammar.{dtmi_text};
+
+    ghost key_of = { λ p. Some (dtmi_text p.of) };
+
+    fn key(&self) -> Option<&str> {
+        Some(self.of.as_str())
+    }
+}
+
+/// The schemas of each interface, by the interface's identifier and by their own.
+fn schemas_of<'a>(
+    alloc: Global,
+    named: &'a [NamedIn],
+) -> Result<BTreeMap<&'a str, Index<'a, Schema>>, OutOfMemory>
+    ensures { IfOk result (AreSchemas named.now) }
+{
+    let mut schemas = BTreeMap::new(alloc);
+    for one in named {
+        add_schemas(&mut schemas, alloc, one)?;
+    }
+    Ok(schemas)
+}
+
+/// Adds the schemas of an interface, unless an earlier one has its identifier.
+fn add_schemas<'a>(
+    schemas: &mut BTreeMap<&'a str, Index<'a, Schema>>,
+    alloc: Global,
+    one: &'a NamedIn,
+) -> Result<(), OutOfMemory>
+    ensures { OnOk result ((q : List ℕ) → get_by (λ k. slice_cmp nat_cmp q k.now) schemas.new
+        ≡ option_or (get_by (λ k. slice_cmp nat_cmp q k.now) schemas.old) (is_there q (Some (dtmi_text one.now.of)) one.now.schemas)) }
+{
+    let of = one.of.as_str();
+    if schemas.contains_key(of) {
+        return Ok(());
+    }
+    let index = Index::of(alloc, one.schemas.as_slice())?;
+    schemas.insert(of, index)?;
+    Ok(())
+}
+
+/// The schemas that interfaces declare, and the interfaces of components, by their identifiers.
+#[derive(Drop)]
+pub struct Library<'a> {
+    named: &'a [NamedIn],
+    schemas: BTreeMap<&'a str, Index<'a, Schema>>,
+    parts: Index<'a, PartOf>,
+    /// The schemas of an interface that declares none.
+    none: Index<'a, Schema>,
+}
+
+impl<'a> Model for Library<'a> {
+    ghost use Rattle.std.specs.Prelude.{◌≡◌, [], List, refl};
+    ghost use Rattle.std.specs.Coded.{code_by, coded×, coded_list};
+    ghost use Rattle.dtdl_terms.specs.contracts.resolved.NamedIn as named_row;
+    ghost use Rattle.dtdl_terms.specs.contracts.resolved.PartOf as part_row;
+    ghost use Rattle.dtdl_terms.specs.declared.resolved.NamedIn.{NamedIn};
+    ghost use Rattle.dtdl_terms.specs.declared.resolved.PartOf.{PartOf};
+    ghost use Rattle.twin_value.specs.Roles as roles;
+    ghost use Rattle.twin_value.specs.Machinery.Indexes.{AreSchemas};
+
+    ghost Value = { roles.Library };
+
+    ghost coded = { code_by (List NamedIn × List PartOf) (coded× (coded_list named_row.the_row.coded) (coded_list part_row.the_row.coded)) (λ l. (l.named, l.parts)) (λ p. record { named = p.0; parts = p.1 }) (λ _. refl) };
+
+    ghost view = { λ l. record { named = l.named.now; parts = l.parts } };
+
+    ghost invariant = { λ l. AreSchemas l.named.now l.schemas × (l.none ≡ []) };
+}
+
+impl<'a> Library<'a> {
+    /// The library of a model.
+    pub fn of(alloc: Global, resolved: &'a Resolved) -> Result<Library<'a>, OutOfMemory>
+        ensures { IfOk result (λ library. library ≡ library_of resolved.now) }
+    {
+        let named = resolved.named.as_slice();
+        let schemas = schemas_of(alloc, named)?;
+        let parts = Index::of(alloc, resolved.parts.as_slice())?;
+        let none = Index::of(alloc, &[])?;
+        Ok(Library {
+            named,
+            schemas,
+            parts,
+            none,
+        })
+    }
+
+    /// The schemas that an interface declares.
+    pub fn schemas_from(&self, from: &Dtmi) -> &Index<'a, Schema>
+        ensures { map schema_term result.now ≡ schemas_from self.now from.now }
+    {
+        if let Some(found) = self.schemas.get(from.as_str()) {
+            return found;
+        }
+        &self.none
+    }
+
+    /// The contents of the interface of a component.
+    pub fn contents_of(&self, of: &Dtmi) -> &'a [ResolvedContent]
+        ensures { result.now ≡ contents_in (part_of of.now self.now.parts) }
+    {
+        match self.parts.get(of.as_str()) {
+            Some(part) => part.contents.as_slice(),
+            None => &[],
+        }
+    }
+}

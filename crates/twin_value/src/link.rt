@@ -1,0 +1,204 @@
+//! Relationships, and the bodies that they are read from.
+
+ghost use Rattle.std.specs.Prelude.{◌≡◌, ◌↔◌, ◌∷◌, [], IsTrue, Some, IfOk, IsSome, MatchResult, codes};
+ghost use Rattle.std.specs.Option.{option_map};
+ghost use Rattle.json_tree.specs.View.{view, members_view};
+ghost use Rattle.local_rules.specs.Members.{members_in};
+ghost use Rattle.dtdl_terms.specs.TermViews.{contents_term};
+ghost use Rattle.twin_value.specs.Named.{content_called};
+ghost use Rattle.twin_value.specs.Breaches.{IsBreach, IsLinkBreach, body_role, link_source, HasNoBreach, EndsBy, NamesNone, link_called, as_link, link_of, link_properties, position_of, text_under, link_role_of};
+ghost use Rattle.twin_value.specs.Machinery.Views.{role_view};
+ghost use Rattle.twin_value.specs.Twins.{IsLinkOf};
+
+use crate::code::BodyCode;
+use crate::end::{BodyEnd, judge_body, text_under};
+use crate::gather::values_of;
+use crate::keys::Keys;
+use crate::library::Library;
+use crate::role::Role;
+use dt_base::{List, OutOfMemory, Text};
+use dtdl_terms::{Content, ContentKind, Resolved, ResolvedContent};
+use dtmi_name::{Dtmi, is_name};
+use json_tree::{Member, Place, Tree};
+use local_rules::{members_in, text_at};
+use rel_graph::Edge;
+use std::alloc::Global;
+
+/// A relationship: an edge that carries the values of its properties, an object whose members are sorted at every depth.
+pub type Relationship = Edge<Tree>;
+
+/// The content of this name.
+fn find_content<'a>(contents: &'a [ResolvedContent], name: &str) -> Option<&'a ResolvedContent>
+    ensures { option_map (λ c. c.now) result ≡ content_called name.now contents.now }
+{
+    for content in contents {
+        if content.content.name.as_str() == name {
+            return Some(content);
+        }
+    }
+    None
+}
+
+/// The content, where it is a relationship.
+#[tactic(auto, using(crate::proofs::Contained::kinds))]
+fn as_link(content: Option<&ResolvedContent>) -> Option<&ResolvedContent>
+    ensures { option_map (λ c. c.now) result ≡ as_link (option_map (λ c. c.now) content.entry) }
+{
+    let found = content?;
+    match &found.content.kind {
+        ContentKind::Relationship { .. } => content,
+        ContentKind::Telemetry { .. } => None,
+        ContentKind::Property { .. } => None,
+        ContentKind::Command { .. } => None,
+        ContentKind::Component { .. } => None,
+    }
+}
+
+/// The relationship that a body names.
+fn link_of<'a>(contents: &'a [ResolvedContent], tree: &Tree) -> Option<&'a ResolvedContent>
+    ensures { option_map (λ c. c.now) result ≡ link_of contents.now (view tree.now) }
+{
+    let name = text_at(members_in(tree), "$relationshipName")?;
+    as_link(find_content(contents, name))
+}
+
+/// Whether a body names a relationship that the model does not declare.
+fn names_none(resolved: &Resolved, tree: &Tree) -> bool
+    ensures { IsTrue result ↔ NamesNone resolved.now (view tree.now) }
+{
+    let Some(name) = text_at(members_in(tree), "$relationshipName") else {
+        return false;
+    };
+    if !is_name(name) {
+        return false;
+    }
+    as_link(find_content(resolved.contents.as_slice(), name)).is_none()
+}
+
+/// The properties of a relationship that there may be.
+#[tactic(auto, using(crate::proofs::Contained::kinds))]
+fn properties_of(link: Option<&ResolvedContent>) -> &[Content]
+    ensures { contents_term result.now ≡ link_properties (option_map (λ c. c.now) link.entry) }
+{
+    let Some(link) = link else {
+        return &[];
+    };
+    match &link.content.kind {
+        ContentKind::Relationship { properties, .. } => properties.as_slice(),
+        ContentKind::Telemetry { .. } => &[],
+        ContentKind::Property { .. } => &[],
+        ContentKind::Command { .. } => &[],
+        ContentKind::Component { .. } => &[],
+    }
+}
+
+/// The interface that declares a relationship.
+fn source_of(link: Option<&ResolvedContent>) -> Option<&Dtmi>
+    ensures { option_map (λ f. f.now) result ≡ link_source (option_map (λ c. c.now) link.entry) }
+{
+    match link {
+        Some(link) => Some(&link.from),
+        None => None,
+    }
+}
+
+/// The position of the first member with this key.
+fn position_of(members: &[Member], key: &str) -> usize
+    ensures { result ≡ position_of key.now (members_view members.now) }
+{
+    let mut at = 0;
+    'members: while at < members.len() && members[at].key.as_str() != key {
+        at += 1;
+    }
+    at
+}
+
+/// Where a body names a relationship.
+fn name_place(alloc: Global, tree: &Tree) -> Result<Place, OutOfMemory>
+    ensures { IfOk result (λ place. place.steps ≡ position_of (codes "$relationshipName") (members_in (view tree.now)) ∷ []) }
+{
+    let at = position_of(members_in(tree), "$relationshipName");
+    let steps = vec![in alloc; at as u64]?;
+    Ok(Place {
+        steps: List::from_vec(steps),
+    })
+}
+
+/// The relationship of a source and an identifier for which a body without breach stands.
+fn link_from(
+    alloc: Global,
+    source: &str,
+    id: &str,
+    tree: &Tree,
+    role: Role,
+) -> Result<Relationship, OutOfMemory>
+    requires name { IsSome (text_under (codes "$relationshipName") (view tree.now)) }
+    requires target { IsSome (text_under (codes "$targetId") (view tree.now)) }
+    ensures { IfOk result (IsLinkOf (role_view role.entry) source.now id.now (view tree.now)) }
+{
+    let source = Text::from_str(alloc, source)?;
+    let id = Text::from_str(alloc, id)?;
+    let name = Text::from_str(alloc, text_under(tree, "$relationshipName"))?;
+    let target = Text::from_str(alloc, text_under(tree, "$targetId"))?;
+    let keys = Keys::of(alloc, role)?;
+    let payload = values_of(alloc, members_in(tree), &keys)?;
+    Ok(Edge {
+        source,
+        id,
+        name,
+        target,
+        payload,
+    })
+}
+
+/// The same of a body that may have a breach, and that names this relationship.
+fn link_by(
+    alloc: Global,
+    source: &str,
+    id: &str,
+    tree: &Tree,
+    library: &Library,
+    link: Option<&ResolvedContent>,
+) -> Result<Relationship, BodyEnd>
+    ensures { MatchResult result
+        (λ r. HasNoBreach (IsBreach (body_role library.now (option_map (λ c. c.now) link.entry)) (view tree.now))
+        × IsLinkOf (body_role library.now (option_map (λ c. c.now) link.entry)) source.now id.now (view tree.now) r)
+        (EndsBy (IsBreach (body_role library.now (option_map (λ c. c.now) link.entry)) (view tree.now))) }
+{
+    let role = Role::Link {
+        library,
+        from: source_of(link),
+        properties: properties_of(link),
+    };
+    judge_body(alloc, tree, role)?;
+    let link = link_from(alloc, source, id, tree, role)?;
+    Ok(link)
+}
+
+/// The relationship of a source and an identifier for which the body of a request stands (this project's own): `$targetId`
+/// names a twin, `$relationshipName` a relationship of the source's resolved model, `$relationshipId` and `$sourceId` are
+/// texts, `$etag` and `$metadata` may be anything, and every other member is a property that the relationship declares,
+/// with a value that fits. Whether `$relationshipId` and `$sourceId` are those of the call is for the caller to say.
+/// Fails by the first breach, in preorder and at one place by the number of its code, or for want of memory. Where the
+/// model declares no relationship of the name, `UnknownRelationship` at the name is the only breach.
+pub fn read_rel(
+    alloc: Global,
+    source: &str,
+    id: &str,
+    tree: &Tree,
+    resolved: &Resolved,
+) -> Result<Relationship, BodyEnd>
+    ensures { MatchResult result
+        (λ link. HasNoBreach (IsLinkBreach resolved.now (view tree.now)) × IsLinkOf (link_role_of resolved.now (view tree.now)) source.now id.now (view tree.now) link)
+        (EndsBy (IsLinkBreach resolved.now (view tree.now))) }
+{
+    if names_none(resolved, tree) {
+        return Err(BodyEnd::Fault {
+            place: name_place(alloc, tree)?,
+            code: BodyCode::UnknownRelationship,
+        });
+    }
+    let library = Library::of(alloc, resolved)?;
+    let link = link_of(resolved.contents.as_slice(), tree);
+    link_by(alloc, source, id, tree, &library, link)
+}

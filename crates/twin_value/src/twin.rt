@@ -1,0 +1,123 @@
+//! Twins, and the bodies that they are read from.
+
+ghost use Rattle.std.specs.Prelude.{◌≡◌, IfOk, IsSome, Some, MatchResult};
+ghost use Rattle.std.specs.Option.{IsSomeAnd};
+ghost use Rattle.dtmi_name.specs.Grammar.{OwnDtmiText};
+ghost use Rattle.json_tree.specs.View.{view};
+ghost use Rattle.twin_value.specs.Breaches.{IsModelId, IsBreach, IsTwinBreach, HasNoBreach, EndsBy, twin_role_of};
+ghost use Rattle.twin_value.specs.Machinery.Views.{role_view};
+ghost use Rattle.twin_value.specs.Roles.{twin_body};
+ghost use Rattle.twin_value.specs.Twins.{IsTwinOf, model_text};
+
+use crate::end::{BodyEnd, judge_body, text_under, want_of_memory};
+use crate::gather::{parts_of, values_of};
+use crate::keys::Keys;
+use crate::library::Library;
+use crate::role::Role;
+use dt_base::{OutOfMemory, Text};
+use dtdl_terms::{Resolved, ResolvedContent};
+use dtmi_name::Dtmi;
+use json_tree::Tree;
+use local_rules::{members_in, value_in};
+use std::alloc::Global;
+
+/// A twin: its identifier, its model, the values of its properties, and its components by their names, each with the
+/// values of its properties. `values` and `parts` are objects whose members are sorted at every depth.
+#[derive(Debug, Drop)]
+pub struct Twin {
+    pub id: Text,
+    pub model: Dtmi,
+    pub values: Tree,
+    pub parts: Tree,
+}
+
+impl Twin {
+    /// An equal twin in memory of its own. Fails only for want of memory.
+    pub fn copy(&self, alloc: Global) -> Result<Twin, OutOfMemory>
+        ensures { IfOk result (λ twin. twin ≡ self.now) }
+    {
+        let id = self.id.copy(alloc)?;
+        let model = self.model.copy(alloc)?;
+        let values = self.values.copy(alloc)?;
+        let parts = self.parts.copy(alloc)?;
+        Ok(Twin {
+            id,
+            model,
+            values,
+            parts,
+        })
+    }
+}
+
+/// The `$model` of a body's `$metadata`.
+fn model_text(tree: &Tree) -> &str
+    requires { IsSome (model_text (view tree.now)) }
+    ensures { model_text (view tree.now) ≡ Some result.now }
+{
+    match value_in(tree, "$metadata") {
+        Some(metadata) => text_under(metadata, "$model"),
+        None => unreachable!(),
+    }
+}
+
+/// The model of a body that names one.
+fn model_of(alloc: Global, tree: &Tree) -> Result<Dtmi, OutOfMemory>
+    requires { IsSomeAnd (model_text (view tree.now)) (λ model. (IsModelId model → ⊥) → ⊥) }
+    ensures { IfOk result (λ model. IsSomeAnd (model_text (view tree.now)) (λ text. OwnDtmiText text model)) }
+{
+    let text = model_text(tree);
+    match Dtmi::read(alloc, text) {
+        Ok(model) => Ok(model),
+        Err(fault) => Err(want_of_memory(fault)),
+    }
+}
+
+/// The twin of an identifier for which a body without breach stands.
+fn twin_of(alloc: Global, id: &str, tree: &Tree, role: Role) -> Result<Twin, OutOfMemory>
+    requires { IsSomeAnd (model_text (view tree.now)) (λ model. (IsModelId model → ⊥) → ⊥) }
+    ensures { IfOk result (IsTwinOf (role_view role.entry) id.now (view tree.now)) }
+{
+    let id = Text::from_str(alloc, id)?;
+    let model = model_of(alloc, tree)?;
+    let keys = Keys::of(alloc, role)?;
+    let members = members_in(tree);
+    let values = values_of(alloc, members, &keys)?;
+    let parts = parts_of(alloc, members, &keys)?;
+    Ok(Twin {
+        id,
+        model,
+        values,
+        parts,
+    })
+}
+
+/// The same of a body that may have a breach.
+fn twin_by(
+    alloc: Global,
+    id: &str,
+    tree: &Tree,
+    library: &Library,
+    contents: &[ResolvedContent],
+) -> Result<Twin, BodyEnd>
+    ensures { MatchResult result
+        (λ twin. HasNoBreach (IsBreach (twin_body library.now contents.now) (view tree.now)) × IsTwinOf (twin_body library.now contents.now) id.now (view tree.now) twin)
+        (EndsBy (IsBreach (twin_body library.now contents.now) (view tree.now))) }
+{
+    let role = Role::Twin { library, contents };
+    judge_body(alloc, tree, role)?;
+    let twin = twin_of(alloc, id, tree, role)?;
+    Ok(twin)
+}
+
+/// The twin of an identifier for which the body of a request stands (this project's own): `$metadata` names its model by
+/// `$model`, `$dtId` is a text, `$etag` may be anything, and every other member is a property or a component of the
+/// resolved model with a value that fits. Whether `$dtId` is the identifier is for the caller to say. Fails by the first
+/// breach, in preorder and at one place by the number of its code, or for want of memory.
+pub fn read_twin(alloc: Global, id: &str, tree: &Tree, resolved: &Resolved) -> Result<Twin, BodyEnd>
+    ensures { MatchResult result
+        (λ twin. HasNoBreach (IsTwinBreach resolved.now (view tree.now)) × IsTwinOf (twin_role_of resolved.now) id.now (view tree.now) twin)
+        (EndsBy (IsTwinBreach resolved.now (view tree.now))) }
+{
+    let library = Library::of(alloc, resolved)?;
+    twin_by(alloc, id, tree, &library, resolved.contents.as_slice())
+}
