@@ -8,5 +8,3 @@ mod printing;
 
 pub use printing::text;
 
-#[cfg(test)]
-mod tests;
