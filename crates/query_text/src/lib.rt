@@ -7,4 +7,3 @@ mod operands;
 mod printing;
 
 pub use printing::text;
-
