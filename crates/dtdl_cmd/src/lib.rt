@@ -17,6 +17,3 @@ mod status;
 pub use laws::{equal_texts, one_answer, one_input, one_interface};
 pub use run::run_plain;
 pub use status::Status;
-
-#[cfg(test)]
-mod tests;

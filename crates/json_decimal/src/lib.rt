@@ -27,6 +27,3 @@ pub enum DecimalFault {
     #[error("the exponent is outside -900 to 900")]
     Range,
 }
-
-#[cfg(test)]
-mod tests;

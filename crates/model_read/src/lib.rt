@@ -20,6 +20,3 @@ pub use end::LocalEnd;
 pub use laws::{have_declarations, one_declaration, within_limits};
 pub use local_rules::LocalRule;
 pub use read::read_interfaces;
-
-#[cfg(test)]
-mod tests;

@@ -2,9 +2,9 @@
 
 mod golden;
 
-use super::*;
 use dt_base::List;
 use dtdl_terms::Uploaded;
+use model_read::*;
 use std::test::Fail;
 
 /// A document, and of its last interface: how many contents, schemas and parents it has, and its pointer.

@@ -1,6 +1,6 @@
 //! Every field of a read record, printed once, with neighbours that differ.
 
-use crate::read_interfaces;
+use model_read::read_interfaces;
 use std::alloc::Global;
 use std::test::Fail;
 

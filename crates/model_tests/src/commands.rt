@@ -2,8 +2,8 @@
 
 mod rows;
 
-use super::*;
 use dt_base::{List, MemSink, MemSource, QuietShelf};
+use dtdl_cmd::{Status, run_plain};
 use std::alloc::{AllocError, Global};
 use std::test::Fail;
 

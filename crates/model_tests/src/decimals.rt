@@ -1,5 +1,5 @@
 //! Examples from outside: literals with their canonical text, faults, the order and whole numbers.
-use super::*;
+use json_decimal::{Decimal, DecimalFault};
 use std::cmp::Ordering;
 use std::test::Fail;
 

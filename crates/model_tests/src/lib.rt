@@ -1,0 +1,10 @@
+//! Worked rows and outside vectors of numbers, of records that are read and of the commands, through the public calls of
+//! `json_decimal`, `model_read` and `dtdl_cmd`. They stand here, since a crate with tests of its own is proved twice.
+#![tactic(auto)]
+
+#[cfg(test)]
+mod commands;
+#[cfg(test)]
+mod decimals;
+#[cfg(test)]
+mod records;
