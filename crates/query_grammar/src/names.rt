@@ -56,6 +56,7 @@ pub struct Notes {
 }
 
 impl Notes {
+    /// No names yet. Takes no memory.
     pub fn new(alloc: Global) -> Notes
         ensures { result ≡ no_notes }
     {

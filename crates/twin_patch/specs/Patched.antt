@@ -51,7 +51,7 @@ abbrev pub patched : List Operation → Json → Result Json ℕ
 patched os v = patched_from 0 os (sorted_value v)
 
 -- What `apply` answers.
-abbrev pub Answers : Result Tree ApplyEnd → Result Json ℕ → Type 0
-Answers (Ok tree) r = r ≡ Ok (view tree)
-Answers (Err (NoTarget index)) r = r ≡ Err index
-Answers (Err OutOfMemory) r = Unit {0}
+abbrev pub GivesPatched : Result Tree ApplyEnd → Result Json ℕ → Type 0
+GivesPatched (Ok tree) r = r ≡ Ok (view tree)
+GivesPatched (Err (NoTarget index)) r = r ≡ Err index
+GivesPatched (Err OutOfMemory) r = Unit {0}

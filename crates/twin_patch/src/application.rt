@@ -6,7 +6,7 @@ ghost use Rattle.json_tree.specs.Values.{object, HasDistinctKeys};
 ghost use Rattle.json_tree.specs.View.{view};
 ghost use Rattle.twin_patch.specs.Objects.{with_member, sorted_value};
 ghost use Rattle.twin_patch.specs.Operations.{replace, remove, change_of, operation_of, operations_of, BringsDistinctKeys};
-ghost use Rattle.twin_patch.specs.Patched.{edited, changed, applied, patched, Answers};
+ghost use Rattle.twin_patch.specs.Patched.{edited, changed, applied, patched, GivesPatched};
 ghost use Rattle.twin_patch.specs.declared.application.ApplyEnd.TheVariants as ends;
 ghost use Rattle.twin_patch.specs.Machinery.Orders.{IsInOrder, AreInOrder};
 ghost use Rattle.twin_patch.specs.Machinery.Drafts.{draft_view, both};
@@ -225,7 +225,7 @@ fn applied(alloc: Global, draft: Draft, op: &Op) -> Result<Draft, OutOfMemory>
 pub fn apply(alloc: Global, tree: &Tree, patch: &Patch) -> Result<Tree, ApplyEnd>
     requires distinct { HasDistinctKeys (view tree.now) }
     requires brought { All (λ (op : Op). BringsDistinctKeys (change_of op.kind)) patch.now.ops }
-    ensures { Answers result (patched (operations_of patch.now.ops) (view tree.now)) }
+    ensures { GivesPatched result (patched (operations_of patch.now.ops) (view tree.now)) }
 {
     let mut patched = Draft::Whole(sorted_copy(alloc, tree)?);
     'operations: for (index, op) in patch.ops.as_slice().iter().enumerate() {
