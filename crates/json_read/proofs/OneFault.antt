@@ -13,7 +13,7 @@ use Rattle.json_read.specs.Faults.{IsFirstWrong, IsCutShort, RepeatsKey, IsDupli
 use Rattle.json_read.proofs.OneValue.{OneNumber}
 use Rattle.json_read.proofs.Duplicates.{duplicate_root, duplicate_down}
 use Rattle.json_read.proofs.Ranges.{range_down}
-use Rattle.json_read.proofs.Preorder.{before_cases}
+use Rattle.json_tree.proofs.Preorder.{before_cases}
 use Rattle.json_read.proofs.ValueSpans.{not_out}
 use Rattle.json_read.proofs.Spelled.{not_wrong, one_raw}
 

@@ -14,7 +14,7 @@ use Rattle.json_read.proofs.Readings.{reading_all}
 use Rattle.json_read.proofs.Says.{says_wrong, says_cut, says_gives}
 use Rattle.json_read.proofs.OneValue.{OneNumber, one_value}
 use Rattle.json_read.proofs.Held.{held_read, distinct, duplicate_held, duplicate_spelled}
-use Rattle.json_read.proofs.Preorder.{not_before_itself, before_through, before_cases}
+use Rattle.json_tree.proofs.Preorder.{not_before_itself, before_through, before_cases}
 
 -- the place to which a way up leads
 pub no_place : (At : List ℕ → Type 0) (way : Option (List ℕ)) → IsFirstUp At way → option_map (λ (up : List ℕ). reverse up) way ≡ None → (place : List ℕ) → At place → ⊥

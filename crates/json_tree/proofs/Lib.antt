@@ -13,3 +13,4 @@ mod Indices
 pub mod Evaluated
 pub mod Stepped
 pub mod OnePointer
+pub mod Preorder

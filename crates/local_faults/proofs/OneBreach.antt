@@ -1,8 +1,7 @@
 -- Of two breaches one comes first, unless they are one.
-use Rattle.std.proofs.Common.{◌≡◌, ℕ, ◌<◌, ◌-◌, ◌⊎◌, inl, inr, List, [], ◌∷◌, get_or, refl, sym, ap, ◌∙◌, arith}
-use Rattle.std.proofs.lemmas.Bool.{cases_lt}
+use Rattle.std.proofs.Common.{◌≡◌, ℕ, ◌<◌, ◌-◌, inl, inr, List, [], ◌∷◌, get_or, refl, sym, ap, ◌∙◌, arith}
 use Rattle.json_tree.specs.Values.{Json}
-use Rattle.json_tree.specs.Places.{IsBefore}
+use Rattle.json_tree.proofs.Preorder.{before_cases}
 use Rattle.local_rules.specs.Codes.{rule_number}
 use Rattle.local_rules.specs.Breaches.{IsFirstBreach}
 use Rattle.local_rules.specs.declared.rule.LocalRule.{LocalRule}
@@ -24,28 +23,12 @@ numbered other = refl
 one_rule : (a b : LocalRule) → rule_number a ≡ rule_number b → a ≡ b
 one_rule a b e = sym (numbered a) ∙ (ap (λ (n : ℕ). get_or rules_in_order (n - 1) rule.WrongKind) e ∙ numbered b)
 
-either_before : (p q : List ℕ) → (p ≡ q) ⊎ IsBefore p q ⊎ IsBefore q p
-either_before [] [] = inl refl
-either_before [] (j ∷ q) = inr (inl tt)
-either_before (i ∷ p) [] = inr (inr tt)
-either_before (i ∷ p) (j ∷ q) = elim (cases_lt i j) [
-  | inl less ↦ inr (inl (inl less))
-  | inr high ↦ elim (cases_lt j i) [
-    | inl less ↦ inr (inr (inl less))
-    | inr low ↦ (let e : i ≡ j = omega (arith, high, low) in elim (either_before p q) [
-      | inl same ↦ inl (λ t. e t ∷ same t)
-      | inr (inl before) ↦ inr (inl (inr (e, before)))
-      | inr (inr before) ↦ inr (inr (inr (sym e, before)))
-    ])
-  ]
-]
-
 neither_less : (m n : ℕ) → (m < n → ⊥) → (n < m → ⊥) → m ≡ n
 neither_less m n low high = omega arith
 
 pub one_breach : (document : Json) (place other : List ℕ) (broken another : LocalRule) → IsFirstBreach document place broken → IsFirstBreach document other another
     → (place ≡ other) × (broken ≡ another)
-one_breach document place other broken another g h = elim (either_before place other) [
+one_breach document place other broken another g h = elim (before_cases place other) [
   | inl same ↦ (
     same,
     one_rule broken another (neither_less (rule_number broken) (rule_number another)

@@ -10,3 +10,4 @@ pub mod Gathered
 pub mod Judged
 pub mod Bodies
 pub mod Linked
+pub mod OneBreach
