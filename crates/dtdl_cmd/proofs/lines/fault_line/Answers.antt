@@ -2,7 +2,7 @@ use Rattle.std.proofs.Common.{subst}
 use Rattle.json_read.specs.Faults.{IsFault}
 use Rattle.json_tree.specs.Values.{number}
 use Rattle.json_read.proofs.Pointed.{duplicate_stands}
-use Rattle.dtdl_cmd.proofs.faults.fault_line.Goals as goal
+use Rattle.dtdl_cmd.proofs.lines.fault_line.Goals as goal
 
 pub line_at-requires : goal.line_at-requires
 line_at-requires c =
