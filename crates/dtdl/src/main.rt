@@ -1,7 +1,7 @@
 //! The command `dtdl`: it makes the real objects, runs one command and ends with its status.
 #![tactic(auto)]
 
-use dt_base::{QuietShelf, StdSink, StdSource};
+use dt_base::{FileShelf, StdSink, StdSource};
 use dtdl_cmd::{Status, run_plain};
 use std::alloc::{AllocError, Global};
 use std::io::ErrorKind;
@@ -30,6 +30,7 @@ fn main(rt: HostRuntime) -> ExitCode {
     };
     let mut input = StdSource::new(rt.stdin());
     let mut output = StdSink::new(rt.stdout());
-    let status = run_plain(rt.alloc(), &words, &mut input, &mut output, &mut QuietShelf);
+    let mut shelf = FileShelf::new(&rt);
+    let status = run_plain(rt.alloc(), &words, &mut input, &mut output, &mut shelf);
     ExitCode::from(status.number())
 }

@@ -1,32 +1,24 @@
--- A text for which reading answers a fault is no name, or no DTMI of one's own.
-use Rattle.std.proofs.Common.{◌≡◌, ℕ, ◌+◌, List, [], length, take, drop, Err, arith, subst, sym, ap, ◌∙◌}
-use Rattle.std.proofs.lemmas.List.{take-append-drop}
-use Rattle.dtmi_name.specs.declared.fault.NameFault.{NameFault}
-use Rattle.dtmi_name.specs.declared.fault.NameFault.TheVariants as faults
-use Rattle.dtmi_name.specs.Grammar.{NameText, IsDtmi, OwnDtmiText, dtmi_text}
-use Rattle.dtmi_name.specs.Faults.{IsViable, RefusesName, RefusesDtmi}
-use Rattle.dtdl_cmd.specs.Reading.{Reads, refusal_of}
+-- Words that are names, so far.
+use Rattle.std.proofs.Common.{◌≡◌, ℕ, zero, suc, ◌+◌, ◌<◌, List, [], ◌∷◌, ◌++◌, false, String, length, take, map, get_or, sym, ap, subst, ◌∙◌, arith}
+use Rattle.std.specs.Prelude.{string_bytes, IsTrue}
+use Rattle.std.specs.List.{AllByRecursion}
+use Rattle.std.proofs.lemmas.List.{take_more, map-append}
+use Rattle.std.specs.declared.alloc.Global.{Global}
+use Rattle.dtdl_cmd.specs.Words.{IsName}
+use Rattle.dtdl_cmd.proofs.Firsts.{all_more}
 
--- a text of the grammar is viable however it is cut
-viable_front : (Text : List ℕ → Type 0) (bytes : List ℕ) (n : ℕ) → Text bytes → IsViable Text (take n bytes)
-viable_front Text bytes n h = (drop n bytes, subst Text (sym (take-append-drop n bytes)) h)
+pub more_names : (words : List (String Global)) (k : ℕ) (word : String Global) → k < length words → word ≡ get_or words k word → AllByRecursion IsName (map string_bytes (take k words)) → IsName (string_bytes word)
+    → AllByRecursion IsName (map string_bytes (take (k + 1) words))
+more_names words k word within is all one =
+    let front : take (k + 1) words ≡ take k words ++ word ∷ [] = take_more words k word within ∙ ap (λ (w : String Global). take k words ++ w ∷ []) (sym is) in
+    rw (front, map-append string_bytes (take k words) (word ∷ [])) (all_more IsName (map string_bytes (take k words)) (string_bytes word) all one)
 
-pub name-refused : (bytes : List ℕ) (e : NameFault) → RefusesName bytes e → Reads (λ (n : List ℕ). (n ≡ bytes) × NameText n) (Err (refusal_of e))
-name-refused bytes faults.Empty h = λ n p. let named : NameText [] = subst NameText (p.0 ∙ h) p.1 in let first = named.segment.first in cc
-name-refused bytes faults.TooLong h = λ n p. omega (arith, p.1.short, ap length p.0)
-name-refused bytes (faults.BadByte at) h = λ n p. h.1.dead (viable_front NameText bytes (at + 1) (subst NameText p.0 p.1))
-name-refused bytes faults.Ends h = λ n p. h.1.none (subst NameText p.0 p.1)
-name-refused bytes faults.BadVersion h = absurd h
-name-refused bytes faults.Reserved h = absurd h
-name-refused bytes faults.OutOfMemory h = tt
+pub name_at : (words : List (String Global)) (k : ℕ) (word : String Global) → k < length words → word ≡ get_or words k word → AllByRecursion IsName (map string_bytes words) → IsName (string_bytes word)
+name_at [] k word within is all = absurd (omega (arith, within))
+name_at (w ∷ ws) zero word within is all = subst (λ (v : String Global). IsName (string_bytes v)) (sym is) all.0
+name_at (w ∷ ws) (suc k) word within is all =
+    let less : k < length ws = omega (arith, within) in
+    name_at ws k word less is all.1
 
-pub dtmi-refused : (bytes : List ℕ) (e : NameFault) → RefusesDtmi bytes e → Reads (OwnDtmiText bytes) (Err (refusal_of e))
-dtmi-refused bytes faults.Empty h = λ i p. let spelled : [] ≡ dtmi_text i = sym h ∙ p.text.form.spelled in cc
-dtmi-refused bytes faults.TooLong h = λ i p. omega (arith, p.text.short)
-dtmi-refused bytes (faults.BadByte at) h = λ i p. h.1.dead (viable_front IsDtmi bytes (at + 1) (i, p.text))
-dtmi-refused bytes faults.Ends h = λ i p. h.1.none (i, p.text)
-dtmi-refused bytes faults.BadVersion h = λ i p. h.1.1.dead (viable_front IsDtmi bytes (h.1.0 + 1) (i, p.text))
-dtmi-refused bytes faults.Reserved h = λ i p. let reserved = h.1 in let free = p.free in cc
-dtmi-refused bytes faults.OutOfMemory h = tt
-
-pub ruleset names = (name-refused, dtmi-refused)
+pub not_true : IsTrue false → ⊥
+not_true e = absurd cc

@@ -1,6 +1,7 @@
-pub mod Interfaces
-pub mod Canonical
-pub mod Runs
-pub mod Reading
-pub mod Alone
+pub mod Words
+pub mod Documents
 pub mod Lines
+pub mod FirstFaults
+pub mod Answers
+pub mod Runs
+pub mod Machinery

@@ -1,15 +1,18 @@
 //! The commands by their words.
 
-ghost use Rattle.std.specs.Prelude.{◌≡◌, MatchOption};
-ghost use Rattle.dtdl_cmd.specs.Runs.{IsCommand, command_word};
+ghost use Rattle.std.specs.Prelude.{◌≡◌, ◌↔◌, ℕ, List, drop, map, string_bytes, IsTrue, MatchOption};
+ghost use Rattle.dtdl_cmd.specs.Words.{AreNames, IsCommand, IsName, command_word};
 ghost use Rattle.dtdl_cmd.specs.declared.command.Command.{Command};
 
-/// A command that reads one document from the input.
+/// How many names a command takes.
+const MAX_NAMES: usize = 4096;
+
+/// A command that reads documents.
 #[derive(Clone, Copy, Debug, PartialEq, Eq)]
 pub enum Command {
-    /// Judges the document by every rule.
+    /// Judges the documents by every rule.
     Check,
-    /// Prints its canonical text.
+    /// Prints the canonical text of their interfaces.
     Canon,
 }
 
@@ -23,13 +26,35 @@ fn command_named(word: &str) -> Option<Command>
     }
 }
 
-/// The command that the words are.
-pub fn command_of(words: &[String]) -> Option<Command>
-    ensures { MatchOption result ((c : Command) → IsCommand words.now c → ⊥) (IsCommand words.now) }
+/// Whether a word may name a file: it is not empty and does not begin with `-`.
+fn is_name(word: &str) -> bool
+    ensures { IsTrue result ↔ IsName word.now }
 {
-    if words.len() == 1 {
-        command_named(words[0].as_str())
-    } else {
-        None
+    let bytes = word.as_bytes();
+    !bytes.is_empty() && bytes[0] != b'-'
+}
+
+/// Whether the words are names, and not too many.
+fn are_names(words: &[String]) -> bool
+    ensures { IsTrue result ↔ AreNames (map string_bytes words.now) }
+{
+    if words.len() > MAX_NAMES {
+        return false;
     }
+    'words: for word in words {
+        if !is_name(word.as_str()) {
+            return false;
+        }
+    }
+    true
+}
+
+/// The command that the words are, with the names behind its word.
+pub fn command_of(words: &[String]) -> Option<Command>
+    ensures { MatchOption result ((c : Command) (names : List (List ℕ)) → IsCommand words.now c names → ⊥) (λ c. IsCommand words.now c (map string_bytes (drop 1 words.now))) }
+{
+    if words.is_empty() || !are_names(&words[1..]) {
+        return None;
+    }
+    command_named(words[0].as_str())
 }

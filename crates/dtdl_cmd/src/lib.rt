@@ -1,19 +1,16 @@
 //! The commands of `dtdl`, over the traits of the outside.
 #![tactic(auto)]
 
-mod alone;
-mod canonical;
+mod answers;
 mod command;
-mod declaration;
-mod faults;
-mod interface;
+mod documents;
+mod judgement;
 mod laws;
-mod members;
-mod property;
+mod lines;
 mod refusal;
 mod run;
 mod status;
 
-pub use laws::{equal_texts, one_answer, one_input, one_interface};
+pub use laws::{one_answer, one_input};
 pub use run::run_plain;
 pub use status::Status;

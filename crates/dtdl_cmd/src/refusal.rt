@@ -1,49 +1,35 @@
-ghost use Rattle.dtdl_cmd.specs.declared.refusal.Refusal.TheVariants.{OutOfMemory};
-ghost use Rattle.std.specs.Prelude.{◌≡◌};
-ghost use Rattle.dtdl_cmd.specs.Reading.{refusal_of};
+//! Why documents are no set of interfaces.
 
-use dtmi_name::NameFault;
-use std::alloc::{AllocError, AllocFailed};
+ghost use Rattle.std.specs.Prelude.{◌≡◌};
+ghost use Rattle.dtdl_cmd.specs.declared.refusal.Refusal.TheVariants as refusals;
+
+use dt_base::{List, OutOfMemory};
+use std::alloc::AllocError;
 use thiserror::Error;
 
-/// Why no interface was read.
-#[derive(Clone, Copy, Debug, PartialEq, Eq, Error)]
+/// Why documents are refused.
+#[derive(Debug, Drop, Error)]
 pub enum Refusal {
-    /// The input is no interface of properties with primitive schemas.
-    #[error("not built")]
-    NotBuilt,
+    /// They have a fault, and this line names the first.
+    #[error("the documents have a fault")]
+    Line(List<u8>),
     /// There was no memory.
     #[error("out of memory")]
     OutOfMemory,
 }
 
+impl From<OutOfMemory> for Refusal {
+    ghost from_gives = { λ _ end. end ≡ refusals.OutOfMemory };
+
+    fn from(_error: OutOfMemory) -> Refusal {
+        Refusal::OutOfMemory
+    }
+}
+
 impl From<AllocError> for Refusal {
-    ghost from_gives = { λ _ e. e ≡ OutOfMemory };
+    ghost from_gives = { λ _ end. end ≡ refusals.OutOfMemory };
 
     fn from(_error: AllocError) -> Refusal {
         Refusal::OutOfMemory
-    }
-}
-
-impl<T: Drop> From<AllocFailed<T>> for Refusal {
-    ghost from_gives = { λ _ e. e ≡ OutOfMemory };
-
-    fn from(_error: AllocFailed<T>) -> Refusal {
-        Refusal::OutOfMemory
-    }
-}
-
-/// A text that is no name or no DTMI of one's own is not built, whatever is wrong with it.
-pub fn refusal_of(fault: NameFault) -> Refusal
-    ensures { result ≡ refusal_of fault }
-{
-    match fault {
-        NameFault::OutOfMemory => Refusal::OutOfMemory,
-        NameFault::Empty
-        | NameFault::TooLong
-        | NameFault::BadByte { .. }
-        | NameFault::Ends
-        | NameFault::BadVersion
-        | NameFault::Reserved => Refusal::NotBuilt,
     }
 }

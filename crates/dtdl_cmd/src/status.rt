@@ -1,25 +1,25 @@
 ghost use Rattle.std.specs.Prelude.{◌≡◌};
-ghost use Rattle.dtdl_cmd.specs.Runs.{status_number};
+ghost use Rattle.dtdl_cmd.specs.Answers.{status_number};
 
 /// How a command ended.
 #[derive(Clone, Copy, Debug, PartialEq, Eq, Hash)]
 pub enum Status {
     /// The answer was written whole.
     Ok,
-    /// The document has a fault. The line that names it was written.
+    /// The documents have a fault. The line that names the first was written.
     Refused,
     /// The words are no command that is built. The usage line was written.
     Usage,
-    /// A read failed. The source's count of faults rose, and nothing was written.
+    /// A read failed. The count of faults of the source or of the shelf rose, and nothing was written.
     ReadFault,
     /// A write failed. The sink's count of faults rose, and a proper prefix was written.
     WriteFault,
     /// There was no memory. Nothing was written.
     OutOfMemory,
-    /// The input has more bytes than the limit. The line `too long 1` was written.
+    /// The documents up to one, or the canonical text, have more bytes than the limit. The line that says so was written.
     TooLong,
-    /// The input is nothing that is built yet. The line `not built` was written.
-    NotBuilt,
+    /// A document is not there. The line with its number was written.
+    Missing,
 }
 
 impl Status {
@@ -35,7 +35,7 @@ impl Status {
             Status::WriteFault => 4,
             Status::OutOfMemory => 5,
             Status::TooLong => 6,
-            Status::NotBuilt => 20,
+            Status::Missing => 7,
         }
     }
 }

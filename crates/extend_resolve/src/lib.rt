@@ -3,10 +3,14 @@
 #![tactic(auto)]
 
 mod ancestry;
+mod check;
+mod end;
 mod laws;
 mod rule;
 
 pub use ancestry::is_a;
+pub use check::check_set;
+pub use end::SetEnd;
 pub use laws::{ancestors_of_ancestors, one_first_breach};
 pub use rule::SetRule;
 

@@ -1,6 +1,7 @@
 //! Worked rows of the commands, over sources and sinks in memory.
 
 mod rows;
+mod sets;
 
 use dt_base::{List, MemSink, MemSource, QuietShelf};
 use dtdl_cmd::{Status, run_plain};
@@ -77,7 +78,7 @@ fn prints_one_line_whatever_the_pieces(rt: HostRuntime) -> Result<(), Fail> {
 fn says_why_there_is_no_line(rt: HostRuntime) -> Result<(), Fail> {
     for (words, text, failing, status, line) in [
         (["check"].as_slice(), AIR, 0, 0, Some("accepted 1")),
-        (["canon"].as_slice(), "[]", 0, 20, Some("not built")),
+        (["canon"].as_slice(), "[]", 0, 0, Some("[]")),
         (
             ["canon"].as_slice(),
             "[null,-1.5e3]",
@@ -85,8 +86,9 @@ fn says_why_there_is_no_line(rt: HostRuntime) -> Result<(), Fail> {
             1,
             Some("refused 1 \"/0\" WrongKind"),
         ),
-        (["canon", "x"].as_slice(), "{}", 0, 2, Some(USAGE_LINE)),
-        (["check", "x"].as_slice(), "{}", 0, 2, Some(USAGE_LINE)),
+        (["canon", "-x"].as_slice(), "{}", 0, 2, Some(USAGE_LINE)),
+        (["check", ""].as_slice(), "{}", 0, 2, Some(USAGE_LINE)),
+        (["check", "x"].as_slice(), "{}", 0, 7, Some("missing 1")),
         (
             ["check"].as_slice(),
             "{}",

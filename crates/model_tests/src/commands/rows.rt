@@ -67,7 +67,7 @@ const KINDS: [(&str, &str); 15] = [
     ),
     (
         r#""contents":[{"@type":"Component","name":"c","schema":"dtmi:b;1"}]"#,
-        "not built",
+        r#"refused 1 "/contents/0/schema" AbsentReference"#,
     ),
     (
         r#""contents":[{"@type":"Command","name":"c","request":{"@type":["x"],"name":"n","schema":"long"}}]"#,
@@ -120,12 +120,18 @@ const LISTS: [(&str, &str); 13] = [
         r#""extends":[5,"dtmi:b;1","dtmi:c;1"]"#,
         r#"refused 1 "/extends" TooManyParents"#,
     ),
-    (r#""extends":["dtmi:b;1","dtmi:c;1"]"#, "not built"),
+    (
+        r#""extends":["dtmi:b;1","dtmi:c;1"]"#,
+        r#"refused 1 "/extends/0" AbsentReference"#,
+    ),
     (
         r#""extends":["dtmi:b;1","dtmi:b;1"]"#,
         r#"refused 1 "/extends/1" RepeatedParent"#,
     ),
-    (r#""extends":["dtmi:b;1","dtmi:b;2"]"#, "not built"),
+    (
+        r#""extends":["dtmi:b;1","dtmi:b;2"]"#,
+        r#"refused 1 "/extends/0" AbsentReference"#,
+    ),
     (
         r#""contents":[{"@type":"Command","name":"c"},{"name":"c","@type":"Command"}]"#,
         r#"refused 1 "/contents/1/name" DuplicateName"#,
@@ -314,10 +320,10 @@ const DOCUMENTS: [(&str, &str); 20] = [
     ),
     ("[5]", r#"refused 1 "/0" WrongKind"#),
     ("5", r#"refused 1 "" WrongKind"#),
-    ("[]", "not built"),
+    ("[]", "accepted 0"),
     (
         r#"[{"@context":"dtmi:dtdl:context;2","@id":"dtmi:a;1","@type":"Interface"},{"@context":"dtmi:dtdl:context;2","@id":"dtmi:a;1","@type":"Interface"}]"#,
-        "not built",
+        r#"refused 1 "/1/@id" RepeatedId"#,
     ),
     (
         r#"[{"@context":"dtmi:dtdl:context;2","@id":"dtmi:a;1","@type":"Interface"},{"@context":"dtmi:dtdl:context;2","@id":"dtmi:a;1","@type":"Interface","x":1}]"#,

@@ -1,0 +1,25 @@
+-- The words of a run: a command and the names of its documents.
+use Rattle.std.specs.Prelude.{◌≡◌, ◌≢◌, ◌≤◌, ℕ, List, ◌∷◌, map, length, String, codes, string_bytes}
+use Rattle.std.specs.List.{AllByRecursion}
+use Rattle.std.specs.declared.alloc.Global.{Global}
+use Rattle.dtdl_cmd.specs.declared.command.Command.{Command}
+use Rattle.dtdl_cmd.specs.declared.command.Command.TheVariants as commands
+
+abbrev pub command_word : Command → List ℕ
+command_word commands.Check = codes "check"
+command_word commands.Canon = codes "canon"
+
+-- A name is not empty and does not begin with `-`.
+abbrev pub IsName : List ℕ → Type 0
+IsName name = (first : ℕ) × (more : List ℕ) × (name ≡ first ∷ more) × (first ≢ 45)
+
+-- There are at most 4,096 names.
+abbrev pub AreNames : List (List ℕ) → Type 0
+AreNames names = AllByRecursion IsName names × (length names ≤ 4096)
+
+-- The words are the word of this command and these names.
+abbrev pub IsCommand : List (String Global) → Command → List (List ℕ) → Type 0
+IsCommand words command names = (map string_bytes words ≡ command_word command ∷ names) × AreNames names
+
+abbrev pub AreCommand : List (String Global) → Type 0
+AreCommand words = (command : Command) × (names : List (List ℕ)) × IsCommand words command names
