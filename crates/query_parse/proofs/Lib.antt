@@ -1,0 +1,5 @@
+pub mod Spelled
+pub mod Says
+pub mod Leasts
+pub mod Unique
+pub mod OneAnswer
