@@ -9,6 +9,3 @@ mod reading;
 pub use fault::QueryFault;
 pub use laws::{one_fault, one_query, query_or_fault};
 pub use reading::read;
-
-#[cfg(test)]
-mod tests;

@@ -93,10 +93,13 @@ pub(crate) fn model_start(
             let notes = notes.with_use(PlacedName { at, name }, Referent::Model)?;
             Ok(Some(State::ModelComma(notes, around, twin)))
         }
-        Token::Text(_, Some(model)) => {
-            let notes = notes.with_use(spot, Referent::Bare)?;
-            Ok(Some(State::BehindModel(notes, around, None, model)))
-        }
+        Token::Text(_, model) => match model {
+            Some(model) => {
+                let notes = notes.with_use(spot, Referent::Bare)?;
+                Ok(Some(State::BehindModel(notes, around, None, model)))
+            }
+            None => Ok(None),
+        },
         _ => Ok(None),
     }
 }
@@ -110,7 +113,10 @@ pub(crate) fn model_text(
     ensures { result ≡ model_text_step notes around twin token }
 {
     match token {
-        Token::Text(_, Some(model)) => Some(State::BehindModel(notes, around, twin, model)),
+        Token::Text(_, model) => match model {
+            Some(model) => Some(State::BehindModel(notes, around, twin, model)),
+            None => None,
+        },
         _ => None,
     }
 }
