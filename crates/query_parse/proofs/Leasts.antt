@@ -1,6 +1,7 @@
 -- The least of bytes, and lists of faults one entry longer.
 use Rattle.std.proofs.Common.{◌≡◌, ℕ, zero, suc, ◌+◌, ◌<◌, ◌≤◌, ◌⊎◌, inl, inr, min, List, [], ◌∷◌, ◌++◌, length, take, drop, get_or, Bool, true, false, not, Option, Some, None, refl, sym, ap, ◌∙◌, subst, arith, append_assoc}
 use Rattle.std.specs.Prelude.{Contains}
+use Rattle.std.proofs.lemmas.List.{take_more}
 use Rattle.std.proofs.lemmas.List.Elements.{Contains-append_left, Contains-append_right, Contains-append_cases}
 use Rattle.query_terms.specs.Queries.{Asked}
 use Rattle.query_grammar.specs.declared.names.Use.{Use}
@@ -67,3 +68,18 @@ unbound_more q aliases [] u = without_end _
 unbound_more q aliases (v ∷ us) u =
     ap (λ (l : List ℕ). only (not (is_bound q aliases v)) v.placed.0 ++ l) (unbound_more q aliases us u)
     ∙ sym (append_assoc (only (not (is_bound q aliases v)) v.placed.0) (unbound_uses q aliases us) _)
+
+-- ---- lists in part
+pub names_more : (names : List PlacedName) (i : ℕ) (d : PlacedName) (o : Option ℕ) → i < length names
+    → LeastOf (repeats_behind [] (take i names) ++ only (is_among (take i names) (get_or names i d).1) (get_or names i d).0) o
+    → LeastOf (repeats_behind [] (take (i + 1) names)) o
+names_more names i d o h least =
+    subst (λ (l : List ℕ). LeastOf l o)
+    (sym (ap (λ (l : List PlacedName). repeats_behind [] l) (take_more names i d h) ∙ repeats_more [] (take i names) (get_or names i d))) least
+
+pub uses_more : (q : Asked) (aliases : List PlacedName) (us : List Use) (i : ℕ) (d : Use) (o : Option ℕ) → i < length us
+    → LeastOf (unbound_uses q aliases (take i us) ++ only (not (is_bound q aliases (get_or us i d))) (get_or us i d).placed.0) o
+    → LeastOf (unbound_uses q aliases (take (i + 1) us)) o
+uses_more q aliases us i d o h least =
+    subst (λ (l : List ℕ). LeastOf l o)
+    (sym (ap (λ (l : List Use). unbound_uses q aliases l) (take_more us i d h) ∙ unbound_more q aliases (take i us) (get_or us i d))) least

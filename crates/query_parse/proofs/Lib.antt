@@ -3,3 +3,5 @@ pub mod Says
 pub mod Leasts
 pub mod Unique
 pub mod OneAnswer
+pub mod Refusals
+pub mod Readings

@@ -1,9 +1,9 @@
 //! Queries from their texts.
 
-ghost use Rattle.std.specs.Prelude.{◌≡◌, ◌≤◌, length, IsTrue, IfOk, MatchOption, MatchResult};
+ghost use Rattle.std.specs.Prelude.{◌≡◌, ◌≤◌, length, IsTrue, IsFalse, IfOk, MatchOption, MatchResult};
 ghost use Rattle.query_terms.specs.Queries.{asked};
 ghost use Rattle.query_parse.specs.Texts.{IsQueryText};
-ghost use Rattle.query_parse.specs.Faults.{Refuses, Spells, is_star};
+ghost use Rattle.query_parse.specs.Faults.{Refuses, Spells, is_star, IsStarWithJoin};
 ghost use Rattle.query_parse.specs.Machinery.Reached.{Takes, TakesNone, RefusesByte};
 
 use crate::aliases::{twice, unknown};
@@ -75,6 +75,19 @@ fn is_star(select: &Projection) -> bool
     }
 }
 
+/// Whether rows are given whole and there is a join.
+#[tactic(auto, using(crate::proofs::Refusals::star_joined, crate::proofs::Refusals::no_star, crate::proofs::Refusals::no_join))]
+fn is_star_with_join(query: &Query) -> bool
+    ensures yes { IsTrue result → IsStarWithJoin (asked query.now) }
+    ensures no { IsFalse result → IsStarWithJoin (asked query.now) → ⊥ }
+{
+    if is_star(&query.select) {
+        query.joins.len() > 0
+    } else {
+        false
+    }
+}
+
 /// The query that a text of the query language is (this project's own; its words are those of the query language of
 /// Azure Digital Twins). It fails by the first fault of the text, or where there is no memory.
 pub fn read(alloc: Global, text: &str) -> Result<Query, QueryFault>
@@ -87,10 +100,8 @@ pub fn read(alloc: Global, text: &str) -> Result<Query, QueryFault>
     if query.joins.len() > MOST_JOINS {
         return Err(QueryFault::TooManyJoins);
     }
-    if is_star(&query.select) {
-        if query.joins.len() > 0 {
-            return Err(QueryFault::StarWithJoin);
-        }
+    if is_star_with_join(&query) {
+        return Err(QueryFault::StarWithJoin);
     }
     if let Some(at) = twice(&notes) {
         return Err(QueryFault::TwiceAlias { at });
