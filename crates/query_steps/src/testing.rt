@@ -1,7 +1,9 @@
 //! The states of reading lists of literals and tests for models.
 
-ghost use Rattle.std.specs.Prelude.{◌≡◌, IfOk};
-ghost use Rattle.query_grammar.specs.Machinery.Steps.{one_literal_more, list_item_step, behind_list_item_step, model_start_step, model_text_step, behind_model_step, exact_step};
+ghost use Rattle.std.specs.Prelude.{◌≡◌, None, IfOk};
+ghost use Rattle.query_grammar.specs.declared.names.Referent.TheVariants as referents;
+ghost use Rattle.query_grammar.specs.declared.state.State.TheVariants as states;
+ghost use Rattle.query_grammar.specs.Machinery.Steps.{noting_use, one_literal_more, list_item_step, behind_list_item_step, model_start_step, model_text_step, behind_model_step, exact_step};
 
 use crate::building::{closed, membership};
 use query_grammar::{Notes, Referent, PlacedName};
@@ -77,6 +79,34 @@ pub(crate) fn behind_list_item(
     }
 }
 
+/// The state behind the alias of a test for a model.
+fn model_named(
+    alloc: Global,
+    notes: Notes,
+    around: Around,
+    at: u32,
+    name: Text,
+) -> Result<State, OutOfMemory>
+    ensures { IfOk result (λ s. s ≡ states.ModelComma (noting_use notes (at, name) referents.Model) around name) }
+{
+    let twin = name.copy(alloc)?;
+    let notes = notes.with_use(PlacedName { at, name }, Referent::Model)?;
+    Ok(State::ModelComma(notes, around, twin))
+}
+
+/// The state behind the identifier of a test for a model without an alias, whose name stands at the spot.
+fn model_bare(
+    notes: Notes,
+    around: Around,
+    spot: PlacedName,
+    model: Dtmi,
+) -> Result<State, OutOfMemory>
+    ensures { IfOk result (λ s. s ≡ states.BehindModel (noting_use notes spot referents.Bare) around None model) }
+{
+    let notes = notes.with_use(spot, Referent::Bare)?;
+    Ok(State::BehindModel(notes, around, None, model))
+}
+
 pub(crate) fn model_start(
     alloc: Global,
     notes: Notes,
@@ -89,14 +119,13 @@ pub(crate) fn model_start(
 {
     match token {
         Token::Name(Word::Alias, name) => {
-            let twin = name.copy(alloc)?;
-            let notes = notes.with_use(PlacedName { at, name }, Referent::Model)?;
-            Ok(Some(State::ModelComma(notes, around, twin)))
+            let state = model_named(alloc, notes, around, at, name)?;
+            Ok(Some(state))
         }
         Token::Text(_, model) => match model {
             Some(model) => {
-                let notes = notes.with_use(spot, Referent::Bare)?;
-                Ok(Some(State::BehindModel(notes, around, None, model)))
+                let state = model_bare(notes, around, spot, model)?;
+                Ok(Some(state))
             }
             None => Ok(None),
         },
