@@ -1,5 +1,5 @@
 -- The least of bytes, and lists of faults one entry longer.
-use Rattle.std.proofs.Common.{◌≡◌, ℕ, zero, suc, ◌+◌, ◌<◌, ◌≤◌, ◌⊎◌, inl, inr, min, List, [], ◌∷◌, ◌++◌, length, take, drop, get_or, Bool, true, false, not, Option, Some, None, refl, sym, ap, ◌∙◌, subst, arith, append_assoc}
+use Rattle.std.proofs.Common.{◌≡◌, ℕ, zero, suc, ◌+◌, ◌<◌, ◌≤◌, ◌⊎◌, inl, inr, min, List, [], ◌∷◌, ◌++◌, length, take, get_or, Bool, not, Option, refl, sym, ap, ◌∙◌, subst, arith, append_assoc}
 use Rattle.std.specs.Prelude.{Contains}
 use Rattle.std.proofs.lemmas.List.{take_more}
 use Rattle.std.proofs.lemmas.List.Elements.{Contains-append_left, Contains-append_right, Contains-append_cases}
@@ -83,3 +83,23 @@ pub uses_more : (q : Asked) (aliases : List PlacedName) (us : List Use) (i : ℕ
 uses_more q aliases us i d o h least =
     subst (λ (l : List ℕ). LeastOf l o)
     (sym (ap (λ (l : List Use). unbound_uses q aliases l) (take_more us i d h) ∙ unbound_more q aliases (take i us) (get_or us i d))) least
+
+pub names_step : (names : List PlacedName) (i : ℕ) (n : PlacedName) (b : Bool) (at : ℕ) (name : List ℕ) (o : Option ℕ) → i < length names
+    → n ≡ get_or names i n → n ≡ (at, name) → b ≡ is_among (take i names) name → LeastOf (repeats_behind [] (take i names) ++ only b at) o
+    → LeastOf (repeats_behind [] (take (i + 1) names)) o
+names_step names i n b at name o h is seen among least =
+    names_more names i n o h
+    (subst (λ (p : PlacedName). LeastOf (repeats_behind [] (take i names) ++ only (is_among (take i names) p.1) p.0) o) (sym seen ∙ is)
+    (subst (λ (x : Bool). LeastOf (repeats_behind [] (take i names) ++ only x at) o) among least))
+
+pub uses_step : (q : Asked) (aliases others : List PlacedName) (us all : List Use) (i : ℕ) (u : Use) (b : Bool) (at : ℕ) (o : Option ℕ) → i < length all
+    → all ≡ us → others ≡ aliases → u ≡ get_or all i u → at ≡ u.placed.0 → b ≡ is_bound q others u
+    → LeastOf (unbound_uses q aliases (take i us) ++ only (not b) at) o → LeastOf (unbound_uses q aliases (take (i + 1) us)) o
+uses_step q aliases others us all i u b at o h same ours is place bound least =
+    let within : i < length us = subst (λ (l : List Use). i < length l) same h in
+    let here : u ≡ get_or us i u = is ∙ ap (λ (l : List Use). get_or l i u) same in
+    let told : b ≡ is_bound q aliases u = bound ∙ ap (λ (l : List PlacedName). is_bound q l u) ours in
+    uses_more q aliases us i u o within
+    (subst (λ (x : Use). LeastOf (unbound_uses q aliases (take i us) ++ only (not (is_bound q aliases x)) x.placed.0) o) here
+    (subst (λ (x : Bool). LeastOf (unbound_uses q aliases (take i us) ++ only (not x) u.placed.0) o) told
+    (subst (λ (k : ℕ). LeastOf (unbound_uses q aliases (take i us) ++ only (not b) k) o) place least)))

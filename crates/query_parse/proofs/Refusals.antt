@@ -1,5 +1,5 @@
 -- What `read` answers.
-use Rattle.std.proofs.Common.{◌≡◌, ℕ, ◌<◌, ◌≤◌, List, [], length, Bool, true, false, refl, sym, ◌∙◌, arith}
+use Rattle.std.proofs.Common.{◌≡◌, ℕ, ◌<◌, ◌≤◌, List, [], length, Bool, true, false, refl, arith}
 use Rattle.query_terms.specs.Queries.{Asked}
 use Rattle.query_grammar.specs.declared.names.Notes.{Notes}
 use Rattle.query_parse.specs.declared.fault.QueryFault.{QueryFault}

@@ -1,7 +1,6 @@
 -- What the state behind tokens says of the text.
-use Rattle.std.proofs.Common.{◌≡◌, ℕ, ◌+◌, ◌-◌, ◌<◌, ◌≤◌, ◌⊎◌, inl, inr, List, [], ◌∷◌, ◌++◌, length, get_or, false, append_assoc, length-append, map, Option, Some, None, refl, sym, ap, ◌∙◌, subst, arith}
+use Rattle.std.proofs.Common.{◌≡◌, ℕ, ◌-◌, ◌<◌, inl, inr, List, [], ◌∷◌, ◌++◌, length, get_or, false, length-append, map, Option, Some, None, refl, sym, ap, ◌∙◌, subst, arith}
 use Rattle.std.specs.Option.{option_and_then}
-use Rattle.std.specs.List.{AllByRecursion}
 use Rattle.query_terms.specs.Queries.{Asked}
 use Rattle.query_tokens.specs.declared.token.Token.{Token}
 use Rattle.query_lexer.specs.Spellings.{is_space, IsLongest, BeginsNone, IsSpaces, IsSpelling}
@@ -10,13 +9,12 @@ use Rattle.query_grammar.specs.declared.names.Notes.{Notes}
 use Rattle.query_grammar.specs.declared.state.State.{State}
 use Rattle.query_grammar.specs.declared.state.State.TheVariants as states
 use Rattle.query_grammar.specs.Phrases.{Placed}
-use Rattle.query_grammar.specs.Grammar.{IsQuery}
 use Rattle.query_grammar.specs.Machinery.Steps.{step, end}
 use Rattle.query_grammar.specs.Machinery.Runs.{behind, asked_by}
 use Rattle.query_grammar.proofs.Complete.{complete, placed}
 use Rattle.query_grammar.proofs.Asks.{query_forward, query_backward}
 use Rattle.query_grammar.proofs.Begins.{begun, through}
-use Rattle.query_parse.specs.Texts.{AreTokens, IsQueryText, IsViable, IsWrongToken, IsNoToken, IsCutShort, IsFirstWrong}
+use Rattle.query_parse.specs.Texts.{AreTokens, IsQueryText, IsViable, IsFirstWrong}
 use Rattle.query_parse.specs.Machinery.Reached.{Reached, Takes, Stops, TakesNone}
 use Rattle.query_parse.proofs.Spelled.{all_spelled}
 

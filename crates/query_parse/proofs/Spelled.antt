@@ -1,5 +1,5 @@
 -- The tokens with which each state goes on are spelled.
-use Rattle.std.proofs.Common.{lit<, lit≤, ◌≡◌, ◌≢◌, ℕ, ◌<◌, ◌≤◌, ◌⊎◌, inl, inr, List, [], ◌∷◌, ◌++◌, map, Bool, true, false, None, Some, refl, sym, ap, arith, rules}
+use Rattle.std.proofs.Common.{lit<, lit≤, ◌≡◌, ◌≢◌, ℕ, ◌≤◌, inl, List, [], ◌∷◌, ◌++◌, map, true, false, None, refl, sym, ap, arith}
 use Rattle.std.specs.Prelude.{codes, pos}
 use Rattle.std.specs.List.{AllByRecursion, join_with_byte}
 use Rattle.std.proofs.lemmas.Fmt.{decimal_digit}
@@ -11,7 +11,6 @@ use Rattle.std.proofs.lemmas.List.Elements.{All-cons, All-nil}
 use Rattle.std.proofs.lemmas.Bool.Decides.{nat_tests}
 use Rattle.query_lexer.specs.Spellings.{AreCharacters}
 use Rattle.query_lexer.specs.Machinery.Spans.{is_plain}
-use Rattle.query_grammar.specs.Phrases.{Placed}
 use Rattle.query_grammar.proofs.Complete.{Simple, a_select, a_star, a_from, twins_word, an_alias, an_exact, a_related, a_true, an_open, a_close, a_comma, a_dot, an_equals, open_list, close_list, a_one, a_model, placed, one, model}
 use Rattle.query_parse.specs.Texts.{IsToken}
 

@@ -5,7 +5,7 @@
 -- FROM's element. The name before the point of a JOIN must be FROM's twin or the target of an earlier JOIN, and where FROM
 -- has no alias it is never bound. The name in a test for a model must be FROM's twin or a target; a test without one speaks
 -- of FROM's twin. With RELATIONSHIPS no twin is bound.
-use Rattle.std.specs.Prelude.{◌≡◌, ℕ, ◌≤◌, List, [], ◌∷◌, ◌++◌, length, Bool, true, false, not, ◌||◌, ◌&&◌, Option, Some, None, is_some, is_none, take, bytes_eq, if◌then◌else◌, Contains}
+use Rattle.std.specs.Prelude.{ℕ, ◌≤◌, List, [], ◌∷◌, ◌++◌, length, Bool, false, not, ◌||◌, ◌&&◌, Option, Some, None, is_some, is_none, take, bytes_eq, if◌then◌else◌, Contains}
 use Rattle.std.specs.List.{list_any}
 use Rattle.query_terms.specs.Queries.{Asked}
 use Rattle.query_terms.specs.declared.query.Join.{Join}

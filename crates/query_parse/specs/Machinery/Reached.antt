@@ -1,9 +1,7 @@
 -- How far a text has been read.
-use Rattle.std.specs.Prelude.{◌≡◌, ℕ, ◌⊎◌, List, [], Bool, Option, Some, None}
-use Rattle.query_terms.specs.Queries.{Asked}
+use Rattle.std.specs.Prelude.{◌≡◌, ℕ, ◌⊎◌, List, [], Option, Some, None}
 use Rattle.query_tokens.specs.declared.token.Token.{Token}
 use Rattle.query_lexer.specs.Spellings.{IsLongest, BeginsNone, IsSpaces}
-use Rattle.query_grammar.specs.declared.names.Notes.{Notes}
 use Rattle.query_grammar.specs.declared.state.State.{State}
 use Rattle.query_grammar.specs.declared.state.State.TheVariants as states
 use Rattle.query_grammar.specs.Phrases.{Placed}

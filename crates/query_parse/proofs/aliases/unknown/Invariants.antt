@@ -1,4 +1,4 @@
-use Rattle.std.proofs.Common.{◌≡◌, take}
+use Rattle.std.proofs.Common.{take}
 use Rattle.query_terms.specs.Queries.{asked}
 use Rattle.query_parse.specs.Bindings.{unbound_uses}
 use Rattle.query_parse.specs.Machinery.Reached.{LeastOf}
