@@ -105,35 +105,35 @@ comparison_gives : (room : ℕ) → Gives comparison (Fits room 2)
 comparison_gives room =
     then_gives operand _ IsFormedOperand (Fits room 2) operand_gives
     (λ left is.
-        choice_gives (compare_mark >>= (λ c. operand >>= (λ right. pure (compared left c right)))) _ (Fits room 2)
-        (then_gives compare_mark (λ c. operand >>= (λ right. pure (compared left c right))) Any (Fits room 2) compare_gives
-            (λ c any. then_gives operand (λ right. pure (compared left c right)) IsFormedOperand (Fits room 2) operand_gives
-                (λ right are. pure_gives (compared left c right) (Fits room 2) (is, are))))
-        (choice_gives (word words.In >> (literal_list >>= (λ ls. pure (among left ls)))) (word words.Nin >> (literal_list >>= (λ ls. pure (not_among left ls)))) (Fits room 2)
-        (next_gives (word words.In) (literal_list >>= (λ ls. pure (among left ls))) Any (Fits room 2) (word_gives words.In)
-            (then_gives literal_list (λ ls. pure (among left ls)) AreFormedLiterals (Fits room 2) list_gives
-                (λ ls are. pure_gives (among left ls) (Fits room 2) (is, are))))
-        (next_gives (word words.Nin) (literal_list >>= (λ ls. pure (not_among left ls))) Any (Fits room 2) (word_gives words.Nin)
-            (then_gives literal_list (λ ls. pure (not_among left ls)) AreFormedLiterals (Fits room 2) list_gives
-                (λ ls are. pure_gives (not_among left ls) (Fits room 2) (is, are))))))
+    choice_gives (compare_mark >>= (λ c. operand >>= (λ right. pure (compared left c right)))) _ (Fits room 2)
+    (then_gives compare_mark (λ c. operand >>= (λ right. pure (compared left c right))) Any (Fits room 2) compare_gives
+    (λ c any. then_gives operand (λ right. pure (compared left c right)) IsFormedOperand (Fits room 2) operand_gives
+    (λ right are. pure_gives (compared left c right) (Fits room 2) (is, are))))
+    (choice_gives (word words.In >> (literal_list >>= (λ ls. pure (among left ls)))) (word words.Nin >> (literal_list >>= (λ ls. pure (not_among left ls)))) (Fits room 2)
+    (next_gives (word words.In) (literal_list >>= (λ ls. pure (among left ls))) Any (Fits room 2) (word_gives words.In)
+    (then_gives literal_list (λ ls. pure (among left ls)) AreFormedLiterals (Fits room 2) list_gives
+    (λ ls are. pure_gives (among left ls) (Fits room 2) (is, are))))
+    (next_gives (word words.Nin) (literal_list >>= (λ ls. pure (not_among left ls))) Any (Fits room 2) (word_gives words.Nin)
+    (then_gives literal_list (λ ls. pure (not_among left ls)) AreFormedLiterals (Fits room 2) list_gives
+    (λ ls are. pure_gives (not_among left ls) (Fits room 2) (is, are))))))
 
 kind_gives : (room : ℕ) → Gives kind_test (Fits (suc room) 2)
 kind_gives room =
     then_gives kind_word _ Any (Fits (suc room) 2) kind_word_gives
     (λ kind any. next_gives (mark marks.Open) (path >>= (λ p. mark marks.Close >> pure (is_kind kind p.0))) Any (Fits (suc room) 2) (mark_gives marks.Open)
-        (then_gives path (λ p. mark marks.Close >> pure (is_kind kind p.0)) IsPathTo (Fits (suc room) 2) path_gives
-            (λ p is. next_gives (mark marks.Close) (pure (is_kind kind p.0)) Any (Fits (suc room) 2) (mark_gives marks.Close)
-                (pure_gives (is_kind kind p.0) (Fits (suc room) 2) is.path))))
+    (then_gives path (λ p. mark marks.Close >> pure (is_kind kind p.0)) IsPathTo (Fits (suc room) 2) path_gives
+    (λ p is. next_gives (mark marks.Close) (pure (is_kind kind p.0)) Any (Fits (suc room) 2) (mark_gives marks.Close)
+    (pure_gives (is_kind kind p.0) (Fits (suc room) 2) is.path))))
 
 part_gives : (room : ℕ) → Gives part_test (Fits (suc room) 2)
 part_gives room =
     then_gives part_word _ Any (Fits (suc room) 2) part_word_gives
     (λ kind any. next_gives (mark marks.Open) (operand >>= (λ whole. mark marks.Comma >> (operand >>= (λ part. mark marks.Close >> pure (has_part kind whole part))))) Any (Fits (suc room) 2) (mark_gives marks.Open)
-        (then_gives operand (λ whole. mark marks.Comma >> (operand >>= (λ part. mark marks.Close >> pure (has_part kind whole part)))) IsFormedOperand (Fits (suc room) 2) operand_gives
-            (λ whole is. next_gives (mark marks.Comma) (operand >>= (λ part. mark marks.Close >> pure (has_part kind whole part))) Any (Fits (suc room) 2) (mark_gives marks.Comma)
-                (then_gives operand (λ part. mark marks.Close >> pure (has_part kind whole part)) IsFormedOperand (Fits (suc room) 2) operand_gives
-                    (λ part are. next_gives (mark marks.Close) (pure (has_part kind whole part)) Any (Fits (suc room) 2) (mark_gives marks.Close)
-                        (pure_gives (has_part kind whole part) (Fits (suc room) 2) (is, are)))))))
+    (then_gives operand (λ whole. mark marks.Comma >> (operand >>= (λ part. mark marks.Close >> pure (has_part kind whole part)))) IsFormedOperand (Fits (suc room) 2) operand_gives
+    (λ whole is. next_gives (mark marks.Comma) (operand >>= (λ part. mark marks.Close >> pure (has_part kind whole part))) Any (Fits (suc room) 2) (mark_gives marks.Comma)
+    (then_gives operand (λ part. mark marks.Close >> pure (has_part kind whole part)) IsFormedOperand (Fits (suc room) 2) operand_gives
+    (λ part are. next_gives (mark marks.Close) (pure (has_part kind whole part)) Any (Fits (suc room) 2) (mark_gives marks.Close)
+    (pure_gives (has_part kind whole part) (Fits (suc room) 2) (is, are)))))))
 
 -- ---- tests for a model
 is_own : (content : List ℕ) (o : Option Identifier) (model : Identifier) → o ≡ Some model → IsModel content o → OwnDtmiText content model
@@ -149,7 +149,7 @@ exact_gives : Gives exact Any
 exact_gives =
     then_gives alias (λ name. only_if (same_letters name.1 (codes "exact")) >> pure tt) (λ s. IsAlias s.1) Any alias_gives
     (λ name is. next_gives (only_if (same_letters name.1 (codes "exact"))) (pure tt) (λ u. same_letters name.1 (codes "exact") ≡ true) Any
-        (test_gives (same_letters name.1 (codes "exact"))) (pure_gives tt Any tt))
+    (test_gives (same_letters name.1 (codes "exact"))) (pure_gives tt Any tt))
 
 abbrev exactly : Phrase Bool
 exactly = choice (mark marks.Comma >> (exact >> pure true)) (pure false)
@@ -165,19 +165,19 @@ model_gives room twin is =
     then_gives text (λ t. only_some t.1 >>= (λ model. exactly >>= (λ e. mark marks.Close >> pure (of_model twin model e))))
     (λ t. AllByRecursion IsWritable t.0 × IsModel t.0 t.1) (Fits (suc room) 2) text_gives
     (λ t word. then_gives (only_some t.1) (λ model. exactly >>= (λ e. mark marks.Close >> pure (of_model twin model e))) (λ model. t.1 ≡ Some model) (Fits (suc room) 2) (some_gives t.1)
-        (λ model same. then_gives exactly (λ e. mark marks.Close >> pure (of_model twin model e)) Any (Fits (suc room) 2) exactly_gives
-            (λ e any. next_gives (mark marks.Close) (pure (of_model twin model e)) Any (Fits (suc room) 2) (mark_gives marks.Close)
-                (pure_gives (of_model twin model e) (Fits (suc room) 2) (own_test twin t.0 model is word.0 (is_own t.0 t.1 model same word.1))))))
+    (λ model same. then_gives exactly (λ e. mark marks.Close >> pure (of_model twin model e)) Any (Fits (suc room) 2) exactly_gives
+    (λ e any. next_gives (mark marks.Close) (pure (of_model twin model e)) Any (Fits (suc room) 2) (mark_gives marks.Close)
+    (pure_gives (of_model twin model e) (Fits (suc room) 2) (own_test twin t.0 model is word.0 (is_own t.0 t.1 model same word.1))))))
 
 model_test_gives : (room : ℕ) → Gives model_test (Fits (suc room) 2)
 model_test_gives room =
     then_gives (word words.OfModel) _ Any (Fits (suc room) 2) (word_gives words.OfModel)
     (λ name any. next_gives (mark marks.Open) _ Any (Fits (suc room) 2) (mark_gives marks.Open)
-        (choice_gives (alias >>= (λ twin. note_use twin referents.Model >> (mark marks.Comma >> model_and_exact (Some twin.1)))) (note_use name referents.Bare >> model_and_exact None) (Fits (suc room) 2)
-        (then_gives alias (λ twin. note_use twin referents.Model >> (mark marks.Comma >> model_and_exact (Some twin.1))) (λ s. IsAlias s.1) (Fits (suc room) 2) alias_gives
-            (λ twin is. next_gives (note_use twin referents.Model) (mark marks.Comma >> model_and_exact (Some twin.1)) Any (Fits (suc room) 2) (noted_use twin referents.Model)
-                (next_gives (mark marks.Comma) (model_and_exact (Some twin.1)) Any (Fits (suc room) 2) (mark_gives marks.Comma) (model_gives room (Some twin.1) is))))
-        (next_gives (note_use name referents.Bare) (model_and_exact None) Any (Fits (suc room) 2) (noted_use name referents.Bare) (model_gives room None tt))))
+    (choice_gives (alias >>= (λ twin. note_use twin referents.Model >> (mark marks.Comma >> model_and_exact (Some twin.1)))) (note_use name referents.Bare >> model_and_exact None) (Fits (suc room) 2)
+    (then_gives alias (λ twin. note_use twin referents.Model >> (mark marks.Comma >> model_and_exact (Some twin.1))) (λ s. IsAlias s.1) (Fits (suc room) 2) alias_gives
+    (λ twin is. next_gives (note_use twin referents.Model) (mark marks.Comma >> model_and_exact (Some twin.1)) Any (Fits (suc room) 2) (noted_use twin referents.Model)
+    (next_gives (mark marks.Comma) (model_and_exact (Some twin.1)) Any (Fits (suc room) 2) (mark_gives marks.Comma) (model_gives room (Some twin.1) is))))
+    (next_gives (note_use name referents.Bare) (model_and_exact None) Any (Fits (suc room) 2) (noted_use name referents.Bare) (model_gives room None tt))))
 
 function_gives : (room : ℕ) → Gives function (Fits (suc room) 2)
 function_gives room =
@@ -190,26 +190,26 @@ factors_give room f g zero c h = pure_gives c (Fits room 1) h
 factors_give room f g (suc k) c h =
     next_gives (word words.And) (f >>= (λ (x : Condition). more_factors f k (both c x))) Any (Fits room 1) (word_gives words.And)
     (then_gives f (λ (x : Condition). more_factors f k (both c x)) (Fits room 2) (Fits room 1) g
-        (λ x is. factors_give room f g k (both c x) (h, is)))
+    (λ x is. factors_give room f g k (both c x) (h, is)))
 
 term_gives : (room : ℕ) (f : Phrase Condition) → Gives f (Fits room 2) → Gives (term f) (Fits room 1)
 term_gives room f g =
     number_gives (λ k. f >>= (λ (x : Condition). more_factors f k x)) (Fits room 1)
     (λ k. then_gives f (λ (x : Condition). more_factors f k x) (Fits room 2) (Fits room 1) g
-        (λ x is. factors_give room f g k x (as_term room x is)))
+    (λ x is. factors_give room f g k x (as_term room x is)))
 
 more_terms_give : (room : ℕ) (f : Phrase Condition) → Gives f (Fits room 2) → (k : ℕ) (c : Condition) → Fits room 0 c → Gives (more_terms f k c) (Fits room 0)
 more_terms_give room f g zero c h = pure_gives c (Fits room 0) h
 more_terms_give room f g (suc k) c h =
     next_gives (word words.Or) (term f >>= (λ (x : Condition). more_terms f k (either c x))) Any (Fits room 0) (word_gives words.Or)
     (then_gives (term f) (λ (x : Condition). more_terms f k (either c x)) (Fits room 1) (Fits room 0) (term_gives room f g)
-        (λ x is. more_terms_give room f g k (either c x) (h, is)))
+    (λ x is. more_terms_give room f g k (either c x) (h, is)))
 
 pub terms_give : (room : ℕ) (f : Phrase Condition) → Gives f (Fits room 2) → Gives (terms f) (Fits room 0)
 terms_give room f g =
     number_gives (λ k. term f >>= (λ (x : Condition). more_terms f k x)) (Fits room 0)
     (λ k. then_gives (term f) (λ (x : Condition). more_terms f k x) (Fits room 1) (Fits room 0) (term_gives room f g)
-        (λ x is. more_terms_give room f g k x (as_terms room x is)))
+    (λ x is. more_terms_give room f g k x (as_terms room x is)))
 
 pub factor_gives : (room : ℕ) → Gives (factor room) (Fits room 2)
 factor_gives zero = comparison_gives zero
@@ -218,9 +218,9 @@ factor_gives (suc room) =
     (choice_gives function _ (Fits (suc room) 2) (function_gives room)
     (choice_gives (word words.Not >> (factor room >>= (λ f. pure (negated f)))) (mark marks.Open >> (terms (factor room) >>= (λ c. mark marks.Close >> pure c))) (Fits (suc room) 2)
     (next_gives (word words.Not) (factor room >>= (λ f. pure (negated f))) Any (Fits (suc room) 2) (word_gives words.Not)
-        (then_gives (factor room) (λ f. pure (negated f)) (Fits room 2) (Fits (suc room) 2) (factor_gives room)
-            (λ f is. pure_gives (negated f) (Fits (suc room) 2) is)))
+    (then_gives (factor room) (λ f. pure (negated f)) (Fits room 2) (Fits (suc room) 2) (factor_gives room)
+    (λ f is. pure_gives (negated f) (Fits (suc room) 2) is)))
     (next_gives (mark marks.Open) (terms (factor room) >>= (λ c. mark marks.Close >> pure c)) Any (Fits (suc room) 2) (mark_gives marks.Open)
-        (then_gives (terms (factor room)) (λ c. mark marks.Close >> pure c) (Fits room 0) (Fits (suc room) 2) (terms_give room (factor room) (factor_gives room))
-            (λ c is. next_gives (mark marks.Close) (pure c) Any (Fits (suc room) 2) (mark_gives marks.Close)
-                (pure_gives c (Fits (suc room) 2) (in_parentheses room c is)))))))
+    (then_gives (terms (factor room)) (λ c. mark marks.Close >> pure c) (Fits room 0) (Fits (suc room) 2) (terms_give room (factor room) (factor_gives room))
+    (λ c is. next_gives (mark marks.Close) (pure c) Any (Fits (suc room) 2) (mark_gives marks.Close)
+    (pure_gives c (Fits (suc room) 2) (in_parentheses room c is)))))))

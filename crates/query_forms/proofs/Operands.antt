@@ -53,15 +53,15 @@ steps_give zero p last h = pure_gives (p, last) IsPathTo h
 steps_give (suc k) p last h =
     next_gives (mark marks.Dot) (field >>= (λ (name : List ℕ × PlacedName). steps k (p ++ name.0 ∷ []) name.1)) Any IsPathTo (mark_gives marks.Dot)
     (then_gives field (λ (name : List ℕ × PlacedName). steps k (p ++ name.0 ∷ []) name.1) (λ n. IsName n.0 × (n.1.1 ≡ n.0)) IsPathTo field_gives
-        (λ name is. steps_give k (p ++ name.0 ∷ []) name.1
-            (record { path = path_more p name.0 h.path is.0; last = last_more p name.0 ∙ ap (λ (x : List ℕ). Some x) (sym is.1) })))
+    (λ name is. steps_give k (p ++ name.0 ∷ []) name.1
+    (record { path = path_more p name.0 h.path is.0; last = last_more p name.0 ∙ ap (λ (x : List ℕ). Some x) (sym is.1) })))
 
 pub path_gives : Gives path IsPathTo
 path_gives =
     number_gives (λ k. alias >>= (λ (first : PlacedName). note_use first referents.Path >> steps k (first.1 ∷ []) first)) IsPathTo
     (λ k. then_gives alias (λ (first : PlacedName). note_use first referents.Path >> steps k (first.1 ∷ []) first) (λ s. IsAlias s.1) IsPathTo alias_gives
-        (λ first is. next_gives (note_use first referents.Path) (steps k (first.1 ∷ []) first) Any IsPathTo (noted_use first referents.Path)
-            (steps_give k (first.1 ∷ []) first (record { path = (is, tt); last = refl }))))
+    (λ first is. next_gives (note_use first referents.Path) (steps k (first.1 ∷ []) first) Any IsPathTo (noted_use first referents.Path)
+    (steps_give k (first.1 ∷ []) first (record { path = (is, tt); last = refl }))))
 
 -- ---- texts
 escaped_writable : (c b : ℕ) → escape c ≡ Some b → IsWritable b
@@ -97,10 +97,10 @@ pub literal_gives : Gives literal IsFormedLiteral
 literal_gives =
     choice_gives (number >>= (λ d. pure (literals.Number d))) _ IsFormedLiteral
     (then_gives number (λ d. pure (literals.Number d)) (λ d. IsFormedLiteral (literals.Number d)) IsFormedLiteral number_token
-        (λ d is. pure_gives (literals.Number d) IsFormedLiteral is))
+    (λ d is. pure_gives (literals.Number d) IsFormedLiteral is))
     (choice_gives (text >>= (λ t. pure (literals.Word t.0))) _ IsFormedLiteral
     (then_gives text (λ t. pure (literals.Word t.0)) (λ t. AllByRecursion IsWritable t.0 × IsModel t.0 t.1) IsFormedLiteral text_gives
-        (λ t is. pure_gives (literals.Word t.0) IsFormedLiteral (is.0, (t.1, is.1))))
+    (λ t is. pure_gives (literals.Word t.0) IsFormedLiteral (is.0, (t.1, is.1))))
     (choice_gives (word words.True >> pure (literals.Truth true)) (word words.False >> pure (literals.Truth false)) IsFormedLiteral
     (next_gives (word words.True) (pure (literals.Truth true)) Any IsFormedLiteral (word_gives words.True) (pure_gives (literals.Truth true) IsFormedLiteral tt))
     (next_gives (word words.False) (pure (literals.Truth false)) Any IsFormedLiteral (word_gives words.False) (pure_gives (literals.Truth false) IsFormedLiteral tt))))
@@ -114,7 +114,7 @@ more_literals_give zero ls h = pure_gives ls AreFormedLiterals h
 more_literals_give (suc k) ls h =
     next_gives (mark marks.Comma) (literal >>= (λ (l : Literal). more_literals k (ls ++ l ∷ []))) Any AreFormedLiterals (mark_gives marks.Comma)
     (then_gives literal (λ (l : Literal). more_literals k (ls ++ l ∷ [])) IsFormedLiteral AreFormedLiterals literal_gives
-        (λ l is. more_literals_give k (ls ++ l ∷ []) (literals_more ls l h is)))
+    (λ l is. more_literals_give k (ls ++ l ∷ []) (literals_more ls l h is)))
 
 abbrev behind_literals : List Literal → Phrase (List Literal)
 behind_literals ls = mark marks.CloseList >> pure ls
@@ -126,15 +126,15 @@ pub list_gives : Gives literal_list AreFormedLiterals
 list_gives =
     number_gives list_of AreFormedLiterals
     (λ k. next_gives (mark marks.OpenList) (literal >>= (λ (l : Literal). more_literals k (l ∷ []) >>= behind_literals)) Any AreFormedLiterals (mark_gives marks.OpenList)
-        (then_gives literal (λ (l : Literal). more_literals k (l ∷ []) >>= behind_literals) IsFormedLiteral AreFormedLiterals literal_gives
-            (λ l is. then_gives (more_literals k (l ∷ [])) behind_literals AreFormedLiterals AreFormedLiterals (more_literals_give k (l ∷ []) (is, tt))
-                (λ ls are. next_gives (mark marks.CloseList) (pure ls) Any AreFormedLiterals (mark_gives marks.CloseList) (pure_gives ls AreFormedLiterals are)))))
+    (then_gives literal (λ (l : Literal). more_literals k (l ∷ []) >>= behind_literals) IsFormedLiteral AreFormedLiterals literal_gives
+    (λ l is. then_gives (more_literals k (l ∷ [])) behind_literals AreFormedLiterals AreFormedLiterals (more_literals_give k (l ∷ []) (is, tt))
+    (λ ls are. next_gives (mark marks.CloseList) (pure ls) Any AreFormedLiterals (mark_gives marks.CloseList) (pure_gives ls AreFormedLiterals are)))))
 
 -- ---- operands
 pub operand_gives : Gives operand IsFormedOperand
 operand_gives =
     choice_gives (path >>= (λ (p : List (List ℕ) × PlacedName). pure (operands.Path p.0))) (literal >>= (λ (l : Literal). pure (operands.Value l))) IsFormedOperand
     (then_gives path (λ (p : List (List ℕ) × PlacedName). pure (operands.Path p.0)) IsPathTo IsFormedOperand path_gives
-        (λ p is. pure_gives (operands.Path p.0) IsFormedOperand is.path))
+    (λ p is. pure_gives (operands.Path p.0) IsFormedOperand is.path))
     (then_gives literal (λ (l : Literal). pure (operands.Value l)) IsFormedLiteral IsFormedOperand literal_gives
-        (λ l is. pure_gives (operands.Value l) IsFormedOperand is))
+    (λ l is. pure_gives (operands.Value l) IsFormedOperand is))

@@ -33,8 +33,9 @@ order a b = grind arith
 
 pub least_both : (xs ys : List ℕ) (a b : ℕ) → IsLeast xs a → IsLeast ys b → IsLeast (xs ++ ys) (min a b)
 least_both xs ys a b p q = elim (order a b) [
-    inl low ↦ subst (λ (n : ℕ). IsLeast (xs ++ ys) n) (sym low.1) (least_by a b xs ys p (λ c h. let other = q.least c h in let l = low.0 in omega (arith, other, l)))
-  | inr low ↦ subst (λ (n : ℕ). IsLeast (xs ++ ys) n) (sym low.1) (least_of_right a b xs ys q (λ c h. let other = p.least c h in let l = low.0 in omega (arith, other, l))) ]
+  | inl low ↦ subst (λ (n : ℕ). IsLeast (xs ++ ys) n) (sym low.1) (least_by a b xs ys p (λ c h. let other = q.least c h in let l = low.0 in omega (arith, other, l)))
+  | inr low ↦ subst (λ (n : ℕ). IsLeast (xs ++ ys) n) (sym low.1) (least_of_right a b xs ys q (λ c h. let other = p.least c h in let l = low.0 in omega (arith, other, l)))
+]
 
 pub least_left : (xs ys : List ℕ) (a : ℕ) → IsLeast xs a → ys ≡ [] → IsLeast (xs ++ ys) a
 least_left xs ys a p e = subst (λ (l : List ℕ). IsLeast l a) (sym (ap (λ (l : List ℕ). xs ++ l) e ∙ without_end xs)) p

@@ -63,11 +63,15 @@ own_model : OwnDtmiText (codes "dtmi:a;1") model
 own_model = own
 
 model_spelled : IsToken (placed a_model)
-model_spelled =
-    (39 ∷ (codes "dtmi:a;1" ++ 39 ∷ []),
-    (codes "dtmi:a;1" ++ 39 ∷ [], refl,
+model_spelled = (
+  39 ∷ (codes "dtmi:a;1" ++ 39 ∷ []),
+  (
+    codes "dtmi:a;1" ++ 39 ∷ [],
+    refl,
     plain_text (codes "dtmi:a;1") (refl, (refl, (refl, (refl, (refl, (refl, (refl, (refl, tt)))))))),
-    own_model))
+    own_model,
+  ),
+)
 
 spelled : (x : Simple) → IsToken (placed x)
 spelled a_select = (codes "SELECT", (refl, (refl, (refl, (refl, (refl, (refl, (refl, tt)))))), refl))

@@ -46,8 +46,9 @@ compared text from (t ∷ ts) (u ∷ us) a b p q =
     let y = q.1 in
     let one = one_first text from t u p.0 x.0 q.0 y.0 x.1 x.2 x.3 y.1 y.2 y.3 in
     elim (compared text y.0 ts us a b (subst (λ (l : List ℕ). AreTokens text l ts a) one.1 x.4) y.4) [
-      inl g ↦ inl (longer text t u ts us a b one.0 g)
-    | inr g ↦ inr (longer text u t us ts b a (sym one.0) g) ]
+      | inl g ↦ inl (longer text t u ts us a b one.0 g)
+      | inr g ↦ inr (longer text u t us ts b a (sym one.0) g)
+    ]
 
 -- ---- what cannot go on
 nothing_stops : is_space (get_or [] 0 0) ≡ false
@@ -103,8 +104,9 @@ record Stop (text : List ℕ) (ts : List Placed) (a : List ℕ) : Type 0 where
 
 meet : (text : List ℕ) (ts us : List Placed) (a b : List ℕ) → Stop text ts a → Stop text us b → (ts ≡ us) × (a ≡ b)
 meet text ts us a b p q = elim (compared text text ts us a b p.are q.are) [
-    inl g ↦ (let s = p.stops us b q.viable g in (sym s.0, s.1))
-  | inr g ↦ (let s = q.stops ts a p.viable g in (s.0, sym s.1)) ]
+  | inl g ↦ (let s = p.stops us b q.viable g in (sym s.0, s.1))
+  | inr g ↦ (let s = q.stops ts a p.viable g in (s.0, sym s.1))
+]
 
 at_end_by : (text : List ℕ) (ts us more : List Placed) (a b : List ℕ) → IsSpaces a [] → us ≡ ts ++ more → AreTokens text a more b → (us ≡ ts) × (a ≡ b)
 at_end_by text ts us [] a b spaces e are = (e ∙ without_end ts, are)

@@ -4,9 +4,8 @@ ghost use Rattle.std.specs.Prelude.{◌≡◌, IfOk};
 ghost use Rattle.query_terms.specs.Conditions.{condition, compared, among, not_among, is_kind, has_part, of_model};
 ghost use Rattle.query_grammar.specs.Machinery.Steps.{with_both, with_either, negations, closed, left_chain, membership};
 
-use query_grammar::Notes;
-use query_grammar::{Around, Built, Chain, Chains, Head, State};
 use dt_base::{List, OutOfMemory};
+use query_grammar::{Around, Built, Chain, Chains, Head, Notes, State};
 use query_terms::{Cond, Literal, Operand};
 use std::alloc::Global;
 

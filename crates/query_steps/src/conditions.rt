@@ -8,10 +8,9 @@ ghost use Rattle.query_grammar.specs.declared.state.Goal.TheVariants as goals;
 ghost use Rattle.query_grammar.specs.Machinery.Steps.{closed, closed_step, is_mark, when, negating, inside, with_room, path_begun, factor_step, literal_step, takes_literal, operand_step, behind_factor_step, behind_left_step, behind_step, path_of, path_step, field_step};
 
 use crate::building::{closed, left_chain, negated, with_both, with_either};
-use query_grammar::{Notes, Referent, PlacedName};
-use query_grammar::{Around, Built, Chain, Chains, Goal, Head, State};
 use crate::tests_of_tokens::{is_dot, is_mark, when};
 use dt_base::{List, OutOfMemory, Text};
+use query_grammar::{Around, Built, Chain, Chains, Goal, Head, Notes, PlacedName, Referent, State};
 use query_terms::{Cond, Literal, Operand};
 use query_tokens::{Mark, Token, Word};
 use std::alloc::Global;
@@ -129,7 +128,10 @@ pub(crate) fn factor(
         }
         Token::Name(Word::OfModel, name) => {
             let room = around.room;
-            Ok(with_room(room, State::ModelOpen(notes, around, PlacedName { at, name })))
+            Ok(with_room(
+                room,
+                State::ModelOpen(notes, around, PlacedName { at, name }),
+            ))
         }
         Token::Name(Word::Alias, name) => {
             let state = path_begun(alloc, notes, around, Goal::Left, at, name)?;
@@ -162,7 +164,10 @@ fn literal(notes: Notes, around: Around, goal: Goal, literal: Literal) -> Option
     ensures { result ≡ literal_step notes around goal literal }
 {
     let takes = takes_literal(&goal);
-    when(takes, State::Behind(notes, around, goal, Operand::Value(literal)))
+    when(
+        takes,
+        State::Behind(notes, around, goal, Operand::Value(literal)),
+    )
 }
 
 pub(crate) fn operand(
@@ -208,7 +213,15 @@ pub(crate) fn behind_factor(
                 nots: 0,
                 room,
             };
-            Ok(Some(State::Factor(notes, Around { head, chain, chains, room })))
+            Ok(Some(State::Factor(
+                notes,
+                Around {
+                    head,
+                    chain,
+                    chains,
+                    room,
+                },
+            )))
         }
         Token::Name(Word::Or, _) => {
             let either = with_either(alloc, before, built)?;
@@ -218,7 +231,15 @@ pub(crate) fn behind_factor(
                 nots: 0,
                 room,
             };
-            Ok(Some(State::Factor(notes, Around { head, chain, chains, room })))
+            Ok(Some(State::Factor(
+                notes,
+                Around {
+                    head,
+                    chain,
+                    chains,
+                    room,
+                },
+            )))
         }
         Token::Mark(Mark::Close) => {
             let whole = with_either(alloc, before, built)?;
@@ -300,7 +321,10 @@ pub(crate) fn behind(
         }
         Goal::First(kind) => {
             let passes = is_mark(Mark::Comma, &token);
-            Ok(when(passes, State::Operand(notes, around, Goal::Second(kind, operand))))
+            Ok(when(
+                passes,
+                State::Operand(notes, around, Goal::Second(kind, operand)),
+            ))
         }
         Goal::Second(kind, first) => {
             let cond = Cond::Part(kind, first, operand);

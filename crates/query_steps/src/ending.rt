@@ -6,10 +6,9 @@ ghost use Rattle.query_terms.specs.Queries.{asked};
 ghost use Rattle.query_grammar.specs.Machinery.Steps.{asked_of, end, end_of_chain, end_closed, end_behind, joined, head_of};
 
 use crate::building::{negated, with_both, with_either};
-use query_grammar::Notes;
 use crate::sourcing::{head_of, joined};
-use query_grammar::{Around, Built, Chain, Chains, Goal, Head, State};
 use dt_base::OutOfMemory;
+use query_grammar::{Around, Built, Chain, Chains, Goal, Head, Notes, State};
 use query_terms::{Cond, Operand, Query};
 use std::alloc::Global;
 

@@ -5,11 +5,10 @@ ghost use Rattle.json_decimal.specs.Decimals.{number_of};
 ghost use Rattle.query_grammar.specs.Grammar.{top_size};
 ghost use Rattle.query_grammar.specs.Machinery.Steps.{start_step, item_begun, select_step, top_number_step, behind_top_step, item_start_step, behind_item_step, item_path_step, item_field_step, item_as_step};
 
-use query_grammar::{Notes, Referent, PlacedName};
-use query_grammar::State;
 use crate::tests_of_tokens::{is_as, is_dot};
 use dt_base::{List, OutOfMemory, Text};
 use json_decimal::Decimal;
+use query_grammar::{Notes, PlacedName, Referent, State};
 use query_terms::{Item, Projection};
 use query_tokens::{Mark, Token, Word};
 use std::alloc::Global;
@@ -115,7 +114,14 @@ pub(crate) fn behind_top(
             Projection::Star { top: Some(size) },
         ))),
         Token::Name(Word::Alias, name) => {
-            let state = item_begun(alloc, Notes::new(alloc), Some(size), List::new(alloc), at, name)?;
+            let state = item_begun(
+                alloc,
+                Notes::new(alloc),
+                Some(size),
+                List::new(alloc),
+                at,
+                name,
+            )?;
             Ok(Some(state))
         }
         Token::Mark(Mark::Star) => Ok(Some(State::BehindSelect(

@@ -3,9 +3,8 @@
 ghost use Rattle.std.specs.Prelude.{◌≡◌, IfOk};
 ghost use Rattle.query_grammar.specs.Machinery.Steps.{source_step, condition_begun, head_of, relationships_alias_step, behind_relationships_step, twins_alias_step, behind_twins_step, join_target_step, join_source_step, join_name_step, joined, join_alias_step};
 
-use query_grammar::{Notes, Referent, PlacedName};
-use query_grammar::{Around, Chain, Chains, Head, State};
 use dt_base::{List, OutOfMemory, Text};
+use query_grammar::{Around, Chain, Chains, Head, Notes, PlacedName, Referent, State};
 use query_terms::{Join, Projection};
 use query_tokens::{Token, Word};
 use std::alloc::Global;
@@ -24,7 +23,12 @@ pub(crate) fn source(notes: Notes, select: Projection, token: Token) -> Option<S
 }
 
 /// What stands before the joins and the condition.
-pub(crate) fn head_of(alloc: Global, select: Projection, relationships: bool, alias: Option<Text>) -> Head
+pub(crate) fn head_of(
+    alloc: Global,
+    select: Projection,
+    relationships: bool,
+    alias: Option<Text>,
+) -> Head
     ensures { result ≡ head_of select relationships alias }
 {
     Head {

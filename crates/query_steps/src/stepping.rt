@@ -4,13 +4,17 @@ ghost use Rattle.std.specs.Prelude.{◌≡◌, IfOk};
 ghost use Rattle.query_grammar.specs.Machinery.Steps.{step};
 
 use crate::conditions::{behind, behind_close, behind_factor, factor, field, operand, path};
-use query_grammar::Notes;
-use crate::selecting::{behind_item, behind_top, item_as, item_field, item_path, item_start, select, start, top_number};
-use crate::sourcing::{behind_relationships, behind_twins, join_alias, join_name, join_source, join_target, relationships_alias, source, twins_alias};
-use query_grammar::{Built, State};
+use crate::selecting::{
+    behind_item, behind_top, item_as, item_field, item_path, item_start, select, start, top_number,
+};
+use crate::sourcing::{
+    behind_relationships, behind_twins, join_alias, join_name, join_source, join_target,
+    relationships_alias, source, twins_alias,
+};
 use crate::testing::{behind_list_item, behind_model, exact, list_item, model_start, model_text};
 use crate::tests_of_tokens::{is_mark, is_word, when};
 use dt_base::{List, OutOfMemory};
+use query_grammar::{Built, Notes, State};
 use query_terms::{Cond, Projection};
 use query_tokens::{Mark, Token, Word};
 use std::alloc::Global;
@@ -46,7 +50,9 @@ pub fn step(
         State::ItemField(notes, top, items, path) => {
             item_field(alloc, notes, top, items, path, at, token)
         }
-        State::ItemAs(notes, top, items, path) => item_as(alloc, notes, top, items, path, at, token),
+        State::ItemAs(notes, top, items, path) => item_as(
+            alloc, notes, top, items, path, at, token,
+        ),
         State::BehindItem(notes, top, items) => Ok(behind_item(notes, top, items, token)),
         State::Source(notes, select) => Ok(source(notes, select, token)),
         State::RelationshipsAlias(notes, select) => {
@@ -59,11 +65,19 @@ pub fn step(
         State::BehindTwins(notes, head) => Ok(behind_twins(alloc, notes, head, token)),
         State::JoinTarget(notes, head) => join_target(alloc, notes, head, at, token),
         State::JoinRelated(notes, head, target) => {
-            Ok(when(is_word(Word::Related, &token), State::JoinSource(notes, head, target)))
+            Ok(when(
+                is_word(Word::Related, &token),
+                State::JoinSource(notes, head, target),
+            ))
         }
-        State::JoinSource(notes, head, target) => join_source(alloc, notes, head, target, at, token),
+        State::JoinSource(notes, head, target) => join_source(
+            alloc, notes, head, target, at, token,
+        ),
         State::JoinDot(notes, head, target, source) => {
-            Ok(when(is_mark(Mark::Dot, &token), State::JoinName(notes, head, target, source)))
+            Ok(when(
+                is_mark(Mark::Dot, &token),
+                State::JoinName(notes, head, target, source),
+            ))
         }
         State::JoinName(notes, head, target, source) => {
             Ok(join_name(notes, head, target, source, token))
@@ -73,7 +87,10 @@ pub fn step(
         }
         State::Factor(notes, around) => factor(alloc, notes, around, at, token),
         State::FunctionOpen(notes, around, goal) => {
-            Ok(when(is_mark(Mark::Open, &token), State::Operand(notes, around, goal)))
+            Ok(when(
+                is_mark(Mark::Open, &token),
+                State::Operand(notes, around, goal),
+            ))
         }
         State::Operand(notes, around, goal) => operand(alloc, notes, around, goal, at, token),
         State::Path(notes, around, goal, names) => path(alloc, notes, around, goal, names, token),
@@ -92,13 +109,19 @@ pub fn step(
             behind_list_item(alloc, notes, around, operand, within, literals, token)
         }
         State::ModelOpen(notes, around, spot) => {
-            Ok(when(is_mark(Mark::Open, &token), State::ModelStart(notes, around, spot)))
+            Ok(when(
+                is_mark(Mark::Open, &token),
+                State::ModelStart(notes, around, spot),
+            ))
         }
         State::ModelStart(notes, around, spot) => {
             model_start(alloc, notes, around, spot, at, token)
         }
         State::ModelComma(notes, around, twin) => {
-            Ok(when(is_mark(Mark::Comma, &token), State::ModelText(notes, around, Some(twin))))
+            Ok(when(
+                is_mark(Mark::Comma, &token),
+                State::ModelText(notes, around, Some(twin)),
+            ))
         }
         State::ModelText(notes, around, twin) => Ok(model_text(notes, around, twin, token)),
         State::BehindModel(notes, around, twin, model) => {

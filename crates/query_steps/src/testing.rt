@@ -6,11 +6,10 @@ ghost use Rattle.query_grammar.specs.declared.state.State.TheVariants as states;
 ghost use Rattle.query_grammar.specs.Machinery.Steps.{noting_use, one_literal_more, list_item_step, behind_list_item_step, model_start_step, model_text_step, behind_model_step, exact_step};
 
 use crate::building::{closed, membership};
-use query_grammar::{Notes, Referent, PlacedName};
-use query_grammar::{Around, Built, State};
 use crate::tests_of_tokens::when;
 use dt_base::{List, OutOfMemory, Text};
 use dtmi_name::Dtmi;
+use query_grammar::{Around, Built, Notes, PlacedName, Referent, State};
 use query_terms::{Cond, Literal, Operand};
 use query_tokens::{Mark, Token, Word, same_letters};
 use std::alloc::Global;
@@ -43,16 +42,44 @@ pub(crate) fn list_item(
 {
     match token {
         Token::Name(Word::True, _) => {
-            one_literal_more(notes, around, operand, within, literals, Literal::Truth(true))
+            one_literal_more(
+                notes,
+                around,
+                operand,
+                within,
+                literals,
+                Literal::Truth(true),
+            )
         }
         Token::Name(Word::False, _) => {
-            one_literal_more(notes, around, operand, within, literals, Literal::Truth(false))
+            one_literal_more(
+                notes,
+                around,
+                operand,
+                within,
+                literals,
+                Literal::Truth(false),
+            )
         }
         Token::Number(number) => {
-            one_literal_more(notes, around, operand, within, literals, Literal::Number(number))
+            one_literal_more(
+                notes,
+                around,
+                operand,
+                within,
+                literals,
+                Literal::Number(number),
+            )
         }
         Token::Text(text, _) => {
-            one_literal_more(notes, around, operand, within, literals, Literal::Word(text))
+            one_literal_more(
+                notes,
+                around,
+                operand,
+                within,
+                literals,
+                Literal::Word(text),
+            )
         }
         _ => Ok(None),
     }
@@ -70,7 +97,9 @@ pub(crate) fn behind_list_item(
     ensures { IfOk result (λ s. s ≡ behind_list_item_step notes around operand within literals token) }
 {
     match token {
-        Token::Mark(Mark::Comma) => Ok(Some(State::ListItem(notes, around, operand, within, literals))),
+        Token::Mark(Mark::Comma) => Ok(Some(State::ListItem(
+            notes, around, operand, within, literals,
+        ))),
         Token::Mark(Mark::CloseList) => {
             let state = closed(alloc, notes, around, membership(within, operand, literals))?;
             Ok(Some(state))
