@@ -1,0 +1,5 @@
+pub mod Given
+pub mod Operands
+pub mod Conditions
+pub mod Queries
+pub mod Wholes

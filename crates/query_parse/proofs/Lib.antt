@@ -1,0 +1,7 @@
+pub mod Spelled
+pub mod Says
+pub mod Leasts
+pub mod Unique
+pub mod OneAnswer
+pub mod Refusals
+pub mod Readings

@@ -1,0 +1,38 @@
+-- What a text is refused for, each refusal only where none of those before it holds.
+use Rattle.std.specs.Prelude.{◌≡◌, ℕ, ◌<◌, ◌≤◌, List, [], length, Bool, true, false, IsTrue}
+use Rattle.query_terms.specs.Queries.{Asked}
+use Rattle.query_terms.specs.declared.query.Projection.{Projection}
+use Rattle.query_terms.specs.declared.query.Projection.TheVariants as projections
+use Rattle.query_grammar.specs.declared.names.Notes.{Notes}
+use Rattle.query_parse.specs.declared.fault.QueryFault.{QueryFault}
+use Rattle.query_parse.specs.declared.fault.QueryFault.TheVariants as faults
+use Rattle.query_parse.specs.Texts.{IsQueryText, IsFirstWrong}
+use Rattle.query_parse.specs.Bindings.{repeats, unbound, IsLeast}
+
+abbrev pub is_star : Projection → Bool
+is_star (projections.Star top) = true
+is_star other = false
+
+-- Rows are given whole, and there is a join.
+abbrev pub IsStarWithJoin : Asked → Type 0
+IsStarWithJoin q = IsTrue (is_star q.select) × (0 < length q.joins)
+
+-- The text is short enough and a query by the grammar, of which this holds.
+abbrev pub Reads : List ℕ → (Asked → Notes → Type 0) → Type 0
+Reads text P = (length text ≤ 8192) × ((q : Asked) × ((n : Notes) × IsQueryText text (q, n) × P q n))
+
+-- The text is refused for this. Want of memory may come at any text.
+abbrev pub Refuses : List ℕ → QueryFault → Type 0
+Refuses text faults.TooLong = 8192 < length text
+Refuses text (faults.Byte at) = (length text ≤ 8192) × IsFirstWrong text at
+Refuses text faults.TooManyJoins = Reads text (λ q n. 5 < length q.joins)
+Refuses text faults.StarWithJoin = Reads text (λ q n. (length q.joins ≤ 5) × IsStarWithJoin q)
+Refuses text (faults.TwiceAlias at) = Reads text (λ q n. (length q.joins ≤ 5) × (IsStarWithJoin q → ⊥) × IsLeast (repeats n) at)
+Refuses text (faults.UnknownAlias at) =
+    Reads text (λ q n. (length q.joins ≤ 5) × (IsStarWithJoin q → ⊥) × (repeats n ≡ []) × IsLeast (unbound q n) at)
+Refuses text faults.OutOfMemory = Unit {0}
+
+-- The text is a query that asks for this, and is refused for nothing.
+abbrev pub Spells : List ℕ → Asked → Type 0
+Spells text asked =
+    Reads text (λ q n. (length q.joins ≤ 5) × (IsStarWithJoin q → ⊥) × (repeats n ≡ []) × (unbound q n ≡ []) × (q ≡ asked))

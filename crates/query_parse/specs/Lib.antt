@@ -1,0 +1,4 @@
+pub mod Texts
+pub mod Bindings
+pub mod Faults
+pub mod Machinery

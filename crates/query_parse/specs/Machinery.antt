@@ -1,0 +1,2 @@
+-- How far a text has been read. It ties functions to the refusals.
+pub mod Reached

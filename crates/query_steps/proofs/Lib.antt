@@ -1,0 +1,3 @@
+pub mod Negations
+pub mod Sizes
+pub mod Endings

@@ -1,0 +1,384 @@
+//! The states of reading a condition.
+
+ghost use Rattle.std.specs.Prelude.{◌≡◌, IfOk};
+ghost use Rattle.query_terms.specs.declared.operand.Operand.TheVariants as operands;
+ghost use Rattle.query_tokens.specs.declared.token.Mark.TheVariants as marks;
+ghost use Rattle.query_grammar.specs.declared.state.State.TheVariants as states;
+ghost use Rattle.query_grammar.specs.declared.state.Goal.TheVariants as goals;
+ghost use Rattle.query_grammar.specs.Machinery.Steps.{closed, closed_step, is_mark, when, negating, inside, with_room, path_begun, factor_step, literal_step, takes_literal, operand_step, behind_factor_step, behind_left_step, behind_step, path_of, path_step, field_step};
+
+use crate::building::{closed, left_chain, negated, with_both, with_either};
+use crate::tests_of_tokens::{is_dot, is_mark, when};
+use dt_base::{List, OutOfMemory, Text};
+use query_grammar::{Around, Built, Chain, Chains, Goal, Head, Notes, PlacedName, Referent, State};
+use query_terms::{Cond, Literal, Operand};
+use query_tokens::{Mark, Token, Word};
+use std::alloc::Global;
+
+/// The state behind NOT, where one more may be open.
+fn behind_not(notes: Notes, around: Around) -> Result<Option<State>, OutOfMemory>
+    ensures { IfOk result (λ s. s ≡ with_room around.room (λ room. states.Factor notes (negating around room))) }
+{
+    let Around {
+        head,
+        chain,
+        chains,
+        room,
+    } = around;
+    let Chain {
+        either,
+        both,
+        nots,
+        room: outer,
+    } = chain;
+    if room == 0 {
+        return Ok(None);
+    }
+    // There are never more than 64.
+    let Some(nots) = nots.checked_add(1) else {
+        return Err(OutOfMemory);
+    };
+    let chain = Chain {
+        either,
+        both,
+        nots,
+        room: outer,
+    };
+    let around = Around {
+        head,
+        chain,
+        chains,
+        room: room - 1,
+    };
+    Ok(Some(State::Factor(notes, around)))
+}
+
+/// The state behind a parenthesis that opens, where one more may be open.
+fn behind_open(notes: Notes, around: Around) -> Result<Option<State>, OutOfMemory>
+    ensures { IfOk result (λ s. s ≡ with_room around.room (λ room. states.Factor notes (inside around room))) }
+{
+    let Around {
+        head,
+        chain,
+        mut chains,
+        room,
+    } = around;
+    if room == 0 {
+        return Ok(None);
+    }
+    chains.push(chain)?;
+    let chain = Chain {
+        either: None,
+        both: None,
+        nots: 0,
+        room: room - 1,
+    };
+    let around = Around {
+        head,
+        chain,
+        chains,
+        room: room - 1,
+    };
+    Ok(Some(State::Factor(notes, around)))
+}
+
+/// The state, where one more parenthesis may be open.
+fn with_room(room: u32, state: State) -> Option<State>
+    ensures { result ≡ with_room room (λ _. state) }
+{
+    if room == 0 { None } else { Some(state) }
+}
+
+/// The state behind the first name of a path.
+fn path_begun(
+    alloc: Global,
+    notes: Notes,
+    around: Around,
+    goal: Goal,
+    at: u32,
+    name: Text,
+) -> Result<State, OutOfMemory>
+    ensures { IfOk result (λ s. s ≡ path_begun notes around goal at name) }
+{
+    let mut path = List::new(alloc);
+    path.push(name.copy(alloc)?)?;
+    let notes = notes.with_use(PlacedName { at, name }, Referent::Path)?;
+    Ok(State::Path(notes, around, goal, path))
+}
+
+pub(crate) fn factor(
+    alloc: Global,
+    notes: Notes,
+    around: Around,
+    at: u32,
+    token: Token,
+) -> Result<Option<State>, OutOfMemory>
+    ensures { IfOk result (λ s. s ≡ factor_step notes around at token) }
+{
+    match token {
+        Token::Name(Word::Not, _) => behind_not(notes, around),
+        Token::Mark(Mark::Open) => behind_open(notes, around),
+        Token::Name(Word::Is(kind), _) => {
+            let room = around.room;
+            Ok(with_room(room, State::FunctionOpen(notes, around, Goal::Is(kind))))
+        }
+        Token::Name(Word::Part(kind), _) => {
+            let room = around.room;
+            Ok(with_room(room, State::FunctionOpen(notes, around, Goal::First(kind))))
+        }
+        Token::Name(Word::OfModel, name) => {
+            let room = around.room;
+            Ok(with_room(
+                room,
+                State::ModelOpen(notes, around, PlacedName { at, name }),
+            ))
+        }
+        Token::Name(Word::Alias, name) => {
+            let state = path_begun(alloc, notes, around, Goal::Left, at, name)?;
+            Ok(Some(state))
+        }
+        Token::Name(Word::True, _) => Ok(Some(left_literal(notes, around, Literal::Truth(true)))),
+        Token::Name(Word::False, _) => Ok(Some(left_literal(notes, around, Literal::Truth(false)))),
+        Token::Number(number) => Ok(Some(left_literal(notes, around, Literal::Number(number)))),
+        Token::Text(text, _) => Ok(Some(left_literal(notes, around, Literal::Word(text)))),
+        _ => Ok(None),
+    }
+}
+
+fn left_literal(notes: Notes, around: Around, literal: Literal) -> State
+    ensures { result ≡ states.Behind notes around goals.Left (operands.Value literal) }
+{
+    State::Behind(notes, around, Goal::Left, Operand::Value(literal))
+}
+
+fn takes_literal(goal: &Goal) -> bool
+    ensures { result ≡ takes_literal goal.now }
+{
+    match goal {
+        Goal::Is(_) => false,
+        _ => true,
+    }
+}
+
+fn literal(notes: Notes, around: Around, goal: Goal, literal: Literal) -> Option<State>
+    ensures { result ≡ literal_step notes around goal literal }
+{
+    let takes = takes_literal(&goal);
+    when(
+        takes,
+        State::Behind(notes, around, goal, Operand::Value(literal)),
+    )
+}
+
+pub(crate) fn operand(
+    alloc: Global,
+    notes: Notes,
+    around: Around,
+    goal: Goal,
+    at: u32,
+    token: Token,
+) -> Result<Option<State>, OutOfMemory>
+    ensures { IfOk result (λ s. s ≡ operand_step notes around goal at token) }
+{
+    match token {
+        Token::Name(Word::Alias, name) => {
+            let state = path_begun(alloc, notes, around, goal, at, name)?;
+            Ok(Some(state))
+        }
+        Token::Name(Word::True, _) => Ok(literal(notes, around, goal, Literal::Truth(true))),
+        Token::Name(Word::False, _) => Ok(literal(notes, around, goal, Literal::Truth(false))),
+        Token::Number(number) => Ok(literal(notes, around, goal, Literal::Number(number))),
+        Token::Text(text, _) => Ok(literal(notes, around, goal, Literal::Word(text))),
+        _ => Ok(None),
+    }
+}
+
+pub(crate) fn behind_factor(
+    alloc: Global,
+    notes: Notes,
+    head: Head,
+    before: Option<Built>,
+    built: Built,
+    chains: Chains,
+    room: u32,
+    token: Token,
+) -> Result<Option<State>, OutOfMemory>
+    ensures { IfOk result (λ s. s ≡ behind_factor_step notes head before built chains room token) }
+{
+    match token {
+        Token::Name(Word::And, _) => {
+            let chain = Chain {
+                either: before,
+                both: Some(built),
+                nots: 0,
+                room,
+            };
+            Ok(Some(State::Factor(
+                notes,
+                Around {
+                    head,
+                    chain,
+                    chains,
+                    room,
+                },
+            )))
+        }
+        Token::Name(Word::Or, _) => {
+            let either = with_either(alloc, before, built)?;
+            let chain = Chain {
+                either: Some(either),
+                both: None,
+                nots: 0,
+                room,
+            };
+            Ok(Some(State::Factor(
+                notes,
+                Around {
+                    head,
+                    chain,
+                    chains,
+                    room,
+                },
+            )))
+        }
+        Token::Mark(Mark::Close) => {
+            let whole = with_either(alloc, before, built)?;
+            left_chain(alloc, notes, head, chains, whole)
+        }
+        _ => Ok(None),
+    }
+}
+
+fn behind_left(notes: Notes, around: Around, operand: Operand, token: Token) -> Option<State>
+    ensures { result ≡ behind_left_step notes around operand token }
+{
+    match token {
+        Token::Mark(Mark::Compare(compare)) => {
+            Some(State::Operand(notes, around, Goal::Right(operand, compare)))
+        }
+        Token::Name(Word::In, _) => Some(State::ListOpen(notes, around, operand, true)),
+        Token::Name(Word::Nin, _) => Some(State::ListOpen(notes, around, operand, false)),
+        _ => None,
+    }
+}
+
+/// What follows a whole factor.
+fn behind_closed(
+    alloc: Global,
+    notes: Notes,
+    around: Around,
+    factor: Built,
+    token: Token,
+) -> Result<Option<State>, OutOfMemory>
+    ensures { IfOk result (λ s. s ≡ closed_step notes around factor token) }
+{
+    let Around {
+        head,
+        chain,
+        chains,
+        room: _,
+    } = around;
+    let Chain {
+        either,
+        both,
+        nots,
+        room,
+    } = chain;
+    let factor = negated(alloc, factor, nots)?;
+    let term = with_both(alloc, both, factor)?;
+    behind_factor(alloc, notes, head, either, term, chains, room, token)
+}
+
+/// The path of an operand, and none for a literal.
+fn path_of(alloc: Global, operand: Operand) -> List<Text>
+    ensures { result ≡ path_of operand }
+{
+    match operand {
+        Operand::Path(path) => path,
+        Operand::Value(_) => List::new(alloc),
+    }
+}
+
+pub(crate) fn behind(
+    alloc: Global,
+    notes: Notes,
+    around: Around,
+    goal: Goal,
+    operand: Operand,
+    token: Token,
+) -> Result<Option<State>, OutOfMemory>
+    ensures { IfOk result (λ s. s ≡ behind_step notes around goal operand token) }
+{
+    match goal {
+        Goal::Left => Ok(behind_left(notes, around, operand, token)),
+        Goal::Right(left, compare) => {
+            let cond = Cond::Compare(left, compare, operand);
+            behind_closed(alloc, notes, around, Built { cond }, token)
+        }
+        Goal::Is(kind) => {
+            let cond = Cond::Is(kind, path_of(alloc, operand));
+            behind_close(alloc, notes, around, Built { cond }, token)
+        }
+        Goal::First(kind) => {
+            let passes = is_mark(Mark::Comma, &token);
+            Ok(when(
+                passes,
+                State::Operand(notes, around, Goal::Second(kind, operand)),
+            ))
+        }
+        Goal::Second(kind, first) => {
+            let cond = Cond::Part(kind, first, operand);
+            behind_close(alloc, notes, around, Built { cond }, token)
+        }
+    }
+}
+
+/// The state behind the parenthesis of a function.
+pub(crate) fn behind_close(
+    alloc: Global,
+    notes: Notes,
+    around: Around,
+    factor: Built,
+    token: Token,
+) -> Result<Option<State>, OutOfMemory>
+    ensures { IfOk result (λ s. s ≡ when (is_mark marks.Close token) (closed notes around factor)) }
+{
+    let passes = is_mark(Mark::Close, &token);
+    let state = closed(alloc, notes, around, factor)?;
+    Ok(when(passes, state))
+}
+
+pub(crate) fn path(
+    alloc: Global,
+    notes: Notes,
+    around: Around,
+    goal: Goal,
+    path: List<Text>,
+    token: Token,
+) -> Result<Option<State>, OutOfMemory>
+    ensures { IfOk result (λ s. s ≡ path_step notes around goal path token) }
+{
+    if is_dot(&token) {
+        return Ok(Some(State::Field(notes, around, goal, path)));
+    }
+    behind(alloc, notes, around, goal, Operand::Path(path), token)
+}
+
+pub(crate) fn field(
+    notes: Notes,
+    around: Around,
+    goal: Goal,
+    path: List<Text>,
+    token: Token,
+) -> Result<Option<State>, OutOfMemory>
+    ensures { IfOk result (λ s. s ≡ field_step notes around goal path token) }
+{
+    match token {
+        Token::Name(_, name) => {
+            let mut path = path;
+            path.push(name)?;
+            Ok(Some(State::Path(notes, around, goal, path)))
+        }
+        _ => Ok(None),
+    }
+}

@@ -1,0 +1,120 @@
+//! The query behind all tokens.
+
+ghost use Rattle.std.specs.Prelude.{◌≡◌, IfOk};
+ghost use Rattle.std.specs.Option.{option_map};
+ghost use Rattle.query_terms.specs.Queries.{asked};
+ghost use Rattle.query_grammar.specs.Machinery.Steps.{asked_of, end, end_of_chain, end_closed, end_behind, joined, head_of};
+
+use crate::building::{negated, with_both, with_either};
+use crate::sourcing::{head_of, joined};
+use dt_base::OutOfMemory;
+use query_grammar::{Around, Built, Chain, Chains, Goal, Head, Notes, State};
+use query_terms::{Cond, Operand, Query};
+use std::alloc::Global;
+
+/// The query that asks for what stands before the condition, under it.
+fn query_of(head: Head, condition: Option<Built>) -> Query
+    ensures { asked result ≡ asked_of head condition }
+{
+    let Head {
+        select,
+        relationships,
+        alias,
+        joins,
+    } = head;
+    let cond = match condition {
+        Some(built) => Some(built.cond),
+        None => None,
+    };
+    Query {
+        select,
+        relationships,
+        alias,
+        joins,
+        cond,
+    }
+}
+
+/// The query behind a factor, where no parenthesis is open.
+fn end_of_chain(
+    alloc: Global,
+    notes: Notes,
+    head: Head,
+    before: Option<Built>,
+    built: Built,
+    chains: Chains,
+) -> Result<Option<(Query, Notes)>, OutOfMemory>
+    ensures { IfOk result (λ o. option_map (λ p. (asked p.0, p.1)) o ≡ end_of_chain notes head before built chains) }
+{
+    let mut chains = chains;
+    match chains.pop() {
+        Some(_) => Ok(None),
+        None => {
+            let whole = with_either(alloc, before, built)?;
+            Ok(Some((query_of(head, Some(whole)), notes)))
+        }
+    }
+}
+
+/// The query behind an operand that ends a comparison.
+fn end_behind(
+    alloc: Global,
+    notes: Notes,
+    around: Around,
+    goal: Goal,
+    operand: Operand,
+) -> Result<Option<(Query, Notes)>, OutOfMemory>
+    ensures { IfOk result (λ o. option_map (λ p. (asked p.0, p.1)) o ≡ end_behind notes around goal operand) }
+{
+    match goal {
+        Goal::Right(left, compare) => {
+            let Around {
+                head,
+                chain,
+                chains,
+                room: _,
+            } = around;
+            let Chain {
+                either,
+                both,
+                nots,
+                room: _,
+            } = chain;
+            let cond = Cond::Compare(left, compare, operand);
+            let factor = negated(alloc, Built { cond }, nots)?;
+            let term = with_both(alloc, both, factor)?;
+            end_of_chain(alloc, notes, head, either, term, chains)
+        }
+        _ => Ok(None),
+    }
+}
+
+/// What is asked for, where the query may end here.
+pub fn end(alloc: Global, state: State) -> Result<Option<(Query, Notes)>, OutOfMemory>
+    ensures { IfOk result (λ o. option_map (λ p. (asked p.0, p.1)) o ≡ end state) }
+{
+    match state {
+        State::RelationshipsAlias(notes, select) => {
+            Ok(Some((query_of(head_of(alloc, select, true, None), None), notes)))
+        }
+        State::BehindRelationships(notes, head) => Ok(Some((query_of(head, None), notes))),
+        State::TwinsAlias(notes, select) => {
+            Ok(Some((query_of(head_of(alloc, select, false, None), None), notes)))
+        }
+        State::BehindTwins(notes, head) => Ok(Some((query_of(head, None), notes))),
+        State::JoinAlias(notes, head, target, source, name) => {
+            let head = joined(head, target, source, name, None)?;
+            Ok(Some((query_of(head, None), notes)))
+        }
+        State::Path(notes, around, goal, path) => {
+            end_behind(alloc, notes, around, goal, Operand::Path(path))
+        }
+        State::Behind(notes, around, goal, operand) => {
+            end_behind(alloc, notes, around, goal, operand)
+        }
+        State::BehindFactor(notes, head, before, built, chains, _) => {
+            end_of_chain(alloc, notes, head, before, built, chains)
+        }
+        _ => Ok(None),
+    }
+}

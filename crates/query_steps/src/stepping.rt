@@ -1,0 +1,143 @@
+//! One token more.
+
+ghost use Rattle.std.specs.Prelude.{◌≡◌, IfOk};
+ghost use Rattle.query_grammar.specs.Machinery.Steps.{step};
+
+use crate::conditions::{behind, behind_close, behind_factor, factor, field, operand, path};
+use crate::selecting::{
+    behind_item, behind_top, item_as, item_field, item_path, item_start, select, start, top_number,
+};
+use crate::sourcing::{
+    behind_relationships, behind_twins, join_alias, join_name, join_source, join_target,
+    relationships_alias, source, twins_alias,
+};
+use crate::testing::{behind_list_item, behind_model, exact, list_item, model_start, model_text};
+use crate::tests_of_tokens::{is_mark, is_word, when};
+use dt_base::{List, OutOfMemory};
+use query_grammar::{Built, Notes, State};
+use query_terms::{Cond, Projection};
+use query_tokens::{Mark, Token, Word};
+use std::alloc::Global;
+
+/// The state behind one token more; none where no query begins with the tokens up to it.
+pub fn step(
+    alloc: Global,
+    state: State,
+    at: u32,
+    token: Token,
+) -> Result<Option<State>, OutOfMemory>
+    ensures { IfOk result (λ s. s ≡ step state at token) }
+{
+    match state {
+        State::Start => Ok(start(token)),
+        State::Select => select(alloc, at, token),
+        State::CountOpen => Ok(when(is_mark(Mark::Open, &token), State::CountClose)),
+        State::CountClose => {
+            let next = State::BehindSelect(Notes::new(alloc), Projection::Count);
+            Ok(when(is_mark(Mark::Close, &token), next))
+        }
+        State::TopOpen => Ok(when(is_mark(Mark::Open, &token), State::TopNumber)),
+        State::TopNumber => Ok(top_number(token)),
+        State::TopClose(size) => Ok(when(is_mark(Mark::Close, &token), State::BehindTop(size))),
+        State::BehindTop(size) => behind_top(alloc, size, at, token),
+        State::BehindSelect(notes, select) => {
+            Ok(when(is_word(Word::From, &token), State::Source(notes, select)))
+        }
+        State::ItemStart(notes, top, items) => item_start(alloc, notes, top, items, at, token),
+        State::ItemPath(notes, top, items, path, last) => {
+            item_path(alloc, notes, top, items, path, last, token)
+        }
+        State::ItemField(notes, top, items, path) => {
+            item_field(alloc, notes, top, items, path, at, token)
+        }
+        State::ItemAs(notes, top, items, path) => item_as(
+            alloc, notes, top, items, path, at, token,
+        ),
+        State::BehindItem(notes, top, items) => Ok(behind_item(notes, top, items, token)),
+        State::Source(notes, select) => Ok(source(notes, select, token)),
+        State::RelationshipsAlias(notes, select) => {
+            relationships_alias(alloc, notes, select, at, token)
+        }
+        State::BehindRelationships(notes, head) => {
+            Ok(behind_relationships(alloc, notes, head, token))
+        }
+        State::TwinsAlias(notes, select) => twins_alias(alloc, notes, select, at, token),
+        State::BehindTwins(notes, head) => Ok(behind_twins(alloc, notes, head, token)),
+        State::JoinTarget(notes, head) => join_target(alloc, notes, head, at, token),
+        State::JoinRelated(notes, head, target) => {
+            Ok(when(
+                is_word(Word::Related, &token),
+                State::JoinSource(notes, head, target),
+            ))
+        }
+        State::JoinSource(notes, head, target) => join_source(
+            alloc, notes, head, target, at, token,
+        ),
+        State::JoinDot(notes, head, target, source) => {
+            Ok(when(
+                is_mark(Mark::Dot, &token),
+                State::JoinName(notes, head, target, source),
+            ))
+        }
+        State::JoinName(notes, head, target, source) => {
+            Ok(join_name(notes, head, target, source, token))
+        }
+        State::JoinAlias(notes, head, target, source, name) => {
+            join_alias(alloc, notes, head, target, source, name, at, token)
+        }
+        State::Factor(notes, around) => factor(alloc, notes, around, at, token),
+        State::FunctionOpen(notes, around, goal) => {
+            Ok(when(
+                is_mark(Mark::Open, &token),
+                State::Operand(notes, around, goal),
+            ))
+        }
+        State::Operand(notes, around, goal) => operand(alloc, notes, around, goal, at, token),
+        State::Path(notes, around, goal, names) => path(alloc, notes, around, goal, names, token),
+        State::Field(notes, around, goal, names) => field(notes, around, goal, names, token),
+        State::Behind(notes, around, goal, operand) => {
+            behind(alloc, notes, around, goal, operand, token)
+        }
+        State::ListOpen(notes, around, operand, within) => {
+            let next = State::ListItem(notes, around, operand, within, List::new(alloc));
+            Ok(when(is_mark(Mark::OpenList, &token), next))
+        }
+        State::ListItem(notes, around, operand, within, literals) => {
+            list_item(notes, around, operand, within, literals, token)
+        }
+        State::BehindListItem(notes, around, operand, within, literals) => {
+            behind_list_item(alloc, notes, around, operand, within, literals, token)
+        }
+        State::ModelOpen(notes, around, spot) => {
+            Ok(when(
+                is_mark(Mark::Open, &token),
+                State::ModelStart(notes, around, spot),
+            ))
+        }
+        State::ModelStart(notes, around, spot) => {
+            model_start(alloc, notes, around, spot, at, token)
+        }
+        State::ModelComma(notes, around, twin) => {
+            Ok(when(
+                is_mark(Mark::Comma, &token),
+                State::ModelText(notes, around, Some(twin)),
+            ))
+        }
+        State::ModelText(notes, around, twin) => Ok(model_text(notes, around, twin, token)),
+        State::BehindModel(notes, around, twin, model) => {
+            behind_model(alloc, notes, around, twin, model, token)
+        }
+        State::Exact(notes, around, twin, model) => Ok(exact(notes, around, twin, model, token)),
+        State::ModelClose(notes, around, twin, model) => {
+            let cond = Cond::OfModel {
+                twin,
+                model,
+                exact: true,
+            };
+            behind_close(alloc, notes, around, Built { cond }, token)
+        }
+        State::BehindFactor(notes, head, before, built, chains, room) => {
+            behind_factor(alloc, notes, head, before, built, chains, room, token)
+        }
+    }
+}

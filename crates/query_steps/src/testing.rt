@@ -1,0 +1,223 @@
+//! The states of reading lists of literals and tests for models.
+
+ghost use Rattle.std.specs.Prelude.{◌≡◌, None, IfOk};
+ghost use Rattle.query_grammar.specs.declared.names.Referent.TheVariants as referents;
+ghost use Rattle.query_grammar.specs.declared.state.State.TheVariants as states;
+ghost use Rattle.query_grammar.specs.Machinery.Steps.{noting_use, one_literal_more, list_item_step, behind_list_item_step, model_start_step, model_text_step, behind_model_step, exact_step};
+
+use crate::building::{closed, membership};
+use crate::tests_of_tokens::when;
+use dt_base::{List, OutOfMemory, Text};
+use dtmi_name::Dtmi;
+use query_grammar::{Around, Built, Notes, PlacedName, Referent, State};
+use query_terms::{Cond, Literal, Operand};
+use query_tokens::{Mark, Token, Word, same_letters};
+use std::alloc::Global;
+
+/// The state behind one literal more.
+fn one_literal_more(
+    notes: Notes,
+    around: Around,
+    operand: Operand,
+    within: bool,
+    literals: List<Literal>,
+    literal: Literal,
+) -> Result<Option<State>, OutOfMemory>
+    ensures { IfOk result (λ s. s ≡ Some (one_literal_more notes around operand within literals literal)) }
+{
+    let mut literals = literals;
+    literals.push(literal)?;
+    Ok(Some(State::BehindListItem(notes, around, operand, within, literals)))
+}
+
+pub(crate) fn list_item(
+    notes: Notes,
+    around: Around,
+    operand: Operand,
+    within: bool,
+    literals: List<Literal>,
+    token: Token,
+) -> Result<Option<State>, OutOfMemory>
+    ensures { IfOk result (λ s. s ≡ list_item_step notes around operand within literals token) }
+{
+    match token {
+        Token::Name(Word::True, _) => {
+            one_literal_more(
+                notes,
+                around,
+                operand,
+                within,
+                literals,
+                Literal::Truth(true),
+            )
+        }
+        Token::Name(Word::False, _) => {
+            one_literal_more(
+                notes,
+                around,
+                operand,
+                within,
+                literals,
+                Literal::Truth(false),
+            )
+        }
+        Token::Number(number) => {
+            one_literal_more(
+                notes,
+                around,
+                operand,
+                within,
+                literals,
+                Literal::Number(number),
+            )
+        }
+        Token::Text(text, _) => {
+            one_literal_more(
+                notes,
+                around,
+                operand,
+                within,
+                literals,
+                Literal::Word(text),
+            )
+        }
+        _ => Ok(None),
+    }
+}
+
+pub(crate) fn behind_list_item(
+    alloc: Global,
+    notes: Notes,
+    around: Around,
+    operand: Operand,
+    within: bool,
+    literals: List<Literal>,
+    token: Token,
+) -> Result<Option<State>, OutOfMemory>
+    ensures { IfOk result (λ s. s ≡ behind_list_item_step notes around operand within literals token) }
+{
+    match token {
+        Token::Mark(Mark::Comma) => Ok(Some(State::ListItem(
+            notes, around, operand, within, literals,
+        ))),
+        Token::Mark(Mark::CloseList) => {
+            let state = closed(alloc, notes, around, membership(within, operand, literals))?;
+            Ok(Some(state))
+        }
+        _ => Ok(None),
+    }
+}
+
+/// The state behind the alias of a test for a model.
+fn model_named(
+    alloc: Global,
+    notes: Notes,
+    around: Around,
+    at: u32,
+    name: Text,
+) -> Result<State, OutOfMemory>
+    ensures { IfOk result (λ s. s ≡ states.ModelComma (noting_use notes (at, name) referents.Model) around name) }
+{
+    let twin = name.copy(alloc)?;
+    let notes = notes.with_use(PlacedName { at, name }, Referent::Model)?;
+    Ok(State::ModelComma(notes, around, twin))
+}
+
+/// The state behind the identifier of a test for a model without an alias, whose name stands at the spot.
+fn model_bare(
+    notes: Notes,
+    around: Around,
+    spot: PlacedName,
+    model: Dtmi,
+) -> Result<State, OutOfMemory>
+    ensures { IfOk result (λ s. s ≡ states.BehindModel (noting_use notes spot referents.Bare) around None model) }
+{
+    let notes = notes.with_use(spot, Referent::Bare)?;
+    Ok(State::BehindModel(notes, around, None, model))
+}
+
+pub(crate) fn model_start(
+    alloc: Global,
+    notes: Notes,
+    around: Around,
+    spot: PlacedName,
+    at: u32,
+    token: Token,
+) -> Result<Option<State>, OutOfMemory>
+    ensures { IfOk result (λ s. s ≡ model_start_step notes around spot at token) }
+{
+    match token {
+        Token::Name(Word::Alias, name) => {
+            let state = model_named(alloc, notes, around, at, name)?;
+            Ok(Some(state))
+        }
+        Token::Text(_, model) => match model {
+            Some(model) => {
+                let state = model_bare(notes, around, spot, model)?;
+                Ok(Some(state))
+            }
+            None => Ok(None),
+        },
+        _ => Ok(None),
+    }
+}
+
+pub(crate) fn model_text(
+    notes: Notes,
+    around: Around,
+    twin: Option<Text>,
+    token: Token,
+) -> Option<State>
+    ensures { result ≡ model_text_step notes around twin token }
+{
+    match token {
+        Token::Text(_, model) => match model {
+            Some(model) => Some(State::BehindModel(notes, around, twin, model)),
+            None => None,
+        },
+        _ => None,
+    }
+}
+
+pub(crate) fn behind_model(
+    alloc: Global,
+    notes: Notes,
+    around: Around,
+    twin: Option<Text>,
+    model: Dtmi,
+    token: Token,
+) -> Result<Option<State>, OutOfMemory>
+    ensures { IfOk result (λ s. s ≡ behind_model_step notes around twin model token) }
+{
+    match token {
+        Token::Mark(Mark::Comma) => Ok(Some(State::Exact(notes, around, twin, model))),
+        Token::Mark(Mark::Close) => {
+            let cond = Cond::OfModel {
+                twin,
+                model,
+                exact: false,
+            };
+            let state = closed(alloc, notes, around, Built { cond })?;
+            Ok(Some(state))
+        }
+        _ => Ok(None),
+    }
+}
+
+pub(crate) fn exact(
+    notes: Notes,
+    around: Around,
+    twin: Option<Text>,
+    model: Dtmi,
+    token: Token,
+) -> Option<State>
+    ensures { result ≡ exact_step notes around twin model token }
+{
+    match token {
+        Token::Name(Word::Alias, name) => {
+            let passes = same_letters(name.as_str(), "exact");
+            when(passes, State::ModelClose(notes, around, twin, model))
+        }
+        _ => None,
+    }
+}
