@@ -10,6 +10,8 @@ use Rattle.dtdl_terms.specs.declared.spot.Spot.{Spot}
 use Rattle.dtdl_terms.specs.declared.spot.Spot.TheVariants as spots
 use Rattle.dtdl_terms.specs.declared.uploaded.Uploaded.{Uploaded}
 use Rattle.extend_resolve.specs.SetRules.{together, RepeatsId, LacksParent, LacksComponent, IsInCycle, IsLongChain, HasNameClash, HasComponentInComponent, HasTooManyContents}
+use Rattle.extend_resolve.specs.declared.end.SetEnd.{SetEnd}
+use Rattle.extend_resolve.specs.declared.end.SetEnd.TheVariants as ends
 use Rattle.extend_resolve.specs.declared.rule.SetRule.{SetRule}
 use Rattle.extend_resolve.specs.declared.rule.SetRule.TheVariants as rules
 
@@ -98,6 +100,15 @@ IsBreach set new b = BreaksAt set new b.index b.rule b.spot
 pub record IsFirstBreach (set : List Interface) (new : List Uploaded) (b : Breach) : Type 0 where
   pub breach : IsBreach set new b
   pub least : (c : Breach) → IsBreach set new c → breach_cmp new b c ≢ Greater
+
+-- None of the new interfaces breaks a rule.
+abbrev pub IsSound : List Interface → List Uploaded → Type 0
+IsSound set new = (b : Breach) → IsBreach set new b → ⊥
+
+-- the sets for which a judgement answers each end; want of memory may come at any
+abbrev pub RefusesSet : List Interface → List Uploaded → SetEnd → Type 0
+RefusesSet set new (ends.Fault index spot rule) = IsFirstBreach set new (record { index = index; rule = rule; spot = spot })
+RefusesSet set new ends.OutOfMemory = Unit {0}
 
 -- What the ordinals of an interface's members tell, by which its places are told apart: those of `extends` and
 -- `contents` differ, and a text alone names one parent.
