@@ -12,12 +12,12 @@ use Rattle.dtmi_name.specs.Grammar.{Identifier, dtmi_text, id_cmp}
 use Rattle.dtdl_terms.specs.declared.interface.Interface.{Interface}
 use Rattle.extend_resolve.specs.Machinery.Numbers.{number_at, kept_at, number_for}
 
-equal_order : (o : Ordering) → is_eq o ≡ true → o ≡ Equal
+pub equal_order : (o : Ordering) → is_eq o ≡ true → o ≡ Equal
 equal_order Less h = absurd (true≢false (sym h))
 equal_order Equal h = refl
 equal_order Greater h = absurd (true≢false (sym h))
 
-same_text : (q id : Identifier) → is_eq (id_cmp q id) ≡ true → dtmi_text q ≡ dtmi_text id
+pub same_text : (q id : Identifier) → is_eq (id_cmp q id) ≡ true → dtmi_text q ≡ dtmi_text id
 same_text q id h = exact_bytes (dtmi_text q) (dtmi_text id) (equal_order (id_cmp q id) h)
 
 -- equal identifiers have one number

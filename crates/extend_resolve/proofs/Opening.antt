@@ -8,21 +8,21 @@ use Rattle.std.proofs.lemmas.Map.Steps.{length-le_from_distinct_below}
 use Rattle.extend_resolve.specs.Machinery.Links.{IsIn, links_at, IsWay, way_end, Arrives, AreWithin, push_new, add_new, AreMarked, AreOpened, IsOpening}
 
 -- ---- elements of a list of numbers
-equal_numbers : (x y : ℕ) → nat_eq x y ≡ true → x ≡ y
+pub equal_numbers : (x y : ℕ) → nat_eq x y ≡ true → x ≡ y
 equal_numbers x y h = grind (arith, nat_tests)
 
-same_number : (x : ℕ) → nat_eq x x ≡ true
+pub same_number : (x : ℕ) → nat_eq x x ≡ true
 same_number x = nat_eq_equiv.refl x
 
-in_left : (y : ℕ) (xs ys : List ℕ) → IsIn y xs → IsIn y (xs ++ ys)
+pub in_left : (y : ℕ) (xs ys : List ℕ) → IsIn y xs → IsIn y (xs ++ ys)
 in_left y [] ys h = absurd (true≢false (sym h))
 in_left y (x ∷ xs) ys h = elim (nat_eq y x) as (λ b. (b || list_any (nat_eq y) xs) ≡ true → (b || list_any (nat_eq y) (xs ++ ys)) ≡ true) [ true ↦ λ _. refl | false ↦ in_left y xs ys ] h
 
-in_last : (y : ℕ) (xs : List ℕ) → IsIn y (xs ++ y ∷ [])
+pub in_last : (y : ℕ) (xs : List ℕ) → IsIn y (xs ++ y ∷ [])
 in_last y [] = ap (λ b. b || false) (same_number y)
 in_last y (x ∷ xs) = elim (nat_eq y x) as (λ b. (b || list_any (nat_eq y) (xs ++ y ∷ [])) ≡ true) [ true ↦ refl | false ↦ in_last y xs ]
 
-all_in : (P : ℕ → Type 0) (xs : List ℕ) (y : ℕ) → AllByRecursion P xs → IsIn y xs → P y
+pub all_in : (P : ℕ → Type 0) (xs : List ℕ) (y : ℕ) → AllByRecursion P xs → IsIn y xs → P y
 all_in P [] y all h = absurd (true≢false (sym h))
 all_in P (x ∷ xs) y all h =
     elim (nat_eq y x) as (λ b. nat_eq y x ≡ b → (b || list_any (nat_eq y) xs) ≡ true → P y) [
@@ -30,11 +30,11 @@ all_in P (x ∷ xs) y all h =
       | false ↦ λ e h. all_in P xs y all.1 h
     ] refl h
 
-all_push : (P : ℕ → Type 0) (xs : List ℕ) (y : ℕ) → AllByRecursion P xs → P y → AllByRecursion P (xs ++ y ∷ [])
+pub all_push : (P : ℕ → Type 0) (xs : List ℕ) (y : ℕ) → AllByRecursion P xs → P y → AllByRecursion P (xs ++ y ∷ [])
 all_push P [] y all p = (p, tt)
 all_push P (x ∷ xs) y all p = (all.0, all_push P xs y all.1 p)
 
-all_map : (P Q : ℕ → Type 0) (xs : List ℕ) → ((x : ℕ) → P x → Q x) → AllByRecursion P xs → AllByRecursion Q xs
+pub all_map : (P Q : ℕ → Type 0) (xs : List ℕ) → ((x : ℕ) → P x → Q x) → AllByRecursion P xs → AllByRecursion Q xs
 all_map P Q [] f all = tt
 all_map P Q (x ∷ xs) f all = (f x all.0, all_map P Q xs f all.1)
 
@@ -79,7 +79,7 @@ new_in found (x ∷ xs) y h =
     ] refl h
 
 -- ---- positions
-in_at : (xs : List ℕ) (k d : ℕ) → k < length xs → IsIn (get_or xs k d) xs
+pub in_at : (xs : List ℕ) (k d : ℕ) → k < length xs → IsIn (get_or xs k d) xs
 in_at [] k d low = absurd (omega (arith, low))
 in_at (x ∷ xs) zero d low = ap (λ b. b || list_any (nat_eq x) xs) (same_number x)
 in_at (x ∷ xs) (suc k) d low =

@@ -1,58 +1,66 @@
-//! By which interfaces names are declared.
+//! By which interfaces names are declared. Interfaces and names are numbers here, and owners belong to a round, so that those
+//! of an earlier round need not be taken away.
 
-use dt_base::OutOfMemory;
-use std::alloc::Global;
+ghost use Rattle.std.specs.Prelude.{◌≡◌, ◌<◌, length, get_or};
+ghost use Rattle.std.specs.List.{AllByRecursion, list_any};
+ghost use Rattle.extend_resolve.specs.Machinery.Owners.{nobody, has_other_owner, with_owner, other_at, add_owner, add_names};
 
-/// The interfaces that declare a name.
+/// Which interfaces declare a name, of those that were added in a round.
 #[derive(Clone, Copy)]
-enum Owner {
-    Nobody,
-    One(usize),
-    Several,
+pub struct Owner {
+    pub round: usize,
+    /// The first of them.
+    pub number: usize,
+    /// Whether there are others.
+    pub several: bool,
 }
 
-/// The interfaces that declare each name, as far as they were added since the owners were cleared.
-#[derive(Drop)]
-pub struct Owners {
-    owners: Vec<Owner>,
-    named: Vec<usize>,
+impl Owner {
+    /// Whether another interface than this one declares the name.
+    fn has_other(self, round: usize, number: usize) -> bool
+        ensures { result ≡ has_other_owner self round number }
+    {
+        self.round == round && (self.several || self.number != number)
+    }
+
+    /// The same with an interface that declares the name.
+    fn with(self, round: usize, number: usize) -> Owner
+        ensures { result ≡ with_owner self round number }
+    {
+        if self.round != round {
+            return Owner {
+                round,
+                number,
+                several: false,
+            };
+        }
+        Owner {
+            round,
+            number: self.number,
+            several: self.several || self.number != number,
+        }
+    }
 }
 
-impl Owners {
-    pub fn new(alloc: Global, bound: usize) -> Result<Owners, OutOfMemory> {
-        Ok(Owners {
-            owners: vec![in alloc; Owner::Nobody; bound]?,
-            named: Vec::new(alloc),
-        })
-    }
-
-    /// No name has an owner.
-    pub fn clear(&mut self) {
-        for name in self.named.iter() {
-            self.owners[*name] = Owner::Nobody;
-        }
-        self.named.clear();
-    }
-
-    /// Whether another interface than this one declares a name.
-    pub fn has_other(&self, name: usize, number: usize) -> bool {
-        match self.owners[name] {
-            Owner::Nobody => false,
-            Owner::One(owner) => owner != number,
-            Owner::Several => true,
+/// Whether another interface than this one declares one of the names.
+pub fn any_other(owners: &[Owner], round: usize, names: &[usize], number: usize) -> bool
+    requires { AllByRecursion (λ x. x < length owners.now) names.now }
+    ensures { result ≡ list_any (λ x. other_at owners.now round x number) names.now }
+{
+    'names: for name in names {
+        if owners[*name].has_other(round, number) {
+            return true;
         }
     }
+    false
+}
 
-    /// Adds an interface that declares a name.
-    pub fn add(&mut self, name: usize, number: usize) -> Result<(), OutOfMemory> {
-        match self.owners[name] {
-            Owner::Nobody => {
-                self.named.push(name)?;
-                self.owners[name] = Owner::One(number);
-            }
-            Owner::One(owner) if owner != number => self.owners[name] = Owner::Several,
-            _ => {}
-        }
-        Ok(())
+/// Adds an interface that declares these names.
+pub fn add(owners: &mut [Owner], round: usize, names: &[usize], number: usize)
+    requires { AllByRecursion (λ x. x < length owners.old) names.now }
+    ensures { owners.new ≡ add_names round number owners.old names.now }
+{
+    'names: for name in names {
+        owners[*name] = owners[*name].with(round, number);
     }
 }

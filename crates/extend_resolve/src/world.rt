@@ -1,19 +1,23 @@
-//! The interfaces of a set by their numbers.
+//! The interfaces that a judgement looks at, by their numbers.
 
-ghost use Rattle.std.specs.Prelude.{◌≡◌, ◌++◌, map, IfOk, OnOk};
-ghost use Rattle.std.specs.Option.{option_or};
-ghost use Rattle.std.specs.List.{filter_map};
-ghost use Rattle.dtmi_name.specs.Grammar.{Identifier};
+ghost use Rattle.std.specs.Prelude.{◌≡◌, ◌↔◌, true, map, None, IfOk};
+ghost use Rattle.std.specs.Option.{is_some};
+ghost use Rattle.std.specs.List.{filter_map, AllByRecursion, list_any};
+ghost use Rattle.dtdl_terms.specs.Sets.{interface_at};
 ghost use Rattle.extend_resolve.specs.SetRules.{together};
-ghost use Rattle.extend_resolve.specs.Machinery.Numbers.{number_at, kept_at, number_for};
+ghost use Rattle.extend_resolve.specs.Machinery.Numbers.{kept_at};
+ghost use Rattle.extend_resolve.specs.Machinery.Gathering.{component_id};
+ghost use Rattle.extend_resolve.specs.Machinery.Worlds.{IsWorld};
 
+use crate::gathering::gather;
 use dt_base::{List, OutOfMemory};
 use dtdl_terms::{ContentKind, Interface, ModelSet, Uploaded};
 use dtmi_name::Dtmi;
 use std::alloc::Global;
 use std::collections::BTreeMap;
 
-/// A set of interfaces, each with its number: those of the old set in their order, and then the new ones.
+/// The interfaces that a judgement looks at, each with its number: the new ones in their order, and then those of the
+/// old set that they lead to.
 #[derive(Drop)]
 pub struct World<'a> {
     pub nodes: Vec<&'a Interface>,
@@ -26,18 +30,19 @@ pub struct World<'a> {
 }
 
 impl<'a> World<'a> {
+    /// The world of new interfaces beside a set.
     pub fn new(
         alloc: Global,
         set: &'a ModelSet,
         new: &'a [Uploaded],
-    ) -> Result<World<'a>, OutOfMemory> {
-        let nodes = nodes_of(alloc, set, new)?;
-        let numbers = numbers_of(alloc, nodes.as_slice())?;
+    ) -> Result<World<'a>, OutOfMemory>
+        requires apart { AllByRecursion (λ u. interface_at u.interface.id set.now ≡ None) new.now }
+        ensures { IfOk result (λ w. IsWorld (together set.now new.now) (map (λ u. u.interface) new.now) (map (λ n. n.now) w.nodes.items) w.numbers.entries w.links.items w.composed.items) }
+    {
+        let mut numbers = BTreeMap::new(alloc);
+        let nodes = gather(alloc, set, new, &mut numbers)?;
         let links = all_links_of(alloc, nodes.as_slice(), &numbers)?;
-        let mut composed = Vec::with_capacity(alloc, nodes.len())?;
-        for node in nodes.iter() {
-            composed.push(declares_component(node))?;
-        }
+        let composed = all_composed_of(alloc, nodes.as_slice())?;
         Ok(World {
             nodes,
             numbers,
@@ -47,50 +52,14 @@ impl<'a> World<'a> {
     }
 
     /// The number of the interface that stands for an identifier.
-    pub fn number(&self, id: &Dtmi) -> Option<usize> {
+    pub fn number(&self, id: &Dtmi) -> Option<usize>
+        ensures { result ≡ kept_at id.now self.now.numbers.entries }
+    {
         match self.numbers.get(id) {
             Some(number) => Some(*number),
             None => None,
         }
     }
-
-    pub fn len(&self) -> usize {
-        self.nodes.len()
-    }
-}
-
-/// The interfaces of the old set and then the new ones.
-fn nodes_of<'a>(
-    alloc: Global,
-    set: &'a ModelSet,
-    new: &'a [Uploaded],
-) -> Result<Vec<&'a Interface>, OutOfMemory>
-    ensures { IfOk result (λ nodes. map (λ n. n.now) nodes.items ≡ together set.now new.now) }
-{
-    let mut nodes = Vec::new(alloc);
-    push_old(&mut nodes, set)?;
-    push_new(&mut nodes, new)?;
-    Ok(nodes)
-}
-
-/// Adds the interfaces of a set.
-fn push_old<'a>(nodes: &mut Vec<&'a Interface>, set: &'a ModelSet) -> Result<(), OutOfMemory>
-    ensures { OnOk result (map (λ n. n.now) nodes.new.items ≡ map (λ n. n.now) nodes.old.items ++ set.now) }
-{
-    'old: for (_, interface) in set.entries() {
-        nodes.push(interface)?;
-    }
-    Ok(())
-}
-
-/// Adds the new interfaces.
-fn push_new<'a>(nodes: &mut Vec<&'a Interface>, new: &'a [Uploaded]) -> Result<(), OutOfMemory>
-    ensures { OnOk result (map (λ n. n.now) nodes.new.items ≡ map (λ n. n.now) nodes.old.items ++ map (λ u. u.interface) new.now) }
-{
-    'new: for uploaded in new {
-        nodes.push(&uploaded.interface)?;
-    }
-    Ok(())
 }
 
 /// The links of each interface.
@@ -106,37 +75,6 @@ fn all_links_of(
         links.push(links_of(alloc, node, numbers)?)?;
     }
     Ok(links)
-}
-
-/// The number of the first interface with each identifier.
-fn numbers_of(
-    alloc: Global,
-    nodes: &[&Interface],
-) -> Result<BTreeMap<Dtmi, usize>, OutOfMemory>
-    ensures { IfOk result (λ numbers. (id : Identifier) → kept_at id numbers.entries ≡ number_at id (map (λ n. n.now) nodes.now)) }
-{
-    let mut numbers = BTreeMap::new(alloc);
-    'nodes: for (number, node) in nodes.iter().enumerate() {
-        enter(alloc, &mut numbers, &node.id, number)?;
-    }
-    Ok(numbers)
-}
-
-/// Gives an identifier a number, where it has none.
-fn enter(
-    alloc: Global,
-    numbers: &mut BTreeMap<Dtmi, usize>,
-    id: &Dtmi,
-    number: usize,
-) -> Result<(), OutOfMemory>
-    ensures { OnOk result ((q : Identifier) → kept_at q numbers.new.entries ≡ option_or (kept_at q numbers.old.entries) (number_for id.now number q)) }
-{
-    if numbers.contains_key(id) {
-        return Ok(());
-    }
-    let key = id.copy(alloc)?;
-    numbers.insert(key, number)?;
-    Ok(())
 }
 
 /// The numbers of the parents that are there.
@@ -156,10 +94,23 @@ fn links_of(
     Ok(List::from_vec(links))
 }
 
+/// Whether each interface declares a component.
+fn all_composed_of(alloc: Global, nodes: &[&Interface]) -> Result<Vec<bool>, OutOfMemory>
+    ensures { IfOk result (λ composed. composed.items ≡ map (λ n. list_any (λ c. is_some (component_id c)) n.now.contents) nodes.now) }
+{
+    let mut composed = Vec::with_capacity(alloc, nodes.len())?;
+    'nodes: for node in nodes {
+        composed.push(declares_component(node))?;
+    }
+    Ok(composed)
+}
+
 /// Whether an interface declares a component.
-fn declares_component(node: &Interface) -> bool {
-    for content in node.contents.as_slice() {
-        if let ContentKind::Component { .. } = content.kind {
+fn declares_component(node: &Interface) -> bool
+    ensures { result ≡ list_any (λ c. is_some (component_id c)) node.now.contents }
+{
+    'contents: for content in node.contents.as_slice() {
+        if let ContentKind::Component { .. } = &content.kind {
             return true;
         }
     }
