@@ -1,3 +1,15 @@
 pub mod Ancestors
 pub mod FirstBreaches
 pub mod Within
+pub mod Opening
+pub mod Numbers
+pub mod Members
+pub mod Owning
+pub mod Firsts
+pub mod Worlds
+pub mod Gathered
+pub mod Deepening
+pub mod Judged
+pub mod Crowds
+pub mod Judging
+pub mod Naming

@@ -17,23 +17,23 @@ use Rattle.extend_resolve.specs.Machinery.Within.{passes, reaches_within, any_wi
 
 -- ---- elements by their positions
 module _ {X : Type 0} where
-  placed_from_contained : (xs : List X) (x : X) (k : ℕ) → k < length xs → slice_index_or xs k x ≡ x → slice_get xs k ≡ Some x
+  pub placed_from_contained : (xs : List X) (x : X) (k : ℕ) → k < length xs → slice_index_or xs k x ≡ x → slice_get xs k ≡ Some x
   placed_from_contained [] x k low is = absurd (omega (arith, low))
   placed_from_contained (y ∷ ys) x zero low is = ap Some is
   placed_from_contained (y ∷ ys) x (suc k) low is = placed_from_contained ys x k (omega (arith, low)) is
 
-  contained_from_placed : (xs : List X) (x : X) (k : ℕ) → slice_get xs k ≡ Some x → (k < length xs) × (slice_index_or xs k x ≡ x)
+  pub contained_from_placed : (xs : List X) (x : X) (k : ℕ) → slice_get xs k ≡ Some x → (k < length xs) × (slice_index_or xs k x ≡ x)
   contained_from_placed [] x k is = absurd (none-some x is)
   contained_from_placed (y ∷ ys) x zero is = (omega arith, same_Some y x is)
   contained_from_placed (y ∷ ys) x (suc k) is = let more = contained_from_placed ys x k is in (omega (arith, more.0), more.1)
 
-  any_from_placed : (p : X → Bool) (xs : List X) (k : ℕ) (x : X) → slice_get xs k ≡ Some x → p x ≡ true → list_any p xs ≡ true
+  pub any_from_placed : (p : X → Bool) (xs : List X) (k : ℕ) (x : X) → slice_get xs k ≡ Some x → p x ≡ true → list_any p xs ≡ true
   any_from_placed p [] k x is holds = absurd (none-some x is)
   any_from_placed p (y ∷ ys) zero x is holds = ap (λ b. b || list_any p ys) (ap p (same_Some y x is) ∙ holds)
   any_from_placed p (y ∷ ys) (suc k) x is holds =
       elim (p y) as (λ b. (b || list_any p ys) ≡ true) [ true ↦ refl | false ↦ any_from_placed p ys k x is holds ]
 
-  placed_from_any : (p : X → Bool) (xs : List X) → list_any p xs ≡ true → (k : ℕ) × (x : X) × (slice_get xs k ≡ Some x) × (p x ≡ true)
+  pub placed_from_any : (p : X → Bool) (xs : List X) → list_any p xs ≡ true → (k : ℕ) × (x : X) × (slice_get xs k ≡ Some x) × (p x ≡ true)
   placed_from_any p [] some = absurd (true≢false (sym some))
   placed_from_any p (y ∷ ys) some =
       elim (p y) as (λ b. p y ≡ b → (b || list_any p ys) ≡ true → (k : ℕ) × (x : X) × (slice_get (y ∷ ys) k ≡ Some x) × (p x ≡ true)) [
@@ -99,7 +99,7 @@ module _ (set : List Interface) (id : Identifier) where
       or_right (id_eq i.id id) (any_within set id n i.parents) (any_from_placed (λ q. passes (reaches_within set id n) (interface_at q set)) i.parents k p (placed_from_contained i.parents p k low is) holds)
 
 -- ---- ten steps are enough
-at_most : (m n : ℕ) → (n ≤ m) ⊎ (suc m ≤ n)
+pub at_most : (m n : ℕ) → (n ≤ m) ⊎ (suc m ≤ n)
 at_most m zero = inl (omega arith)
 at_most zero (suc n) = inr (omega arith)
 at_most (suc m) (suc n) =

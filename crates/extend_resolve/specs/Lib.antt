@@ -1,6 +1,5 @@
 pub mod Chains
 pub mod SetRules
 pub mod Breaches
-pub mod Resolving
 -- What proofs alone rest on: no public contract speaks of it.
 pub mod Machinery

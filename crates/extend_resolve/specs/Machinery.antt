@@ -1,1 +1,10 @@
 pub mod Within
+pub mod Links
+pub mod Numbers
+pub mod Worlds
+pub mod Gathering
+pub mod Deepening
+pub mod Names
+pub mod Owners
+pub mod Firsts
+pub mod Judges

@@ -4,9 +4,17 @@
 
 mod ancestry;
 mod check;
+mod closure;
+mod depths;
 mod end;
+mod first;
+mod gathering;
+mod judge;
 mod laws;
+mod names;
+mod owners;
 mod rule;
+mod world;
 
 pub use ancestry::is_a;
 pub use check::check_set;

@@ -1,0 +1,9 @@
+use Rattle.std.proofs.Common.{◌≡◌, map, drop}
+use Rattle.extend_resolve.specs.Machinery.Gathering.{AreNumbered, with_components}
+use Rattle.extend_resolve.proofs.gathering.add_all_components.Given as goal
+
+abbrev pub invariant-new : goal.invariant-new
+invariant-new l = record {
+  numbered : AreNumbered l.numbers.entries (map (λ n. n.now) l.nodes.items);
+  nodes : with_components l.set (map (λ n. n.now) l.nodes.items) (map (λ u. u.interface) (drop l.uploaded-index l.new)) ≡ with_components l.set (map (λ n. n.now) l.fn.nodes.items) (map (λ u. u.interface) l.new);
+}

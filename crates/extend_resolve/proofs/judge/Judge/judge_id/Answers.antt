@@ -1,0 +1,9 @@
+use Rattle.std.proofs.Common.{ap, ◌∙◌}
+use Rattle.extend_resolve.specs.Machinery.Judges.{is_other_than}
+use Rattle.extend_resolve.proofs.Judging.{id_least}
+use Rattle.extend_resolve.proofs.judge.Judge.judge_id.Goals as goal
+
+pub returns : goal.returns
+returns c =
+    id_least c.args.self.now c.args.index c.args.uploaded.now c.requires c.is_other-repeated.result c.found_where.result
+    (c.is_other-repeated.ensures ∙ ap (is_other_than c.args.index) c.number.ensures) c.found_where.ensures
