@@ -12,8 +12,8 @@ ghost use Rattle.extend_resolve.specs.Machinery.Within.{passes, reaches_within, 
 use dtdl_terms::{Interface, ModelSet};
 use dtmi_name::Dtmi;
 
-/// The most steps of a chain of extension.
-const MOST_STEPS: u32 = 10;
+/// The most steps of a chain of extension in a set that breaks no rule (this project's own).
+pub const MOST_STEPS: u32 = 10;
 
 /// Whether an interface of a set that breaks no rule has an ancestor with an identifier (DTDL v2, "Interface", the
 /// property `extends`); it is its own ancestor. Takes no memory.

@@ -16,7 +16,7 @@ mod owners;
 mod rule;
 mod world;
 
-pub use ancestry::is_a;
+pub use ancestry::{MOST_STEPS, is_a};
 pub use check::check_set;
 pub use end::SetEnd;
 pub use laws::{ancestors_of_ancestors, one_first_breach};

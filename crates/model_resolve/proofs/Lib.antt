@@ -1,0 +1,7 @@
+pub mod ByKey
+pub mod Families
+pub mod Declared
+pub mod Assembly
+pub mod OneResolved
+pub mod Tables
+pub mod Changes
