@@ -1,5 +1,5 @@
 //! The grammar of queries: which tokens are a query and what it asks for, and what may follow in each state of a reader
-//! that takes one token at a time. The reader is not built yet.
+//! that takes one token at a time. `query_steps` and `query_parse` are that reader.
 #![tactic(auto)]
 
 mod laws;
