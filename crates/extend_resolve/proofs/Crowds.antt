@@ -42,9 +42,9 @@ module _ (g : ℕ → ℕ) where
       elim (nat_eq y z) as (λ b. nat_eq y z ≡ b → IsIn x (cond b zs (z ∷ drop_one y zs))) [
         | true ↦ λ e. elim (in_cons z x zs h) [ inl same ↦ absurd (apart (same ∙ sym (equal_numbers y z e))) | inr t ↦ t ]
         | false ↦ λ e. elim (in_cons z x zs h) [
-            | inl same ↦ subst (λ k. IsIn k (z ∷ drop_one y zs)) (sym same) (in_head z (drop_one y zs))
-            | inr t ↦ in_tail z x (drop_one y zs) (drop_in x y zs t apart)
-          ]
+          | inl same ↦ subst (λ k. IsIn k (z ∷ drop_one y zs)) (sym same) (in_head z (drop_one y zs))
+          | inr t ↦ in_tail z x (drop_one y zs) (drop_in x y zs t apart)
+        ]
       ] refl
 
   all_dropped : (y : ℕ) (xs zs : List ℕ) → AllByRecursion (λ x. IsIn x zs) xs → AllByRecursion (λ x. y ≢ x) xs → AllByRecursion (λ x. IsIn x (drop_one y zs)) xs
@@ -92,11 +92,12 @@ module _ (set new nodes : List Interface) (numbers : List (Identifier × ℕ)) (
   apart_from : (a : Interface) (y : ℕ) (ys : List ℕ) (bs : List Interface) → kept_at a.id numbers ≡ Some y → AllByRecursion (λ z. nat_eq y z ≡ false) ys
       → AllByRecursion (Stands ys) bs → AllByRecursion (λ t. text_of a ≢ t) (map text_of bs)
   apart_from a y ys [] at others all = tt
-  apart_from a y ys (b ∷ bs) at others all =
-      (λ same.
+  apart_from a y ys (b ∷ bs) at others all = (
+    λ same.
         let z : y ≡ all.0.1.0 = same_Some y all.0.1.0 (sym at ∙ kept_by_text a.id b.id numbers same ∙ all.0.1.2) in
         true≢false (sym (same_number y all.0.1.0 z) ∙ one_of (λ k. nat_eq y k ≡ false) ys all.0.1.0 others all.0.1.1),
-      apart_from a y ys bs at others all.1)
+    apart_from a y ys bs at others all.1,
+  )
 
   abbrev Picked : List ℕ → Type 0
   Picked ys = (bs : List Interface) × AllByRecursion (Stands ys) bs × AreDistinct (map text_of bs) × (sum (map size_of bs) ≡ sum_by of_rest ys)
@@ -109,16 +110,19 @@ module _ (set new nodes : List Interface) (numbers : List (Identifier × ℕ)) (
       let more = pick ys distinct.1 (λ z h. all z (in_tail y z ys h)) in
       let found : (bs : List Interface) × AllByRecursion (Stands (y ∷ ys)) bs × AreDistinct (map text_of bs) × (sum (map size_of bs) ≡ of_rest y + sum_by of_rest ys) =
       elim (not (nat_eq y index) && not (nat_eq y own)) as (λ b. (not (nat_eq y index) && not (nat_eq y own)) ≡ b
-          → (bs : List Interface) × AllByRecursion (Stands (y ∷ ys)) bs × AreDistinct (map text_of bs) × (sum (map size_of bs) ≡ cond b (counts (slice_get nodes y)) 0 + sum_by of_rest ys)) [
+      → (bs : List Interface) × AllByRecursion (Stands (y ∷ ys)) bs × AreDistinct (map text_of bs) × (sum (map size_of bs) ≡ cond b (counts (slice_get nodes y)) 0 + sum_by of_rest ys)) [
         | true ↦ λ e.
             let other = and_parts (not (nat_eq y index)) (not (nat_eq y own)) e in
             let arrives = all y (in_head y ys) in
             let up = arrives_ancestor w index y i here arrives in
             let at : kept_at up.0.id numbers ≡ Some y = kept_reached set new nodes numbers links composed w index y i up.0 here arrives (differs y index other.0) up.1 in
             let size : counts (slice_get nodes y) ≡ size_of up.0 = ap counts up.1 in
-            let sums = more.3 in
-            (up.0 ∷ more.0, ((up.2, (y, in_head y ys, at, differs y own other.1)), stands_more y ys more.0 more.1),
-              (apart_from up.0 y ys more.0 at distinct.0 more.1, more.2), sum_by-cons (λ x. x) (size_of up.0) (map size_of more.0) ∙ (let e : size_of up.0 + sum (map size_of more.0) ≡ counts (slice_get nodes y) + sum_by of_rest ys = omega (arith, sums, size) in e))
+            let sums = more.3 in (
+              up.0 ∷ more.0,
+              ((up.2, (y, in_head y ys, at, differs y own other.1)), stands_more y ys more.0 more.1),
+              (apart_from up.0 y ys more.0 at distinct.0 more.1, more.2),
+              sum_by-cons (λ x. x) (size_of up.0) (map size_of more.0) ∙ (let e : size_of up.0 + sum (map size_of more.0) ≡ counts (slice_get nodes y) + sum_by of_rest ys = omega (arith, sums, size) in e),
+            )
         | false ↦ λ e. let sums = more.3 in (more.0, stands_more y ys more.0 more.1, more.2, omega (arith, sums))
       ] refl in
       (found.0, found.1, found.2, found.3 ∙ sym whole)
@@ -147,9 +151,10 @@ module _ (set new nodes : List Interface) (numbers : List (Identifier × ℕ)) (
 
   number_apart : (y : ℕ) (a : Interface) (bs : List Interface) (ys : List ℕ) → slice_get nodes y ≡ Some a → AllByRecursion (λ s. text_of a ≢ s) (map text_of bs) → AllByRecursion (Numbered bs) ys → AllByRecursion (λ z. y ≢ z) ys
   number_apart y a bs [] at apart all = tt
-  number_apart y a bs (z ∷ zs) at apart all =
-      (λ same. text_apart (text_of a) bs all.0.1 all.0.0 apart all.0.3 (ap text_of (same_Some a all.0.0 (sym at ∙ ap (slice_get nodes) same ∙ all.0.2))),
-      number_apart y a bs zs at apart all.1)
+  number_apart y a bs (z ∷ zs) at apart all = (
+    λ same. text_apart (text_of a) bs all.0.1 all.0.0 apart all.0.3 (ap text_of (same_Some a all.0.0 (sym at ∙ ap (slice_get nodes) same ∙ all.0.2))),
+    number_apart y a bs zs at apart all.1,
+  )
 
   abbrev Counted : List ℕ → List Interface → Type 0
   Counted found bs = (ys : List ℕ) × AreDistinct ys × AllByRecursion (λ y. IsIn y found) ys × AllByRecursion (Numbered bs) ys × (sum_by of_rest ys ≡ sum (map size_of bs))
@@ -163,17 +168,19 @@ module _ (set new nodes : List Interface) (numbers : List (Identifier × ℕ)) (
       let not_index : at.0 ≢ index = λ e. others.0 (ap text_of (same_Some i b (sym here ∙ sym (ap (slice_get nodes) e) ∙ at.2))) in
       let not_own : at.0 ≢ own = λ e. others.0 (sym z.2 ∙ ap text_of (same_Some z.0 b (sym z.1 ∙ sym (ap (slice_get nodes) e) ∙ at.2))) in
       let rest : (not (nat_eq at.0 index) && not (nat_eq at.0 own)) ≡ true =
-          and_both (not (nat_eq at.0 index)) (not (nat_eq at.0 own)) (ap not (other_number at.0 index not_index)) (ap not (other_number at.0 own not_own)) in
+      and_both (not (nat_eq at.0 index)) (not (nat_eq at.0 own)) (ap not (other_number at.0 index not_index)) (ap not (other_number at.0 own not_own)) in
       let size : of_rest at.0 ≡ size_of b = ap (λ t. cond t (counts (slice_get nodes at.0)) 0) rest ∙ ap counts at.2 in
-      let sums = more.4 in
-      (at.0 ∷ more.0, (number_apart at.0 b bs more.0 at.2 distinct.0 more.3, more.1), ((behind.each at.0).1 at.1, more.2),
+      let sums = more.4 in (
+        at.0 ∷ more.0,
+        (number_apart at.0 b bs more.0 at.2 distinct.0 more.3, more.1),
+        ((behind.each at.0).1 at.1, more.2),
         ((b, zero, at.2, refl), numbered_more b bs more.0 more.3),
-        (let e : of_rest at.0 + sum_by of_rest more.0 ≡ size_of b + sum (map size_of bs) = omega (arith, size, sums) in sum_by-cons of_rest at.0 more.0 ∙ e ∙ sym (sum_by-cons (λ x. x) (size_of b) (map size_of bs))))
+        (let e : of_rest at.0 + sum_by of_rest more.0 ≡ size_of b + sum (map size_of bs) = omega (arith, size, sums) in sum_by-cons of_rest at.0 more.0 ∙ e ∙ sym (sum_by-cons (λ x. x) (size_of b) (map size_of bs))),
+      )
 
   pub crowd_tells : (found : List ℕ) → AreBehind links index found → (3000 < counted nodes index (kept_at i.id numbers) found + length i.contents) ↔ HasTooManyContents set i
   crowd_tells found behind =
-      let same : counted nodes index (kept_at i.id numbers) found ≡ sum_by of_rest found = ap (λ o. counted nodes index o found) kept in
-      (
+      let same : counted nodes index (kept_at i.id numbers) found ≡ sum_by of_rest found = ap (λ o. counted nodes index o found) kept in (
         λ over.
             let p = pick found behind.distinct (λ y h. (behind.each y).0 h) in
             let sums = p.3 in

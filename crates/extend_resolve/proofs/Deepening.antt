@@ -106,7 +106,7 @@ module _ (child : ℕ) where
       elim (nat_eq y z) as (λ b. nat_eq y z ≡ b → (b || list_any (nat_eq y) zs) ≡ true → IsIn child (links_at (with_child (with_one children z) child zs) y)) [
         | true ↦ λ e _.
             let put : IsIn child (links_at (with_one children z) z) =
-                subst (IsIn child) (sym (get_or-set_same children z (links_at children z ++ child ∷ []) [] low.0)) (in_last child (links_at children z)) in
+            subst (IsIn child) (sym (get_or-set_same children z (links_at children z ++ child ∷ []) [] low.0)) (in_last child (links_at children z)) in
             child_still (with_one children z) zs y child (low_still children z zs low.1) (subst (λ n. IsIn child (links_at (with_one children z) n)) (sym (equal_numbers y z e)) put)
         | false ↦ λ _ h. child_there (with_one children z) zs y (low_still children z zs low.1) h
       ] refl here
@@ -297,8 +297,7 @@ module _ (links : List (List ℕ)) where
           elim (set_cases depths x (Some m) None inside z) [
             | inl s ↦
                 let same : m ≡ d = same_Some m d (sym s.1 ∙ is) in
-                let small : m < length ended + 1 = fresh x m top.reached in
-                (
+                let small : m < length ended + 1 = fresh x m top.reached in (
                   subst (λ n. DepthAt links n (Some d)) (sym s.0) (subst (λ n. DepthAt links x (Some n)) same depth),
                   omega (arith, same, small, longer),
                   subst (λ n. IsIn n (ended ++ x ∷ [])) (sym s.0) (in_last x ended),
@@ -365,7 +364,7 @@ module _ (links : List (List ℕ)) where
   all_tried_more first before now xs k x low is grown grows all one =
       let step : take (k + 1) xs ≡ take k xs ++ x ∷ [] = take_more xs k 0 low ∙ ap (λ y. take k xs ++ y ∷ []) (sym is) in
       let old : AllByRecursion (IsTried links first now) (take k xs) =
-          all_map (IsTried links first before) (IsTried links first now) (take k xs) (λ y h. tried_later first before now y grows h) all in
+      all_map (IsTried links first before) (IsTried links first now) (take k xs) (λ y h. tried_later first before now y grows h) all in
       subst (AllByRecursion (IsTried links first now)) (sym step) (all_push (IsTried links first now) (take k xs) x old (tried_sooner first before now x grown one))
 
   -- one more of all numbers

@@ -57,14 +57,20 @@ module _ (u : Uploaded) where
   earlier_least P Q (Some f) None la lb = (inl la.0, λ r s h. elim h [ inl p ↦ la.1 r s p | inr q ↦ absurd (lb r s q) ])
   earlier_least P Q (Some f) (Some g) la lb =
       elim (is_gt (found_cmp u f g)) as (λ b. is_gt (found_cmp u f g) ≡ b → IsLeast u (λ r s. P r s ⊎ Q r s) (cond b (Some g) (Some f))) [
-        | true ↦ λ e. (inr lb.0, λ r s h. elim h [
+        | true ↦ λ e. (
+          inr lb.0,
+          λ r s h. elim h [
             | inl p ↦ chain g f (at r s) (turned f g (gt_greater (found_cmp u f g) e)) (la.1 r s p)
             | inr q ↦ lb.1 r s q
-          ])
-        | false ↦ λ e. (inl la.0, λ r s h. elim h [
+          ],
+        )
+        | false ↦ λ e. (
+          inl la.0,
+          λ r s h. elim h [
             | inl p ↦ la.1 r s p
             | inr q ↦ chain f g (at r s) (not_greater (found_cmp u f g) e) (lb.1 r s q)
-          ])
+          ],
+        )
       ] refl
 
   same_place : (s : Spot) → slice_cmp nat_cmp (place_in u s) (place_in u s) ≡ Equal

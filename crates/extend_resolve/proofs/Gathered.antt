@@ -212,7 +212,7 @@ module _ (set : List Interface) where
             | Some i ↦ λ f.
                 let text : dtmi_text p ≡ dtmi_text i.id = found_text p set i f in
                 let apart : list_any (have_one_id i.id) (map (λ j. j.id) g.more) ≡ false =
-                    any_text i.id p (map (λ j. j.id) g.more) (sym text) ∙ place_behind p 0 new g.more (ap (λ xs. is_some (number_at p xs)) (sym g.split) ∙ e) in
+                any_text i.id p (map (λ j. j.id) g.more) (sym text) ∙ place_behind p 0 new g.more (ap (λ xs. is_some (number_at p xs)) (sym g.split) ∙ e) in
                 record {
                   more = g.more ++ i ∷ [];
                   split = ap (λ xs. xs ++ i ∷ []) g.split ∙ append_assoc new g.more (i ∷ []);
@@ -249,9 +249,9 @@ module _ (set : List Interface) where
         let next : List Interface = with_ids set nodes i.parents in
         let more = with_ids_more nodes i.parents in
         let parents : HaveParents set next (take (suc at) (nodes ++ more.0)) =
-            all_take_more (λ j. AreThere set next j.parents) nodes more.0 at i here
-            (all_weaker (λ j. AreThere set nodes j.parents) (λ j. AreThere set next j.parents) (take at nodes) (λ j h. still_there nodes i.parents j.parents h) g.parents)
-            (all_there nodes i.parents) in
+        all_take_more (λ j. AreThere set next j.parents) nodes more.0 at i here
+        (all_weaker (λ j. AreThere set nodes j.parents) (λ j. AreThere set next j.parents) (take at nodes) (λ j h. still_there nodes i.parents j.parents h) g.parents)
+        (all_there nodes i.parents) in
         record {
           gathering = gathering_more nodes i.parents g.gathering;
           components = all_weaker (λ j. AreThere set nodes (component_ids j)) (λ j. AreThere set next (component_ids j)) new (λ j h. still_there nodes i.parents (component_ids j) h) g.components;
@@ -263,8 +263,7 @@ module _ (set : List Interface) where
     gathered_step nodes at i here g =
         let next : suc at ≡ at + 1 = omega arith in
         let more = with_ids_more nodes i.parents in
-        let grows : length nodes ≤ length (nodes ++ more.0) = omega (arith, length-append nodes more.0) in
-        (
+        let grows : length nodes ≤ length (nodes ++ more.0) = omega (arith, length-append nodes more.0) in (
           subst (IsGathered set new (with_ids set nodes i.parents)) next (gathered_suc nodes at i here g),
           subst (λ xs. length nodes ≤ length xs) (sym more.1) grows,
         )
@@ -330,7 +329,7 @@ module _ (old new nodes : List Interface) (numbers : List (Identifier × ℕ))
   standing : (p : Identifier) (i : Interface) → interface_at p nodes ≡ Some i → interface_at p (old ++ new) ≡ Some i
   standing p i found =
       let both : option_or (interface_at p new) (interface_at p gathered.gathering.more) ≡ Some i =
-          sym (found_in_both p new gathered.gathering.more) ∙ ap (interface_at p) (sym split) ∙ found in
+      sym (found_in_both p new gathered.gathering.more) ∙ ap (interface_at p) (sym split) ∙ found in
       found_in_both p old new
       ∙ elim (interface_at p new) as (λ o. interface_at p new ≡ o → option_or o (interface_at p gathered.gathering.more) ≡ Some i → option_or (interface_at p old) o ≡ Some i) [
         | Some j ↦ λ f h.
@@ -340,7 +339,7 @@ module _ (old new nodes : List Interface) (numbers : List (Identifier × ℕ))
         | None ↦ λ f h.
             let place = found_placed gathered.gathering.more p i h in
             let there : interface_at p old ≡ Some i =
-                at_text p i.id old (found_text p gathered.gathering.more i h) ∙ all_at (λ x. interface_at x.id old ≡ Some x) gathered.gathering.more place.0 i gathered.gathering.there place.1 in
+            at_text p i.id old (found_text p gathered.gathering.more i h) ∙ all_at (λ x. interface_at x.id old ≡ Some x) gathered.gathering.more place.0 i gathered.gathering.there place.1 in
             ap (λ o. option_or o None) there
       ] refl both
 
@@ -396,8 +395,8 @@ module _ (old new nodes : List Interface) (numbers : List (Identifier × ℕ))
     composes_length = ap length composes ∙ length-map nodes (λ i. list_any (λ c. is_some (component_id c)) i.contents);
     composes = λ k i at.
         let read : get_or composed k false ≡ list_any (λ c. is_some (component_id c)) i.contents =
-            ap (λ cs. get_or cs k false) composes
-            ∙ get_or_from_slice_get (map (λ j. list_any (λ c. is_some (component_id c)) j.contents) nodes) k (list_any (λ c. is_some (component_id c)) i.contents) false
-            (slice_get-map (λ j. list_any (λ c. is_some (component_id c)) j.contents) nodes k ∙ ap (option_map (λ j. list_any (λ c. is_some (component_id c)) j.contents)) at) in
+        ap (λ cs. get_or cs k false) composes
+        ∙ get_or_from_slice_get (map (λ j. list_any (λ c. is_some (component_id c)) j.contents) nodes) k (list_any (λ c. is_some (component_id c)) i.contents) false
+        (slice_get-map (λ j. list_any (λ c. is_some (component_id c)) j.contents) nodes k ∙ ap (option_map (λ j. list_any (λ c. is_some (component_id c)) j.contents)) at) in
         (λ h. composes_from i (sym read ∙ h), λ d. read ∙ composes_to i d);
   }

@@ -127,8 +127,7 @@ module _ (set new nodes : List Interface) (numbers : List (Identifier × ℕ)) (
     pub cycle_tells : (k : ℕ) (reached : List ℕ) → IsReached numbers links i k reached → (is_one_of reached (kept_at i.id numbers) ≡ true) ↔ IsInCycle set i k
     cycle_tells k reached r =
         let own = own_number index i here in
-        let s = w.stands r.id r.number r.kept in
-        (
+        let s = w.stands r.id r.number r.kept in (
           λ h.
               let up = arrives_ancestor w r.number own.0 s.0 s.1 ((r.each own.0).0 (among_own reached own.0 own.1 h)) in
               let z = own_stands i own.0 own.1 in
@@ -160,8 +159,7 @@ module _ (set new nodes : List Interface) (numbers : List (Identifier × ℕ)) (
 
     pub component_tells : (k : ℕ) (p : Identifier) (x : ℕ) → NamesComponent i k p → kept_at p numbers ≡ Some x → ReachesComponent links composed x ↔ HasComponentInComponent set i k
     component_tells k p x named kept =
-        let s = w.stands p x kept in
-        (
+        let s = w.stands p x kept in (
           λ h. let up = arrives_ancestor w x h.0 s.0 s.1 h.1 in (s.0, up.0, (p, named, s.2), up.2, (w.composes h.0 up.0 up.1).0 h.2),
           λ c.
               let same : c.2.0 ≡ p = one_component k c.2.0 p c.2.1 named in
@@ -177,21 +175,25 @@ module _ (set new nodes : List Interface) (numbers : List (Identifier × ℕ)) (
         let tells = long_chain w depths told index i here in
         let own = own_number index i here in
         let back : Bool = not (nat_eq own.0 index) && list_any (nat_eq own.0) found in
-        let test : (is_other_than index (kept_at i.id numbers) && is_one_of found (kept_at i.id numbers)) ≡ back = ap (λ o. is_other_than index o && is_one_of found o) own.1 in
-        (
+        let test : (is_other_than index (kept_at i.id numbers) && is_one_of found (kept_at i.id numbers)) ≡ back = ap (λ o. is_other_than index o && is_one_of found o) own.1 in (
           λ h.
               let deep = deep_from (get_or depths index None) (and_left (is_over_most (get_or depths index None)) (not (is_other_than index (kept_at i.id numbers) && is_one_of found (kept_at i.id numbers))) h) in
               let away : back ≡ false = sym test ∙ turned_true (is_other_than index (kept_at i.id numbers) && is_one_of found (kept_at i.id numbers)) (and_right (is_over_most (get_or depths index None)) (not (is_other_than index (kept_at i.id numbers) && is_one_of found (kept_at i.id numbers))) h) in
-              tells.1 (deep.0, deep.1, deep.2, λ z kept other arrives.
-                true≢false (sym (both_true (not (nat_eq own.0 index)) (list_any (nat_eq own.0) found)
-                  (ap not (other_number own.0 index (subst (λ k. k ≡ index → ⊥) (same_Some z own.0 (sym kept ∙ own.1)) other)))
-                  ((behind.each own.0).1 (subst (Arrives links index) (same_Some z own.0 (sym kept ∙ own.1)) arrives))) ∙ away)),
+              tells.1 (
+                deep.0,
+                deep.1,
+                deep.2,
+                λ z kept other arrives.
+                    true≢false (sym (both_true (not (nat_eq own.0 index)) (list_any (nat_eq own.0) found)
+                    (ap not (other_number own.0 index (subst (λ k. k ≡ index → ⊥) (same_Some z own.0 (sym kept ∙ own.1)) other)))
+                    ((behind.each own.0).1 (subst (Arrives links index) (same_Some z own.0 (sym kept ∙ own.1)) arrives))) ∙ away),
+              ),
           λ c.
               let d = tells.0 c in
               both_true (is_over_most (get_or depths index None)) (not (is_other_than index (kept_at i.id numbers) && is_one_of found (kept_at i.id numbers)))
               (ap is_over_most d.1 ∙ over_ten d.0 d.2)
               (ap not (test ∙ never_both (not (nat_eq own.0 index)) (list_any (nat_eq own.0) found)
-                (λ other within. d.3 own.0 own.1 (λ e. true≢false (sym other ∙ ap not (same_number own.0 index e))) ((behind.each own.0).0 within)))),
+              (λ other within. d.3 own.0 own.1 (λ e. true≢false (sym other ∙ ap not (same_number own.0 index e))) ((behind.each own.0).0 within)))),
         )
 
     -- ---- names
@@ -226,8 +228,15 @@ module _ (set new nodes : List Interface) (numbers : List (Identifier × ℕ)) (
           let s = w.stands q y there in
           let up = arrives_ancestor w y p s.0 s.1 arrives in
           let d = in_declares p x up.0 up.1 declares in
-          inr (l, s.0, up.0, low, (q, named, s.2), (up.2, subst (Declares up.0) (n.apart d.0 name x d.2 known) d.1),
-            λ same. apart (same_Some p o (sym (reached_id q y p up.0 there arrives up.1) ∙ kept_same up.0.id a.id same ∙ kept)))
+          inr (
+            l,
+            s.0,
+            up.0,
+            low,
+            (q, named, s.2),
+            (up.2, subst (Declares up.0) (n.apart d.0 name x d.2 known) d.1),
+            λ same. apart (same_Some p o (sym (reached_id q y p up.0 there arrives up.1) ∙ kept_same up.0.id a.id same ∙ kept)),
+          )
 
       -- the number of what clashes with it
       clash_to : (k o x : ℕ) (a : Interface) (name : List ℕ) → slice_get nodes o ≡ Some a → n.number name ≡ Some x
@@ -235,20 +244,23 @@ module _ (set new nodes : List Interface) (numbers : List (Identifier × ℕ)) (
       clash_to k o x a name node known (inl (declares, other)) =
           let own = own_number index i here in
           let z = own_stands i own.0 own.1 in
-          let d = declares_in index i name here declares in
-          (own.0, inl (own.1, subst (λ v. IsIn v (links_at declared index)) (same_Some d.0 x (sym d.1 ∙ known)) d.2),
-            λ same. other (subst (λ (b : Interface). dtmi_text b.id ≡ dtmi_text i.id) (same_Some z.0 a (sym z.1 ∙ ap (slice_get nodes) same ∙ node)) z.2))
+          let d = declares_in index i name here declares in (
+            own.0,
+            inl (own.1, subst (λ v. IsIn v (links_at declared index)) (same_Some d.0 x (sym d.1 ∙ known)) d.2),
+            λ same. other (subst (λ (b : Interface). dtmi_text b.id ≡ dtmi_text i.id) (same_Some z.0 a (sym z.1 ∙ ap (slice_get nodes) same ∙ node)) z.2),
+          )
       clash_to k o x a name node known (inr (l, q, m, low, (p, named, found), (up, declares), other)) =
           let y = parent_number l p q named found in
           let at = ancestor_arrives w y.0 q m (stands_for p y.0 q y.1 found) up in
-          let d = declares_in at.0 m name at.2 declares in
-          (at.0, inr (l, low, (p, y.0, named, y.1, at.1), subst (λ v. IsIn v (links_at declared at.0)) (same_Some d.0 x (sym d.1 ∙ known)) d.2),
-            λ same. other (ap (λ (b : Interface). dtmi_text b.id) (same_Some m a (sym at.2 ∙ ap (slice_get nodes) same ∙ node))))
+          let d = declares_in at.0 m name at.2 declares in (
+            at.0,
+            inr (l, low, (p, y.0, named, y.1, at.1), subst (λ v. IsIn v (links_at declared at.0)) (same_Some d.0 x (sym d.1 ∙ known)) d.2),
+            λ same. other (ap (λ (b : Interface). dtmi_text b.id) (same_Some m a (sym at.2 ∙ ap (slice_get nodes) same ∙ node))),
+          )
 
       pub clash_tells : (k : ℕ) (reached : List ℕ) → IsReached numbers links i k reached → Clashing reached k ↔ HasNameClash set i k
       clash_tells k reached r =
-          let s = w.stands r.id r.number r.kept in
-          (
+          let s = w.stands r.id r.number r.kept in (
             λ h.
                 let arrives = (r.each h.0).0 h.3 in
                 let up = arrives_ancestor w r.number h.0 s.0 s.1 arrives in
@@ -271,18 +283,18 @@ module _ (set : List Interface) (news : List Uploaded) (nodes : List Interface) 
       let news_at : slice_get (map (λ v. v.interface) news) index ≡ Some i = mapped_at (λ (v : Uploaded). v.interface) news index u at in
       let here : slice_get nodes index ≡ Some i = w.begins index i news_at in
       let own = own_number set (map (λ v. v.interface) news) nodes numbers links composed w index i here in
-      let low : own.0 ≤ index = w.first i.id own.0 index i own.1 here refl in
-      (
+      let low : own.0 ≤ index = w.first i.id own.0 index i own.1 here refl in (
         λ h.
             let other : own.0 ≢ index = λ e. true≢false (sym (sym (ap (is_other_than index) own.1) ∙ h) ∙ ap not (same_number own.0 index e)) in
             let z = own_stands set (map (λ v. v.interface) news) nodes numbers links composed w i own.0 own.1 in
             let less : own.0 < index = omega (arith, low, other) in
             let within : own.0 < length news = let most = contained_at news u index at in omega (arith, less, most.0) in
             let v = placed_within news own.0 within in
-            let one : slice_get nodes own.0 ≡ Some v.0.interface = w.begins own.0 v.0.interface (mapped_at (λ (x : Uploaded). x.interface) news own.0 v.0 v.1) in
-            (v.0.interface,
+            let one : slice_get nodes own.0 ≡ Some v.0.interface = w.begins own.0 v.0.interface (mapped_at (λ (x : Uploaded). x.interface) news own.0 v.0 v.1) in (
+              v.0.interface,
               contains_placed (map (λ x. x.interface) (take index news)) v.0.interface own.0 (mapped_at (λ (x : Uploaded). x.interface) (take index news) own.0 v.0 (taken news index own.0 v.0 less v.1)),
-              subst (λ (x : Interface). dtmi_text x.id ≡ dtmi_text i.id) (same_Some z.0 v.0.interface (sym z.1 ∙ one)) z.2),
+              subst (λ (x : Interface). dtmi_text x.id ≡ dtmi_text i.id) (same_Some z.0 v.0.interface (sym z.1 ∙ one)) z.2,
+            ),
         λ (e, (k, within, is), same).
             let v = unmapped_at (λ (x : Uploaded). x.interface) (take index news) k e (placed_from_contained (map (λ x. x.interface) (take index news)) e k within is) in
             let earlier = untaken news index k v.0 v.1 in

@@ -233,10 +233,11 @@ module _ (j : Judge) (index : ℕ) (u : Uploaded) (g : IsJudging j index u) wher
   whole_least found others total o behind counting adding is =
       let crowd = crowd_tells (set_of j) news (nodes_in j) j.world.numbers.entries j.world.links.items j.world.composed.items g.judge.world index u.interface here own.0 own.1 found behind in
       subst (IsLeast u (AtSpot P spots.Whole)) (sym is)
-      (least_if u P (nat_lt 3000 total) rules.TooManyResolved spots.Whole
-        (λ h. crowd.0 (over_from others total (counted (nodes_in j) index (kept_at u.interface.id j.world.numbers.entries) found) (length u.interface.contents) counting adding h),
-          λ b. over_to others total (counted (nodes_in j) index (kept_at u.interface.id j.world.numbers.entries) found) (length u.interface.contents) counting adding (crowd.1 b))
-        (at_whole (set_of j) earlier u.interface))
+      (least_if u P (nat_lt 3000 total) rules.TooManyResolved spots.Whole (
+        λ h. crowd.0 (over_from others total (counted (nodes_in j) index (kept_at u.interface.id j.world.numbers.entries) found) (length u.interface.contents) counting adding h),
+        λ b. over_to others total (counted (nodes_in j) index (kept_at u.interface.id j.world.numbers.entries) found) (length u.interface.contents) counting adding (crowd.1 b),
+      )
+      (at_whole (set_of j) earlier u.interface))
 
   pub id_least : (b : Bool) (o : Option Found) → b ≡ is_other_than index (kept_at u.interface.id j.world.numbers.entries) → o ≡ found_if b rules.RepeatedId spots.Id → IsLeast u (AtSpot P spots.Id) o
   id_least b o tells is =
@@ -258,8 +259,8 @@ module _ (j : Judge) (index : ℕ) (u : Uploaded) (g : IsJudging j index u) wher
   absent_least k p o named none is =
       subst (IsLeast u (AtSpot P (spots.Parent k))) (sym is)
       (least_at u P rules.AbsentReference (spots.Parent k)
-        (parent_absent (set_of j) news (nodes_in j) j.world.numbers.entries j.world.links.items j.world.composed.items g.judge.world index u.interface here k p named none)
-        (parent_absent_first (set_of j) earlier u.interface k))
+      (parent_absent (set_of j) news (nodes_in j) j.world.numbers.entries j.world.links.items j.world.composed.items g.judge.world index u.interface here k p named none)
+      (parent_absent_first (set_of j) earlier u.interface k))
 
   there : (k : ℕ) (found : List ℕ) → IsReached j.world.numbers.entries j.world.links.items u.interface k found → LacksParent (set_of j) u.interface k → ⊥
   there k found r = parent_there (set_of j) news (nodes_in j) j.world.numbers.entries j.world.links.items j.world.composed.items g.judge.world index u.interface here k r.id r.number r.named r.kept
@@ -289,16 +290,18 @@ module _ (j : Judge) (index : ℕ) (u : Uploaded) (g : IsJudging j index u) wher
       let round = cycle_tells (set_of j) news (nodes_in j) j.world.numbers.entries j.world.links.items j.world.composed.items g.judge.world index u.interface here k found r in
       let told = clash_tells (set_of j) news (nodes_in j) j.world.numbers.entries j.world.links.items j.world.composed.items g.judge.world index u.interface here j.names.declared.items j.names.bound g.judge.names k found r in
       let any = any_reached_tells j.names.declared.items index (Owns j.world.numbers.entries j.world.links.items j.names.declared.items index u.interface k) owners found
-          (subst (AreNamesBelow j.names.declared.items 0) (sym size) (names_below j g.judge)) knows in
+      (subst (AreNamesBelow j.names.declared.items 0) (sym size) (names_below j g.judge)) knows in
       let decides : (clashes ≡ true) ↔ HasNameClash (set_of j) u.interface k =
-          elim test [
-            | inl e ↦ (λ h. told.0 (any.0 (sym e ∙ h)), λ c. e ∙ any.1 (told.1 c))
-            | inr e ↦ (λ h. absurd (true≢false (sym h ∙ e.0)),
-                λ c. let z = told.1 c in absurd (nothing_owned z.1 z.2 e.2 (subst (λ n. Owns j.world.numbers.entries j.world.links.items j.names.declared.items index u.interface n z.1 z.2) e.1 z.5)))
-          ] in
+      elim test [
+        | inl e ↦ (λ h. told.0 (any.0 (sym e ∙ h)), λ c. e ∙ any.1 (told.1 c))
+        | inr e ↦ (
+          λ h. absurd (true≢false (sym h ∙ e.0)),
+          λ c. let z = told.1 c in absurd (nothing_owned z.1 z.2 e.2 (subst (λ n. Owns j.world.numbers.entries j.world.links.items j.names.declared.items index u.interface n z.1 z.2) e.1 z.5)),
+        )
+      ] in
       subst (IsLeast u (AtSpot P (spots.Parent k))) (sym is)
       (least_if u P clashes rules.NameClash (spots.Parent k) decides
-        (parent_clash_alone (set_of j) earlier u.interface k (there k found r) (λ c. true≢false (sym (round.1 c) ∙ sym tells ∙ ends))))
+      (parent_clash_alone (set_of j) earlier u.interface k (there k found r) (λ c. true≢false (sym (round.1 c) ∙ sym tells ∙ ends))))
 
   -- ---- owners
   abbrev Owned : ℕ → ℕ → ℕ → Type 0
@@ -312,11 +315,11 @@ module _ (j : Judge) (index : ℕ) (u : Uploaded) (g : IsJudging j index u) wher
       (λ x o h. elim h [
         | inl q ↦ inl q
         | inr q ↦ elim (below_or q.0 k q.1) [
-            | inl e ↦
-                let same : q.2.0 ≡ p = same_Some q.2.0 p (sym (subst (λ n. NamesParent u.interface n q.2.0) e q.2.2) ∙ named) in
-                absurd (none-some q.2.1 (sym none ∙ ap (λ r. kept_at r j.world.numbers.entries) (sym same) ∙ q.2.3))
-            | inr less ↦ inr (q.0, less, q.2, q.3)
-          ]
+          | inl e ↦
+              let same : q.2.0 ≡ p = same_Some q.2.0 p (sym (subst (λ n. NamesParent u.interface n q.2.0) e q.2.2) ∙ named) in
+              absurd (none-some q.2.1 (sym none ∙ ap (λ r. kept_at r j.world.numbers.entries) (sym same) ∙ q.2.3))
+          | inr less ↦ inr (q.0, less, q.2, q.3)
+        ]
       ])
       knows
 
@@ -331,12 +334,12 @@ module _ (j : Judge) (index : ℕ) (u : Uploaded) (g : IsJudging j index u) wher
       (λ x o h. elim h [
         | inl q ↦ inl (inl q)
         | inr q ↦ elim (below_or q.0 k q.1) [
-            | inl e ↦
-                let same : q.2.0 ≡ r.id = same_Some q.2.0 r.id (sym (subst (λ n. NamesParent u.interface n q.2.0) e q.2.2) ∙ r.named) in
-                let number : q.2.1 ≡ r.number = same_Some q.2.1 r.number (sym q.2.3 ∙ ap (λ s. kept_at s j.world.numbers.entries) same ∙ r.kept) in
-                inr ((r.each o).1 (subst (λ n. Arrives j.world.links.items n o) number q.2.4), q.3)
-            | inr less ↦ inl (inr (q.0, less, q.2, q.3))
-          ]
+          | inl e ↦
+              let same : q.2.0 ≡ r.id = same_Some q.2.0 r.id (sym (subst (λ n. NamesParent u.interface n q.2.0) e q.2.2) ∙ r.named) in
+              let number : q.2.1 ≡ r.number = same_Some q.2.1 r.number (sym q.2.3 ∙ ap (λ s. kept_at s j.world.numbers.entries) same ∙ r.kept) in
+              inr ((r.each o).1 (subst (λ n. Arrives j.world.links.items n o) number q.2.4), q.3)
+          | inr less ↦ inl (inr (q.0, less, q.2, q.3))
+        ]
       ])
       (knows_reached j.names.declared.items index (Owned k) owners found (subst (AreNamesBelow j.names.declared.items 0) (sym size) (names_below j g.judge)) knows)
 
@@ -358,7 +361,7 @@ module _ (j : Judge) (index : ℕ) (u : Uploaded) (g : IsJudging j index u) wher
       → length owners ≡ j.names.bound → AreFresh owners index (length j.new.now) → KnowsOwners j (add_names index number owners names) index u 0
   owned_first owners number names kept same size fresh =
       let below : AllByRecursion (λ x. x < length owners) names =
-          all_of (λ x. x < length owners) names (λ x h. subst (λ n. x < n) (sym size) (names_below j g.judge index x (subst (IsIn x) same h))) in
+      all_of (λ x. x < length owners) names (λ x h. subst (λ n. x < n) (sym size) (names_below j g.judge index x (subst (IsIn x) same h))) in
       knows_weaker (add_names index number owners names) index (λ x o. ⊥ ⊎ (IsIn x names × (o ≡ number))) (Owned 0)
       (λ x o h. elim h [ inl q ↦ absurd q | inr q ↦ inl (kept ∙ ap Some (sym q.1), subst (IsIn x) same q.0) ])
       (λ x o h. elim h [
@@ -373,8 +376,8 @@ module _ (j : Judge) (index : ℕ) (u : Uploaded) (g : IsJudging j index u) wher
   lost_least k p o named none is =
       subst (IsLeast u (AtSpot P (spots.ContentSchema k))) (sym is)
       (least_at u P rules.AbsentReference (spots.ContentSchema k)
-        (component_absent (set_of j) news (nodes_in j) j.world.numbers.entries j.world.links.items j.world.composed.items g.judge.world index u.interface here k p news_at named none)
-        (content_absent_first (set_of j) earlier u.interface k))
+      (component_absent (set_of j) news (nodes_in j) j.world.numbers.entries j.world.links.items j.world.composed.items g.judge.world index u.interface here k p news_at named none)
+      (content_absent_first (set_of j) earlier u.interface k))
 
   pub component_least : (k : ℕ) (p : Identifier) (x : ℕ) (b : Bool) (o : Option Found) → NamesComponent u.interface k p → kept_at p j.world.numbers.entries ≡ Some x
       → (b ≡ true) ↔ ReachesComponent j.world.links.items j.world.composed.items x
@@ -383,8 +386,8 @@ module _ (j : Judge) (index : ℕ) (u : Uploaded) (g : IsJudging j index u) wher
       let told = component_tells (set_of j) news (nodes_in j) j.world.numbers.entries j.world.links.items j.world.composed.items g.judge.world index u.interface here k p x named kept in
       subst (IsLeast u (AtSpot P (spots.ContentSchema k))) (sym is)
       (least_if u P b rules.ComponentInComponent (spots.ContentSchema k) (λ h. told.0 (tells.0 h), λ c. tells.1 (told.1 c))
-        (content_component_alone (set_of j) earlier u.interface k
-          (component_there (set_of j) news (nodes_in j) j.world.numbers.entries j.world.links.items j.world.composed.items g.judge.world index u.interface here k p x named kept)))
+      (content_component_alone (set_of j) earlier u.interface k
+      (component_there (set_of j) news (nodes_in j) j.world.numbers.entries j.world.links.items j.world.composed.items g.judge.world index u.interface here k p x named kept)))
 
   -- ---- all places
   abbrev Parents : SetRule → Spot → Type 0
@@ -422,9 +425,9 @@ module _ (j : Judge) (index : ℕ) (u : Uploaded) (g : IsJudging j index u) wher
       → IsLeast u Parents parents → IsLeast u Contents contents → IsLeast u P (earlier_of u whole (earlier_of u (earlier_of u id chain) (earlier_of u parents contents)))
   all_least whole id chain parents contents hw hi hc hp hk =
       let inner : IsLeast u Inner (earlier_of u (earlier_of u id chain) (earlier_of u parents contents)) =
-          earlier_least u Own Below (earlier_of u id chain) (earlier_of u parents contents)
-          (earlier_least u (AtSpot P spots.Id) (AtSpot P spots.Parents) id chain hi hc)
-          (earlier_least u Parents Contents parents contents hp hk) in
+      earlier_least u Own Below (earlier_of u id chain) (earlier_of u parents contents)
+      (earlier_least u (AtSpot P spots.Id) (AtSpot P spots.Parents) id chain hi hc)
+      (earlier_least u Parents Contents parents contents hp hk) in
       least_weaker u (λ r s. AtSpot P spots.Whole r s ⊎ Inner r s) P (earlier_of u whole (earlier_of u (earlier_of u id chain) (earlier_of u parents contents))) placed_back places
       (earlier_least u (AtSpot P spots.Whole) Inner whole (earlier_of u (earlier_of u id chain) (earlier_of u parents contents)) hw inner)
 
@@ -443,8 +446,7 @@ is_reached numbers links i k id x found items named kept behind same = record {
 pub composed_tells : (links : List (List ℕ)) (composed : List Bool) (x : ℕ) (found items : List ℕ) (b : Bool) → AreBehind links x items → found ≡ items
     → b ≡ list_any (λ y. get_or composed y false) found → (b ≡ true) ↔ ReachesComponent links composed x
 composed_tells links composed x found items b behind same is =
-    let each = (subst (AreBehind links x) (sym same) behind).each in
-    (
+    let each = (subst (AreBehind links x) (sym same) behind).each in (
       λ h. let one = any_found (λ y. get_or composed y false) found (sym is ∙ h) in (one.0, (each one.0).0 one.1, one.2),
       λ r. is ∙ any_given (λ y. get_or composed y false) found r.0 ((each r.0).1 r.1) r.2,
     )
@@ -476,12 +478,12 @@ same_index set new index u f here least c same broken e =
     let (v, at, h) = subst (λ k. BreaksAt set new k c.rule c.spot) (sym same) broken in
     let one : v ≡ u = same_Some v u (sym at ∙ here) in
     let breaks : Breaks (together set new) (map (λ x. x.interface) (take index new)) u.interface c.rule c.spot =
-        subst (λ w. Breaks (together set new) (map (λ x. x.interface) (take index new)) w.interface c.rule c.spot) one h in
+    subst (λ w. Breaks (together set new) (map (λ x. x.interface) (take index new)) w.interface c.rule c.spot) one h in
     let o : Ordering = nat_cmp (rule_number f.rule) (rule_number c.rule) in
     let moved : ordering_then (slice_cmp nat_cmp (index ∷ place_of (slice_get new index) f.spot) (index ∷ place_of (slice_get new index) c.spot)) o ≡ Greater =
-        ap (λ k. ordering_then (slice_cmp nat_cmp (index ∷ place_of (slice_get new index) f.spot) (k ∷ place_of (slice_get new k) c.spot)) o) same ∙ e in
+    ap (λ k. ordering_then (slice_cmp nat_cmp (index ∷ place_of (slice_get new index) f.spot) (k ∷ place_of (slice_get new k) c.spot)) o) same ∙ e in
     let inside : ordering_then (slice_cmp nat_cmp (place_of (slice_get new index) f.spot) (place_of (slice_get new index) c.spot)) o ≡ Greater =
-        sym (same_place_of index (place_of (slice_get new index) f.spot) (place_of (slice_get new index) c.spot) o) ∙ moved in
+    sym (same_place_of index (place_of (slice_get new index) f.spot) (place_of (slice_get new index) c.spot) o) ∙ moved in
     least.1 c.rule c.spot breaks (ap (λ p. ordering_then (slice_cmp nat_cmp (place_of p f.spot) (place_of p c.spot)) o) (sym here) ∙ inside)
 
 pub first_is : (set : List Interface) (new : List Uploaded) (index : ℕ) (u : Uploaded) (f : Found) → slice_get new index ≡ Some u
@@ -493,11 +495,11 @@ first_is set new index u f here least none = record {
       elim (cases_lt c.index index) [
         | inl low ↦ absurd (none c low broken)
         | inr high ↦ elim (cases_lt index c.index) [
-            | inl further ↦ λ e. less_place index c.index (place_of (slice_get new index) f.spot) (place_of (slice_get new c.index) c.spot) (nat_cmp (rule_number f.rule) (rule_number c.rule)) further e
-            | inr back ↦
-                let same : index ≡ c.index = omega (arith, high, back) in
-                same_index set new index u f here least c same broken
-          ]
+          | inl further ↦ λ e. less_place index c.index (place_of (slice_get new index) f.spot) (place_of (slice_get new c.index) c.spot) (nat_cmp (rule_number f.rule) (rule_number c.rule)) further e
+          | inr back ↦
+              let same : index ≡ c.index = omega (arith, high, back) in
+              same_index set new index u f here least c same broken
+        ]
       ];
 }
 

@@ -22,13 +22,13 @@ module _ (name : List ℕ) (es fs : List (Bor (List ℕ) × ℕ)) (told : (q : L
   still_apart a longer = record {
     apart = λ p q x h g. elim (one p x h) [
       | inl same ↦ elim (one q x g) [
-          | inl other ↦ sym same.0 ∙ other.0
-          | inr old ↦ let low = a.below q x old in absurd (omega (arith, low, same.1))
-        ]
+        | inl other ↦ sym same.0 ∙ other.0
+        | inr old ↦ let low = a.below q x old in absurd (omega (arith, low, same.1))
+      ]
       | inr old ↦ elim (one q x g) [
-          | inl other ↦ let low = a.below p x old in absurd (omega (arith, low, other.1))
-          | inr both ↦ a.apart p q x old both
-        ]
+        | inl other ↦ let low = a.below p x old in absurd (omega (arith, low, other.1))
+        | inr both ↦ a.apart p q x old both
+      ]
     ];
     below = λ p x h. elim (one p x h) [
       | inl same ↦ omega (arith, longer, same.1)

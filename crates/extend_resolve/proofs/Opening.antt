@@ -132,8 +132,8 @@ module _ (links : List (List ℕ)) (start : ℕ) where
       let arrived : Arrives links start x = all_in (Arrives links start) found x so_far.reached (in_at found at d low) in
       let more = added found next in
       let opened : AreOpened links (add_new found next) (take (suc at) (found ++ more.0)) =
-          take_more (λ z. (y : ℕ) → IsIn y (links_at links z) → IsIn y (add_new found next)) found more.0 at d low
-          (all_map _ _ (take at found) (λ z h y link. still_in found next y (h y link)) so_far.opened) (λ y link. new_in found next y link) in
+      take_more (λ z. (y : ℕ) → IsIn y (links_at links z) → IsIn y (add_new found next)) found more.0 at d low
+      (all_map _ _ (take at found) (λ z h y link. still_in found next y (h y link)) so_far.opened) (λ y link. new_in found next y link) in
       record {
         begun = still_in found next start so_far.begun;
         reached = all_added (Arrives links start) found next so_far.reached (all_from (Arrives links start) next (λ y link. arrives_further x y arrived link));

@@ -76,7 +76,7 @@ module _ (Q : ℕ → Type 0) (m : ℕ) where
   tells_with o round so_far =
       let now : nat_eq round round ≡ true = same_number round round refl in
       elim (nat_eq o.round round) as (λ b. Tells b o.several o.number Q
-          → (j : ℕ) → (has_other_owner (cond b (record { round = round; number = o.number; several = o.several || not (nat_eq o.number m) }) (record { round = round; number = m; several = false })) round j ≡ true) ↔ ((p : ℕ) × With p × (p ≢ j))) [
+      → (j : ℕ) → (has_other_owner (cond b (record { round = round; number = o.number; several = o.several || not (nat_eq o.number m) }) (record { round = round; number = m; several = false })) round j ≡ true) ↔ ((p : ℕ) × With p × (p ≢ j))) [
         | true ↦ λ h. subst (λ b. Tells b (o.several || not (nat_eq o.number m)) o.number With) (sym now) (tells_now o.several o.number h)
         | false ↦ λ h. subst (λ b. Tells b false m With) (sym now) (tells_first o.several o.number h)
       ] so_far
@@ -99,15 +99,13 @@ module _ (round m : ℕ) where
       elim (cases_eq y x) [
         | inl e ↦
             let same : get_or (set owners x put) y nobody ≡ put = ap (λ k. get_or (set owners x put) k nobody) e ∙ get_or-set_same owners x put nobody low in
-            let told = tells_with (P x) m (get_or owners x nobody) round (λ k. knows x k low) j in
-            (
+            let told = tells_with (P x) m (get_or owners x nobody) round (λ k. knows x k low) j in (
               λ h. let one = told.0 (sym (ap (λ o. has_other_owner o round j) same) ∙ h) in
-                (one.0, elim one.1 [ inl p ↦ inl (subst (λ k. P k one.0) (sym e) p) | inr q ↦ inr (e, q) ], one.2),
+                  (one.0, elim one.1 [ inl p ↦ inl (subst (λ k. P k one.0) (sym e) p) | inr q ↦ inr (e, q) ], one.2),
               λ z. ap (λ o. has_other_owner o round j) same ∙ told.1 (z.0, elim z.1 [ inl p ↦ inl (subst (λ k. P k z.0) e p) | inr q ↦ inr q.1 ], z.2),
             )
         | inr ne ↦
-            let other : get_or (set owners x put) y nobody ≡ get_or owners y nobody = get_or-set_other owners x y put nobody ne in
-            (
+            let other : get_or (set owners x put) y nobody ≡ get_or owners y nobody = get_or-set_other owners x y put nobody ne in (
               λ h. let one = (knows y j within).0 (sym (ap (λ o. has_other_owner o round j) other) ∙ h) in (one.0, inl one.1, one.2),
               λ z. ap (λ o. has_other_owner o round j) other ∙ (knows y j within).1 (z.0, elim z.1 [ inl p ↦ p | inr q ↦ absurd (ne q.0) ], z.2),
             )
@@ -178,9 +176,9 @@ module _ (declared : List (List ℕ)) (round : ℕ) where
       knows_weaker (add_reached declared round (add_names round m owners ns) ms) round (λ y o. first y o ⊎ (IsIn o ms × IsIn y (links_at declared o))) (λ y o. P y o ⊎ (IsIn o (m ∷ ms) × IsIn y (links_at declared o)))
       (λ y o h. elim h [
         | inl g ↦ elim g [
-            | inl p ↦ inl p
-            | inr q ↦ inr (subst (λ z. IsIn z (m ∷ ms)) (sym q.1) (in_head m ms), subst (λ z. IsIn y (links_at declared z)) (sym q.1) q.0)
-          ]
+          | inl p ↦ inl p
+          | inr q ↦ inr (subst (λ z. IsIn z (m ∷ ms)) (sym q.1) (in_head m ms), subst (λ z. IsIn y (links_at declared z)) (sym q.1) q.0)
+        ]
         | inr q ↦ inr (in_tail m o ms q.0, q.1)
       ])
       (λ y o h. elim h [

@@ -174,8 +174,7 @@ module _ {set new nodes : List Interface} {numbers : List (Identifier × ℕ)} {
   parent_link x i j at (p, (k, low, is), found) =
       let listed = contained_from_placed nodes i x at in
       let kept = some_of (kept_at p numbers) (w.parents i p (x, listed.0, listed.1) (k, low, is) (ap is_some found)) in
-      let there = w.stands p kept.0 kept.1 in
-      (
+      let there = w.stands p kept.0 kept.1 in (
         kept.0,
         subst (IsIn kept.0) (sym (links_are x (Some i) at)) (numbered_in (λ q. kept_at q numbers) i.parents k p kept.0 (placed_from_contained i.parents p k low is) kept.1),
         there.1 ∙ sym there.2 ∙ found,

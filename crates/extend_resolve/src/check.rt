@@ -32,7 +32,11 @@ pub fn check_set(alloc: Global, set: &ModelSet, new: &[Uploaded]) -> Result<(), 
 }
 
 /// The first of the new interfaces that breaks a rule, with its first breach.
-fn first_breach(alloc: Global, set: &ModelSet, new: &[Uploaded]) -> Result<Option<(usize, Found)>, OutOfMemory>
+fn first_breach(
+    alloc: Global,
+    set: &ModelSet,
+    new: &[Uploaded],
+) -> Result<Option<(usize, Found)>, OutOfMemory>
     requires apart { AllByRecursion (λ u. interface_at u.interface.id set.now ≡ None) new.now }
     ensures { IfOk result (IsFirstOf set.now new.now) }
 {

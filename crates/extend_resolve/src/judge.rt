@@ -281,7 +281,12 @@ impl<'a> Judge<'a> {
         ensures { result ≡ any_reached self.now.names.declared.items index owners.now reached.now }
     {
         'reached: for number in reached {
-            if any_other(owners, index, self.names.declared[*number].as_slice(), *number) {
+            if any_other(
+                owners,
+                index,
+                self.names.declared[*number].as_slice(),
+                *number,
+            ) {
                 return true;
             }
         }
@@ -295,7 +300,12 @@ impl<'a> Judge<'a> {
         ensures { owners.new ≡ add_reached self.now.names.declared.items index owners.old reached.now }
     {
         'reached: for number in reached {
-            add(owners, index, self.names.declared[*number].as_slice(), *number);
+            add(
+                owners,
+                index,
+                self.names.declared[*number].as_slice(),
+                *number,
+            );
         }
     }
 
@@ -424,9 +434,7 @@ fn is_long(depth: Option<u64>, index: usize, own: Option<usize>, ancestors: &[us
     ensures { result ≡ is_long_at depth index own ancestors.now }
 {
     match depth {
-        Some(depth) => {
-            depth > MOST_STEPS && !(is_other(index, own) && is_among(ancestors, own))
-        }
+        Some(depth) => { depth > MOST_STEPS && !(is_other(index, own) && is_among(ancestors, own)) }
         None => false,
     }
 }

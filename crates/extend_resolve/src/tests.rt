@@ -3,7 +3,8 @@
 use super::*;
 use dt_base::{List, Text};
 use dtdl_terms::{
-    Common, Content, ContentKind, Interface, Localized, ModelSet, Primitive, Schema, Uploaded, spot_pointer,
+    Common, Content, ContentKind, Interface, Localized, ModelSet, Primitive, Schema, Uploaded,
+    spot_pointer,
 };
 use dtmi_name::{Dtmi, Name};
 use std::alloc::Global;
@@ -133,18 +134,42 @@ fn judges_sets(rt: HostRuntime) -> Result<(), Fail> {
         ("a > b c; b > d; c > d; d = t", false, "accepted 4"),
         ("p = t; q = t; c > p q", false, "/2/extends/1 NameClash"),
         ("p = t; c > p = t", true, "/1/extends NameClash"),
-        ("c > p q; p > r; q = t; r = s t", false, "/0/extends/1 NameClash"),
-        ("a = x:b; b > c; c = y:d; d", false, "/0/contents/0/schema ComponentInComponent"),
-        ("a = x:a", false, "/0/contents/0/schema ComponentInComponent"),
+        (
+            "c > p q; p > r; q = t; r = s t",
+            false,
+            "/0/extends/1 NameClash",
+        ),
+        (
+            "a = x:b; b > c; c = y:d; d",
+            false,
+            "/0/contents/0/schema ComponentInComponent",
+        ),
+        (
+            "a = x:a",
+            false,
+            "/0/contents/0/schema ComponentInComponent",
+        ),
         ("a = t x:b", false, "/0/contents/1/schema AbsentReference"),
         ("a > b", true, "/0/extends AbsentReference"),
         ("a > b c; c", false, "/0/extends/0 AbsentReference"),
         ("a; a", false, "/1/@id RepeatedId"),
         ("a; a > a", true, "/1/@id RepeatedId"),
         ("a = t; b > a; a > b = t", false, "/2/@id RepeatedId"),
+        ("b; b > z", true, "/1/@id RepeatedId"),
+        ("a = t; b > z; c > y", true, "/1/extends AbsentReference"),
+        ("r > s = p; s = n; d = r", true, "accepted 3"),
+        ("r > s = p", true, "/0/extends AbsentReference"),
         // a clash behind one parent is that parent's own; the next parent reaches one of its two declarations
-        ("a > p; p > q r; q = n; r = n", false, "/1/extends/1 NameClash"),
-        ("a > p q; p > q r; q = n; r = n", false, "/0/extends/1 NameClash"),
+        (
+            "a > p; p > q r; q = n; r = n",
+            false,
+            "/1/extends/1 NameClash",
+        ),
+        (
+            "a > p q; p > q r; q = n; r = n",
+            false,
+            "/0/extends/1 NameClash",
+        ),
     ] {
         let got = verdict(alloc, "", text, as_text)?;
         assert_eq!(rt; got.as_str(), want, "{text}");
@@ -176,9 +201,15 @@ fn counts_contents(rt: HostRuntime) -> Result<(), Fail> {
         write!(text, " n{name}")?;
     }
     let full = format!(in alloc; "{}; a > p = x", text.as_str())?;
-    assert_eq!(rt; verdict(alloc, "", full.as_str(), true)?.as_str(), "accepted 2");
+    assert_eq!(rt;
+        verdict(alloc, "", full.as_str(), true)?.as_str(),
+        "accepted 2"
+    );
     let over = format!(in alloc; "{}; a > p = x y", text.as_str())?;
-    assert_eq!(rt; verdict(alloc, "", over.as_str(), true)?.as_str(), "/1 TooManyResolved");
+    assert_eq!(rt;
+        verdict(alloc, "", over.as_str(), true)?.as_str(),
+        "/1 TooManyResolved"
+    );
     Ok(())
 }
 
@@ -189,8 +220,16 @@ fn finds_ancestors(rt: HostRuntime) -> Result<(), Fail> {
     for line in "a > b c; b > d; c > d; d; e".split(';') {
         set.insert(interface(alloc, line)?)?;
     }
-    for (id, ancestor, want) in [("a", "d", true), ("a", "a", true), ("d", "a", false), ("a", "e", false)] {
-        assert_eq!(rt; is_a(&set, &id_of(alloc, id)?, &id_of(alloc, ancestor)?), want);
+    for (id, ancestor, want) in [
+        ("a", "d", true),
+        ("a", "a", true),
+        ("d", "a", false),
+        ("a", "e", false),
+    ] {
+        assert_eq!(rt;
+            is_a(&set, &id_of(alloc, id)?, &id_of(alloc, ancestor)?),
+            want
+        );
     }
     Ok(())
 }

@@ -26,8 +26,8 @@ new-preserved c =
       ready = c.in_ok-found.ensures.ready;
       sound = sound_more c.args.set.now c.args.new.now c.new.index u (read_placed c.args.new.now c.new.index u c.new-test.true ∙ ap Some (sym c.index-new-index.is))
           (λ r s h. least r s
-            (subst (λ new. Breaks (together j.set.now new) (map (λ v. v.interface) (take c.new.index new)) u.interface r s) (sym c.in_ok-judge.ensures.new)
-            (subst (λ set. Breaks (together set c.args.new.now) (map (λ v. v.interface) (take c.new.index c.args.new.now)) u.interface r s) (sym c.in_ok-judge.ensures.set) h)))
+          (subst (λ new. Breaks (together j.set.now new) (map (λ v. v.interface) (take c.new.index new)) u.interface r s) (sym c.in_ok-judge.ensures.new)
+          (subst (λ set. Breaks (together set c.args.new.now) (map (λ v. v.interface) (take c.new.index c.args.new.now)) u.interface r s) (sym c.in_ok-judge.ensures.set) h)))
           c.new.invariant.sound;
     }
 

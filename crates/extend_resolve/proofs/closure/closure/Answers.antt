@@ -29,10 +29,10 @@ open-preserved c =
     let found : c.visit.new.found.items ≡ add_new c.open.found.items (links_at c.args.links.now x) = c.in_ok-visit.ensures.found ∙ ap (add_new c.open.found.items) next in
     let low : c.open.at < length c.open.found.items = omega (arith, c.open-test.true) in
     let stepped : IsOpening c.args.links.now c.args.start (add_new c.open.found.items (links_at c.args.links.now x)) (c.open.at + 1) =
-        opening_step c.args.links.now c.args.start c.open.found.items c.open.at 0 c.requires.within low c.open.invariant.opening in
+    opening_step c.args.links.now c.args.start c.open.found.items c.open.at 0 c.requires.within low c.open.invariant.opening in
     let more = added c.open.found.items (links_at c.args.links.now x) in
     let grows : length c.visit.new.found.items ≡ length c.open.found.items + length more.0 =
-        ap length (found ∙ more.1) ∙ length-append c.open.found.items more.0 in
+    ap length (found ∙ more.1) ∙ length-append c.open.found.items more.0 in
     record {
       opening = subst (λ xs. IsOpening c.args.links.now c.args.start xs (c.open.at + 1)) (sym found) stepped;
       marked = c.in_ok-visit.ensures.marked;

@@ -21,7 +21,7 @@ numbers-preserved c =
     let was : List (Option ℕ) = c.numbers.depths.items in
     let long : length c.end.new.depths ≡ length was = c.in_ok-end.ensures.so_far.same ∙ sym c.numbers.invariant.so_far.same in
     let back : take c.numbers.depths.len (c.end.new.depths ++ drop (length c.end.new.depths) was) ≡ c.end.new.depths =
-        given_back c.numbers.depths.len c.end.new.depths was long (omega (arith, c.numbers.depths.ok.0)) in
+    given_back c.numbers.depths.len c.end.new.depths was long (omega (arith, c.numbers.depths.ok.0)) in
     record {
       so_far = subst (λ xs. IsDeepening c.args.links.now xs c.end.new.ended.items) (sym back) c.in_ok-end.ensures.so_far;
       tried = first_tried c.args.links.now c.numbers.ended.items c.end.new.ended.items c.numbers.number c.in_ok-end.ensures.grows c.numbers.invariant.tried c.in_ok-end.ensures.tried;
@@ -33,7 +33,7 @@ index-requires c =
     let low : c.ended.at < length ended = omega (arith, c.ended-test.true, c.ended.ended.ok.0) in
     let number : c.index-number.result.now ≡ get_or ended c.ended.at 0 = c.index-number.ensures ∙ same_within ended c.ended.at c.index-number.result.now 0 low in
     let below : get_or ended c.ended.at 0 < length c.args.links.now =
-        ended_below c.args.links.now c.ended.depths.items ended c.ended.invariant.so_far (get_or ended c.ended.at 0) (in_at ended c.ended.at 0 low) in
+    ended_below c.args.links.now c.ended.depths.items ended c.ended.invariant.so_far (get_or ended c.ended.at 0) (in_at ended c.ended.at 0 low) in
     omega (arith, number, below, c.in_ok-children.ensures.same, c.in_ok-children.children.ok.0)
 
 pub end_all-requires-clause-below : goal.end_all-requires-clause-below
@@ -43,10 +43,10 @@ end_all-requires-clause-below c =
     let low : c.ended.at < length ended = omega (arith, c.ended-test.true, c.ended.ended.ok.0) in
     let number : c.index-number.result.now ≡ get_or ended c.ended.at 0 = c.index-number.ensures ∙ same_within ended c.ended.at c.index-number.result.now 0 low in
     let below : get_or ended c.ended.at 0 < length c.args.links.now =
-        ended_below c.args.links.now c.ended.depths.items ended c.ended.invariant.so_far (get_or ended c.ended.at 0) (in_at ended c.ended.at 0 low) in
+    ended_below c.args.links.now c.ended.depths.items ended c.ended.invariant.so_far (get_or ended c.ended.at 0) (in_at ended c.ended.at 0 low) in
     let inside : c.index-number.result.now < length children = omega (arith, number, below, c.in_ok-children.ensures.same) in
     let next : c.as_slice.result.now ≡ links_at children c.index-number.result.now =
-        c.as_slice.ensures ∙ c.index.ensures ∙ same_within children c.index-number.result.now c.index.result.now [] inside in
+    c.as_slice.ensures ∙ c.index.ensures ∙ same_within children c.index-number.result.now c.index.result.now [] inside in
     subst (AllByRecursion (λ x. x < length c.args.links.now)) (sym next)
     (all_from (λ x. x < length c.args.links.now) (links_at children c.index-number.result.now) (λ x here. c.in_ok-children.ensures.below c.index-number.result.now x here))
 
@@ -63,18 +63,18 @@ ended-preserved c =
     let was : List (Option ℕ) = c.ended.depths.items in
     let long : length c.end_all.new.depths ≡ length was = c.in_ok-end_all.ensures.so_far.same ∙ sym c.ended.invariant.so_far.same in
     let back : take c.ended.depths.len (c.end_all.new.depths ++ drop (length c.end_all.new.depths) was) ≡ c.end_all.new.depths =
-        given_back c.ended.depths.len c.end_all.new.depths was long (omega (arith, c.ended.depths.ok.0)) in
+    given_back c.ended.depths.len c.end_all.new.depths was long (omega (arith, c.ended.depths.ok.0)) in
     let low : c.ended.at < length before = omega (arith, c.ended-test.true, c.ended.ended.ok.0) in
     let number : c.index-number.result.now ≡ get_or before c.ended.at 0 = c.index-number.ensures ∙ same_within before c.ended.at c.index-number.result.now 0 low in
     let below : get_or before c.ended.at 0 < length c.args.links.now =
-        ended_below c.args.links.now was before c.ended.invariant.so_far (get_or before c.ended.at 0) (in_at before c.ended.at 0 low) in
+    ended_below c.args.links.now was before c.ended.invariant.so_far (get_or before c.ended.at 0) (in_at before c.ended.at 0 low) in
     let inside : c.index-number.result.now < length children = omega (arith, number, below, c.in_ok-children.ensures.same) in
     let next : c.as_slice.result.now ≡ links_at children (get_or before c.ended.at 0) =
-        c.as_slice.ensures ∙ c.index.ensures ∙ same_within children c.index-number.result.now c.index.result.now [] inside ∙ ap (links_at children) number in
+    c.as_slice.ensures ∙ c.index.ensures ∙ same_within children c.index-number.result.now c.index.result.now [] inside ∙ ap (links_at children) number in
     let grows : Grows before now = c.in_ok-end_all.ensures.grows in
     let longer : length now ≡ length before + length grows.0 = ap length grows.1 ∙ length-append before grows.0 in
     let tried : AllByRecursion (IsTried c.args.links.now before now) (links_at children (get_or before c.ended.at 0)) =
-        subst (AllByRecursion (IsTried c.args.links.now before now)) next c.in_ok-end_all.ensures.tried in
+    subst (AllByRecursion (IsTried c.args.links.now before now)) next c.in_ok-end_all.ensures.tried in
     record {
       so_far = subst (λ xs. IsDeepening c.args.links.now xs now) (sym back) c.in_ok-end_all.ensures.so_far;
       tried = rise_step c.args.links.now children c.in_ok-children.ensures before now c.ended.at low grows c.ended.invariant.tried tried;

@@ -15,5 +15,5 @@ returns c =
     let none = none_of (kept_at c.args.id.now c.args.numbers.now.entries) (sym c.contains_key.ensures ∙ c.if-contains_key.false) in
     number_put c.args.id.now c.args.number c.args.numbers.now.entries c.insert.new.self.entries none
     (λ q.
-      c.in_ok-insert.ensures.updates.0 q
-      ∙ ap (λ k. cond (is_eq (id_cmp k q)) (Some c.args.number) (kept_at q c.args.numbers.now.entries)) c.in_ok-key.ensures)
+    c.in_ok-insert.ensures.updates.0 q
+    ∙ ap (λ k. cond (is_eq (id_cmp k q)) (Some c.args.number) (kept_at q c.args.numbers.now.entries)) c.in_ok-key.ensures)

@@ -14,8 +14,8 @@ open-init c =
     let now : Bor Interface → Interface = λ n. n.now in
     let new : List Interface = map (λ u. u.interface) c.args.new.now in
     let nodes : map now c.add_all_components.new.nodes.items ≡ with_components c.args.set.now new new =
-        c.in_ok-add_all_components.ensures.nodes
-        ∙ ap (λ xs. with_components c.args.set.now xs new) (c.in_ok-put_new.ensures.nodes ∙ ap (λ xs. map now xs ++ new) c.new-nodes.ensures.items) in
+    c.in_ok-add_all_components.ensures.nodes
+    ∙ ap (λ xs. with_components c.args.set.now xs new) (c.in_ok-put_new.ensures.nodes ∙ ap (λ xs. map now xs ++ new) c.new-nodes.ensures.items) in
     record {
       numbered = c.in_ok-add_all_components.ensures.numbered;
       gathered = subst (λ xs. IsGathered c.args.set.now new xs 0) (sym nodes) (gathered_begins c.args.set.now new);
@@ -40,7 +40,7 @@ open-preserved c =
     let node : Interface = c.index-node.result.now.now in
     let below : c.open.at < length c.open.nodes.items = omega (arith, c.open-test.true) in
     let read : slice_get c.open.nodes.items c.open.at ≡ Some c.index-node.result.now =
-        slice_get_read c.open.nodes.items (length c.open.nodes.items) c.open.at c.index-node.result.now refl below c.index-node.ensures in
+    slice_get_read c.open.nodes.items (length c.open.nodes.items) c.open.at c.index-node.result.now refl below c.index-node.ensures in
     let here : slice_get nodes c.open.at ≡ Some node = slice_get-map now c.open.nodes.items c.open.at ∙ ap (option_map now) read in
     let step = gathered_step c.args.set.now new nodes c.open.at node here c.open.invariant.gathered in
     let longer : length (map now c.add_parents.new.nodes.items) ≡ length c.add_parents.new.nodes.items = length-map c.add_parents.new.nodes.items now in

@@ -15,6 +15,6 @@ returns-clause-numbered c =
     let items : length nodes ≡ length c.args.nodes.now.items = length-map c.args.nodes.now.items now in
     let long : c.len.result ≡ length nodes = omega (arith, items, c.len.ensures, c.args.nodes.now.ok.0) in
     let one : AreNumbered c.enter.new.numbers.entries (nodes ++ c.args.node.now ∷ []) =
-        numbered_one c.args.numbers.now.entries c.enter.new.numbers.entries nodes c.args.node.now c.requires.numbered
-        (λ q. c.in_ok-enter.ensures q ∙ ap (λ n. option_or (kept_at q c.args.numbers.now.entries) (number_for c.args.node.now.id n q)) long) in
+    numbered_one c.args.numbers.now.entries c.enter.new.numbers.entries nodes c.args.node.now c.requires.numbered
+    (λ q. c.in_ok-enter.ensures q ∙ ap (λ n. option_or (kept_at q c.args.numbers.now.entries) (number_for c.args.node.now.id n q)) long) in
     subst (AreNumbered c.enter.new.numbers.entries) (sym (ap (map now) c.in_ok-push.ensures.items ∙ map_push now c.args.nodes.now.items c.args.node)) one

@@ -15,9 +15,9 @@ nodes-preserved c =
       apart = c.in_ok-enter_names.ensures.apart;
       named = all_mapped (λ (n : Bor Interface). n.now) now (take (c.nodes.node-index + 1) c.args.nodes.now)
           (all_take_more (λ (n : Bor Interface). old n.now) (λ (n : Bor Interface). now n.now)
-            (λ n h. all_weaker (λ (d : Content). IsSome (named_at d.name c.nodes.known.entries)) (λ (d : Content). IsSome (named_at d.name c.enter_names.new.known.entries)) (λ d g. c.in_ok-enter_names.ensures.kept d.name g) n.now.contents h)
-            c.args.nodes.now c.nodes.node-index c.node-item.result
-            (read_placed c.args.nodes.now c.nodes.node-index c.node-item.result c.nodes-test.true ∙ ap Some (sym c.node-item.is))
-            (all_unmapped (λ (n : Bor Interface). n.now) old (take c.nodes.node-index c.args.nodes.now) c.nodes.invariant.named)
-            c.in_ok-enter_names.ensures.named);
+          (λ n h. all_weaker (λ (d : Content). IsSome (named_at d.name c.nodes.known.entries)) (λ (d : Content). IsSome (named_at d.name c.enter_names.new.known.entries)) (λ d g. c.in_ok-enter_names.ensures.kept d.name g) n.now.contents h)
+          c.args.nodes.now c.nodes.node-index c.node-item.result
+          (read_placed c.args.nodes.now c.nodes.node-index c.node-item.result c.nodes-test.true ∙ ap Some (sym c.node-item.is))
+          (all_unmapped (λ (n : Bor Interface). n.now) old (take c.nodes.node-index c.args.nodes.now) c.nodes.invariant.named)
+          c.in_ok-enter_names.ensures.named);
     }

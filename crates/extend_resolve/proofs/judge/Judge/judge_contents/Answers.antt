@@ -14,10 +14,11 @@ use Rattle.extend_resolve.proofs.judge.Judge.judge_contents.Goals.{in-Some+in_ok
 
 pub judge_component-requires-clause-component : goal.judge_component-requires-clause-component
 judge_component-requires-clause-component c =
-    let low : c.contents.at < length c.args.uploaded.now.interface.contents = subst (λ xs. c.contents.at < length xs) c.as_slice-contents.ensures c.contents-test.true in
-    (c.index-contents-at.result,
+    let low : c.contents.at < length c.args.uploaded.now.interface.contents = subst (λ xs. c.contents.at < length xs) c.as_slice-contents.ensures c.contents-test.true in (
+      c.index-contents-at.result,
       read_named c.args.uploaded.now.interface.contents c.as_slice-contents.result.now c.contents.at c.index-contents-at.result low c.as_slice-contents.ensures c.index-contents-at.is,
-      component_of (kind_term c.index-contents-at.result.kind) c.in-Some.of.now (sym c.component_of.ensures ∙ ap option_copied c.in-Some.is))
+      component_of (kind_term c.index-contents-at.result.kind) c.in-Some.of.now (sym c.component_of.ensures ∙ ap option_copied c.in-Some.is),
+    )
 
 pub contents-preserved : goal.contents-preserved
 contents-preserved c =
@@ -25,12 +26,12 @@ contents-preserved c =
     let at = c.contents.at in
     let low : c.contents.at < length c.args.uploaded.now.interface.contents = subst (λ xs. c.contents.at < length xs) c.as_slice-contents.ensures c.contents-test.true in
     elim c.match-component_of.branch [
-      in-Some+in_ok-found w ↦ record {
+      | in-Some+in_ok-found w ↦ record {
         ready = subst (λ s. IsReady c.args.self.now s (c.args.index + 1)) (sym w.scratch-is) w.in_ok-found.ensures.ready;
         least = subst (IsLeast u (OfContents (Broken c.args.self.now c.args.index u) (at + 1))) (sym (w.first-is ∙ w.earlier-first.ensures))
             (least_weaker u _ (OfContents (Broken c.args.self.now c.args.index u) (at + 1)) _
-              (contents_more (Broken c.args.self.now c.args.index u) at) (contents_less (Broken c.args.self.now c.args.index u) at)
-              (earlier_least u (OfContents (Broken c.args.self.now c.args.index u) at) (AtSpot (Broken c.args.self.now c.args.index u) (spots.ContentSchema at)) c.contents.first w.in_ok-found.found c.contents.invariant.least w.in_ok-found.ensures.least));
+            (contents_more (Broken c.args.self.now c.args.index u) at) (contents_less (Broken c.args.self.now c.args.index u) at)
+            (earlier_least u (OfContents (Broken c.args.self.now c.args.index u) at) (AtSpot (Broken c.args.self.now c.args.index u) (spots.ContentSchema at)) c.contents.first w.in_ok-found.found c.contents.invariant.least w.in_ok-found.ensures.least));
       }
       | in_default w ↦ record {
         ready = subst (λ s. IsReady c.args.self.now s (c.args.index + 1)) (sym w.scratch-is) c.contents.invariant.ready;

@@ -36,9 +36,9 @@ pub add_owners-requires-clause-reached : goal.add_owners-requires-clause-reached
 add_owners-requires-clause-reached c =
     subst (λ n. AllByRecursion (λ y. y < n) c.as_slice-then-at-parents.result.now) (sym (declared_nodes c.args.self.now c.requires.judging.judge))
     (reached_below c.args.self.now c.requires.judging.judge c.args.uploaded.now.interface c.args.at c.as_slice-then-at-parents.result.now
-      (is_reached c.args.self.now.world.numbers.entries c.args.self.now.world.links.items c.args.uploaded.now.interface c.args.at c.index-parents-at.result c.in-Some.parent c.as_slice-then-at-parents.result.now c.in_ok-reached.reached.items
-        (read_named c.args.uploaded.now.interface.parents c.as_slice-parents.result.now c.args.at c.index-parents-at.result c.requires.at c.as_slice-parents.ensures c.index-parents-at.is)
-        (sym c.number.ensures ∙ c.in-Some.is) c.in_ok-reached.ensures.behind c.as_slice-then-at-parents.ensures.value))
+    (is_reached c.args.self.now.world.numbers.entries c.args.self.now.world.links.items c.args.uploaded.now.interface c.args.at c.index-parents-at.result c.in-Some.parent c.as_slice-then-at-parents.result.now c.in_ok-reached.reached.items
+    (read_named c.args.uploaded.now.interface.parents c.as_slice-parents.result.now c.args.at c.index-parents-at.result c.requires.at c.as_slice-parents.ensures c.index-parents-at.is)
+    (sym c.number.ensures ∙ c.in-Some.is) c.in_ok-reached.ensures.behind c.as_slice-then-at-parents.ensures.value))
 
 pub add_owners-requires-clause-names : goal.add_owners-requires-clause-names
 add_owners-requires-clause-names c y x h =
@@ -47,12 +47,12 @@ add_owners-requires-clause-names c y x h =
 pub returns-clause-owned : goal.returns-clause-owned
 returns-clause-owned c more =
     elim c.if-at-parents.branch [
-      then-at-parents w ↦
-        subst (λ os. KnowsOwners c.args.self.now os c.args.index c.args.uploaded.now (c.args.at + 1)) (sym (w.owners-is ∙ w.add_owners.ensures))
-        (owned_more c.args.self.now c.args.index c.args.uploaded.now c.requires.judging c.args.owners.now c.args.at w.as_slice-then-at-parents.result.now
+      | then-at-parents w ↦
+          subst (λ os. KnowsOwners c.args.self.now os c.args.index c.args.uploaded.now (c.args.at + 1)) (sym (w.owners-is ∙ w.add_owners.ensures))
+          (owned_more c.args.self.now c.args.index c.args.uploaded.now c.requires.judging c.args.owners.now c.args.at w.as_slice-then-at-parents.result.now
           (is_reached c.args.self.now.world.numbers.entries c.args.self.now.world.links.items c.args.uploaded.now.interface c.args.at c.index-parents-at.result c.in-Some.parent w.as_slice-then-at-parents.result.now c.in_ok-reached.reached.items
-            (read_named c.args.uploaded.now.interface.parents c.as_slice-parents.result.now c.args.at c.index-parents-at.result c.requires.at c.as_slice-parents.ensures c.index-parents-at.is)
-            (sym c.number.ensures ∙ c.in-Some.is) c.in_ok-reached.ensures.behind w.as_slice-then-at-parents.ensures.value)
+          (read_named c.args.uploaded.now.interface.parents c.as_slice-parents.result.now c.args.at c.index-parents-at.result c.requires.at c.as_slice-parents.ensures c.index-parents-at.is)
+          (sym c.number.ensures ∙ c.in-Some.is) c.in_ok-reached.ensures.behind w.as_slice-then-at-parents.ensures.value)
           c.requires.names c.requires.owned)
       | else-at-parents w ↦ absurd (let size = ap length c.as_slice-parents.ensures in omega (arith, more, size, w.if-at-parents.false))
     ]
@@ -60,9 +60,9 @@ returns-clause-owned c more =
 pub returns-clause-fresh : goal.returns-clause-fresh
 returns-clause-fresh c =
     elim c.if-at-parents.branch [
-      then-at-parents w ↦
-        subst (λ os. AreFresh os (c.args.index + 1) (length c.args.self.now.new.now)) (sym (w.owners-is ∙ w.add_owners.ensures))
-        (fresh_reached c.args.self.now.names.declared.items c.args.index c.args.owners.now w.as_slice-then-at-parents.result.now (length c.args.self.now.new.now)
+      | then-at-parents w ↦
+          subst (λ os. AreFresh os (c.args.index + 1) (length c.args.self.now.new.now)) (sym (w.owners-is ∙ w.add_owners.ensures))
+          (fresh_reached c.args.self.now.names.declared.items c.args.index c.args.owners.now w.as_slice-then-at-parents.result.now (length c.args.self.now.new.now)
           (subst (AreNamesBelow c.args.self.now.names.declared.items 0) (sym c.requires.names) (names_below c.args.self.now c.requires.judging.judge)) c.requires.fresh)
       | else-at-parents w ↦ subst (λ os. AreFresh os (c.args.index + 1) (length c.args.self.now.new.now)) (sym w.owners-is) c.requires.fresh
     ]

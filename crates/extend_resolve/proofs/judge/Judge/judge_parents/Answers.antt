@@ -28,7 +28,7 @@ parents-init c =
     let j = c.args.self.now in
     let u = c.args.uploaded.now in
     let names : c.as_slice.result.now ≡ links_at j.names.declared.items c.args.index =
-        read_links j.names.declared.items c.args.index c.as_slice.result.now c.index.result.now (declared_below j c.args.index u c.requires.judging) c.as_slice.ensures c.index.ensures in
+    read_links j.names.declared.items c.args.index c.as_slice.result.now c.index.result.now (declared_below j c.args.index u c.requires.judging) c.as_slice.ensures c.index.ensures in
     let size : length c.as_mut_slice.result.now ≡ j.names.bound = ap length c.as_mut_slice.ensures.value ∙ c.requires.ready.owners_length in
     let fresh : AreFresh c.as_mut_slice.result.now c.args.index (length j.new.now) = subst (λ os. AreFresh os c.args.index (length j.new.now)) (sym c.as_mut_slice.ensures.value) c.requires.ready.fresh in
     let same : length c.add.new.owners ≡ length c.args.scratch.now.owners.items = ap length c.add.ensures ∙ names_length c.args.index c.unwrap_or.result c.as_mut_slice.result.now c.as_slice.result.now ∙ ap length c.as_mut_slice.ensures.value in
@@ -36,13 +36,13 @@ parents-init c =
       ready = ready_owners j c.args.scratch.now (c.args.index + 1) c.add.new.owners same
           c.requires.ready.marks_length c.requires.ready.owners_length c.requires.ready.composed_length c.requires.ready.composed c.requires.ready.marks
           (subst (λ os. AreFresh os (c.args.index + 1) (length j.new.now)) (sym c.add.ensures)
-            (fresh_names c.args.index c.unwrap_or.result c.as_mut_slice.result.now c.as_slice.result.now (length j.new.now)
-              (own_names_below j c.args.index u c.requires.judging c.as_mut_slice.result.now c.as_slice.result.now names size)
-              (later_fresh c.as_mut_slice.result.now c.args.index (length j.new.now) fresh)));
+          (fresh_names c.args.index c.unwrap_or.result c.as_mut_slice.result.now c.as_slice.result.now (length j.new.now)
+          (own_names_below j c.args.index u c.requires.judging c.as_mut_slice.result.now c.as_slice.result.now names size)
+          (later_fresh c.as_mut_slice.result.now c.args.index (length j.new.now) fresh)));
       owned = λ low. owned_with j c.args.scratch.now c.args.index 0 u c.add.new.owners same
           (subst (λ os. KnowsOwners j os c.args.index u 0) (sym c.add.ensures)
           (owned_first j c.args.index u c.requires.judging c.as_mut_slice.result.now c.unwrap_or.result c.as_slice.result.now
-            (own_kept j c.args.index u c.requires.judging c.unwrap_or.result c.number.result c.number.ensures c.unwrap_or.ensures) names size fresh));
+          (own_kept j c.args.index u c.requires.judging c.unwrap_or.result c.number.result c.number.ensures c.unwrap_or.ensures) names size fresh));
       least = λ r s h. absurd (omega (arith, h.1));
     }
 
@@ -59,8 +59,8 @@ parents-preserved c =
       owned = λ low. owned_with c.args.self.now c.parents.scratch c.args.index (at + 1) u c.judge_parent.new.owners same_owners (c.in_ok-found.ensures.owned low);
       least = subst (IsLeast u (OfParents (Broken c.args.self.now c.args.index u) (at + 1))) (sym c.earlier-first.ensures)
           (least_weaker u _ (OfParents (Broken c.args.self.now c.args.index u) (at + 1)) _
-            (parents_more (Broken c.args.self.now c.args.index u) at) (parents_less (Broken c.args.self.now c.args.index u) at)
-            (earlier_least u (OfParents (Broken c.args.self.now c.args.index u) at) (AtSpot (Broken c.args.self.now c.args.index u) (spots.Parent at)) c.parents.first c.in_ok-found.found c.parents.invariant.least c.in_ok-found.ensures.least));
+          (parents_more (Broken c.args.self.now c.args.index u) at) (parents_less (Broken c.args.self.now c.args.index u) at)
+          (earlier_least u (OfParents (Broken c.args.self.now c.args.index u) at) (AtSpot (Broken c.args.self.now c.args.index u) (spots.Parent at)) c.parents.first c.in_ok-found.found c.parents.invariant.least c.in_ok-found.ensures.least));
     }
 
 pub returns-clause-least : goal.returns-clause-least
