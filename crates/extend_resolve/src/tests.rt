@@ -1,5 +1,9 @@
 //! Sets in short: an interface is `ID > PARENT .. = NAME .. NAME:COMPONENT ..`.
 
+ghost use Rattle.std.specs.Prelude.{◌≡◌, true, None};
+ghost use Rattle.std.specs.List.{AllByRecursion};
+ghost use Rattle.dtdl_terms.specs.Sets.{interface_at};
+
 use super::*;
 use dt_base::{List, Text};
 use dtdl_terms::{
@@ -95,15 +99,39 @@ fn uploads(alloc: Global, text: &str, as_text: bool) -> Result<Vec<Uploaded>, Fa
     Ok(new)
 }
 
+// adds an interface, where none has its identifier
+fn put(set: &mut ModelSet, interface: Interface) -> Result<(), Fail> {
+    if set.get(&interface.id).is_some() {
+        return Err(Fail::from(SetEnd::OutOfMemory));
+    }
+    set.insert(interface)?;
+    Ok(())
+}
+
+// whether no new interface has an identifier of the set
+fn are_apart(set: &ModelSet, new: &[Uploaded]) -> bool
+    ensures { result ≡ true → AllByRecursion (λ u. interface_at u.interface.id set.now ≡ None) new.now }
+{
+    'new: for uploaded in new {
+        if set.get(&uploaded.interface.id).is_some() {
+            return false;
+        }
+    }
+    true
+}
+
 // the verdict on a set, as `check` prints it
 fn verdict(alloc: Global, old: &str, text: &str, as_text: bool) -> Result<String, Fail> {
     let mut set = ModelSet::new(alloc);
     if !old.is_empty() {
         for line in old.split(';') {
-            set.insert(interface(alloc, line)?)?;
+            put(&mut set, interface(alloc, line)?)?;
         }
     }
     let new = uploads(alloc, text, as_text)?;
+    if !are_apart(&set, new.as_slice()) {
+        return Err(Fail::from(SetEnd::OutOfMemory));
+    }
     match check_set(alloc, &set, new.as_slice()) {
         Ok(()) => Ok(format!(in alloc; "accepted {}", new.len())?),
         Err(SetEnd::Fault { index, spot, rule }) => {
@@ -218,7 +246,7 @@ fn finds_ancestors(rt: HostRuntime) -> Result<(), Fail> {
     let alloc = rt.alloc();
     let mut set = ModelSet::new(alloc);
     for line in "a > b c; b > d; c > d; d; e".split(';') {
-        set.insert(interface(alloc, line)?)?;
+        put(&mut set, interface(alloc, line)?)?;
     }
     for (id, ancestor, want) in [
         ("a", "d", true),
