@@ -79,7 +79,7 @@ in_document (array vs) nth us h = each_ordinals (array vs) nth (enumerate_from 0
 in_document (object ms) nth us (u, one, h) =
     subst (AllByRecursion HasOrdinals) (sym one) (has_ordinals (object ms) [] 0 nth (object ms) u h, tt)
 
-all_append : {A : Type 0} (P : A → Type 0) (xs ys : List A) → AllByRecursion P xs → AllByRecursion P ys → AllByRecursion P (xs ++ ys)
+pub all_append : {A : Type 0} (P : A → Type 0) (xs ys : List A) → AllByRecursion P xs → AllByRecursion P ys → AllByRecursion P (xs ++ ys)
 all_append P [] ys h g = g
 all_append P (x ∷ xs) ys h g = (h.0, all_append P xs ys h.1 g)
 
