@@ -1,2 +1,4 @@
 pub mod Tables
 pub mod Schemas
+pub mod Contents
+pub mod Documents

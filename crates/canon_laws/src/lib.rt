@@ -3,4 +3,4 @@
 
 mod laws;
 
-pub use laws::declares_the_same;
+pub use laws::{declares_the_same, have_types, prints_itself};
