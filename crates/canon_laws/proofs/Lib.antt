@@ -2,3 +2,4 @@ pub mod Tables
 pub mod Schemas
 pub mod Contents
 pub mod Documents
+pub mod Nests
