@@ -3,3 +3,4 @@ pub mod Schemas
 pub mod Contents
 pub mod Documents
 pub mod Nests
+pub mod Spelled
