@@ -1,33 +1,31 @@
 -- What a canonical content, and a canonical interface, declares has its tree.
-use Rattle.std.proofs.Common.{◌≡◌, ℕ, ◌⊎◌, inl, inr, filter, is_none, List, [], ◌∷◌, ◌++◌, map, Bool, true, false, Option, Some, None, refl, sym, ap, ◌∙◌, subst}
+use Rattle.std.proofs.Common.{◌≡◌, ℕ, inl, inr, List, [], ◌∷◌, ◌++◌, map, Option, Some, None, refl, sym, ap, ◌∙◌, subst}
 use Rattle.std.specs.Prelude.{codes, IfSome}
 use Rattle.std.specs.Option.{option_and_then, option_map}
 use Rattle.std.specs.List.{AllByRecursion, AllZip}
 use Rattle.dtmi_name.specs.Grammar.{Identifier, dtmi_text}
 use Rattle.json_decimal.specs.Number.{Number}
-use Rattle.json_tree.specs.Values.{Json, null, truth, number, text, array, object, Elements, no_elements, element, elements_of, Members, members_of}
+use Rattle.json_tree.specs.Values.{Json, text, array, object, Elements, no_elements, element, elements_of, Members, members_of}
 use Rattle.local_rules.specs.Members.{list_of, value_at}
-use Rattle.local_rules.specs.Roles.{element_named, named_by, only, type_in, type_of}
+use Rattle.local_rules.specs.Roles.{element_named, named_by, type_in}
 use Rattle.local_rules.specs.Types.{further}
 use Rattle.local_rules.specs.declared.role.Element.{Element}
 use Rattle.local_rules.specs.declared.role.Element.TheVariants as element_kind
 use Rattle.local_rules.specs.declared.role.Position.{Position}
 use Rattle.local_rules.specs.declared.role.Position.TheVariants as position
-use Rattle.dtdl_terms.specs.Terms.{SchemaTerm, PayloadTerm, ContentTerm, content, KindTerm, telemetry, property, command, relationship, component, ContentTerms, no_contents, more_contents}
+use Rattle.dtdl_terms.specs.Terms.{ContentTerm, content, KindTerm, telemetry, property, command, relationship, component, ContentTerms, no_contents, more_contents}
 use Rattle.dtdl_terms.specs.TermViews.{schema_term, content_term}
-use Rattle.dtdl_terms.specs.Distinct.{content_name}
 use Rattle.dtdl_terms.specs.Equality.{content_list}
 use Rattle.dtdl_terms.specs.declared.common.Common.{Common}
 use Rattle.dtdl_terms.specs.declared.content.Content.{Content}
 use Rattle.dtdl_terms.specs.declared.interface.Interface.{Interface}
 use Rattle.dtdl_terms.specs.declared.schema.Schema.{Schema}
-use Rattle.model_read.specs.Declarations.{IsIdentifier, HasId, HasOptionalString, HasOptionalId, HasCommon, AreEntriesOf, IsSemantic, type_of_kind, IsPropertyTerm, AreKind, IsContent, AreProperties, HasKindOf, IsContentEntry, HasEach, HasParents, IsSchema, DeclaresInterface}
+use Rattle.model_read.specs.Declarations.{IsIdentifier, HasId, HasOptionalString, HasOptionalId, IsSemantic, type_of_kind, IsPropertyTerm, AreKind, IsContent, AreProperties, HasKindOf, IsContentEntry, HasParents, IsSchema, DeclaresInterface}
 use Rattle.canon_text.specs.Objects.{present, object_of_parts, list_in_order, unless_empty}
-use Rattle.canon_text.specs.Canonical.{id_value, localized_value, element_parts, schema_value, payload_value, schema_pair, typed, kind_type, writable_value, most_value, kind_parts, content_value, content_pairs, content_pair, parent_pair, interface_value, interface_pair}
-use Rattle.canon_text.specs.Machinery.Pairs.{pair_value}
+use Rattle.canon_text.specs.Canonical.{id_value, localized_value, element_parts, schema_pair, typed, kind_type, writable_value, most_value, kind_parts, content_value, content_pairs, content_pair, parent_pair, interface_value, interface_pair}
 use Rattle.canon_text.proofs.Told.{all_with, all_mapped}
 use Rattle.canon_laws.specs.Typed.{NamesNoType, KindIsTyped, ContentIsTyped, PropertiesAreTyped, IsTyped}
-use Rattle.canon_laws.proofs.Tables.{Pairs, Parts, first_some, found, at, same_some, string_told, id_told, writable_back, most_back, PairBack, list_back, optional_back, localized_back, LacksCommon, type_at, element_back}
+use Rattle.canon_laws.proofs.Tables.{Pairs, Parts, first_some, found, at, same_some, string_told, id_told, writable_back, most_back, PairBack, optional_back, localized_back, LacksCommon, type_at, element_back}
 use Rattle.canon_laws.proofs.Schemas.{schema_back, schema_part_back, optional_payload_back}
 
 -- ---- types
@@ -141,7 +139,7 @@ from_kind p n c k back m d l kinds g =
     let name : m ≡ n = cc in
     let own = back m l g.0 kinds g.1 name g.4 in
     let value = ap (λ (v : Json). object_of_parts (element_parts (Some v) d ++ kind_parts m l)) own.0
-        ∙ element_back (Some (kind_type k)) c (kind_parts n k) (kind_lacks n k) g.0 g.1 d g.3 (kind_parts m l) own.1 in
+    ∙ element_back (Some (kind_type k)) c (kind_parts n k) (kind_lacks n k) g.0 g.1 d g.3 (kind_parts m l) own.1 in
     λ i. (name i, value i)
 
 mutual
@@ -177,8 +175,8 @@ mutual
       let target = id_back (codes "target") ps ms t u object_is refl g.0 in
       let list = at (codes "properties") ps ms (unless_empty list_in_order (content_pairs cs)) object_is refl in
       let properties = ap (unless_empty list_in_order) (content_pairs_list ds)
-          ∙ optional_back IsPropertyIn content_pair (content_pairs cs) (value_at (codes "properties") ms) g.1.0 (content_list ds) (properties_back cs known) list g.1.1
-          (properties_zip ds g.1.0 g.1.2) in
+      ∙ optional_back IsPropertyIn content_pair (content_pairs cs) (value_at (codes "properties") ms) g.1.0 (content_list ds) (properties_back cs known) list g.1.1
+      (properties_zip ds g.1.0 g.1.2) in
       let most = most_back ms o q (at (codes "maxMultiplicity") ps ms (option_map most_value o) object_is refl) g.2 in
       let writable = writable_back w (value_at (codes "writable") ms) x (at (codes "writable") ps ms (writable_value w) object_is refl) g.3 in (
         refl,
@@ -263,24 +261,27 @@ interface_back i j ms known object_is g =
     let name : dtmi_text j.id ≡ dtmi_text i.id = cc in
     let comment = text_back (codes "comment") parts ms i.comment j.comment object_is refl g.comment in
     let contents = optional_back IsContentEntry content_named (map content_named i.contents) (value_at (codes "contents") ms) g.contents.0 j.contents
-        (all_mapped content_named (PairBack IsContentEntry content_named) i.contents
-        (all_with (λ c. ContentIsTyped position.Content (content_term c)) (λ c. PairBack IsContentEntry content_named (content_named c))
-        (λ c h d e. content_back (content_term c) (content_term d) h e.0 e.1) i.contents known))
-        (at (codes "contents") parts ms (unless_empty list_in_order (map content_named i.contents)) object_is refl) g.contents.1 g.contents.2 in
+    (all_mapped content_named (PairBack IsContentEntry content_named) i.contents
+    (all_with (λ c. ContentIsTyped position.Content (content_term c)) (λ c. PairBack IsContentEntry content_named (content_named c))
+    (λ c h d e. content_back (content_term c) (content_term d) h e.0 e.1) i.contents known))
+    (at (codes "contents") parts ms (unless_empty list_in_order (map content_named i.contents)) object_is refl) g.contents.1 g.contents.2 in
     let description = localized_back (codes "description") ms i.description j.description (at (codes "description") parts ms (localized_value i.description) object_is refl) g.description in
     let display_name = localized_back (codes "displayName") ms i.display_name j.display_name (at (codes "displayName") parts ms (localized_value i.display_name) object_is refl) g.display_name in
     let parents = parents_back i.parents (value_at (codes "extends") ms) j.parents (at (codes "extends") parts ms (unless_empty list_in_order (map parent_pair i.parents)) object_is refl) g.parents in
     let schemas = optional_back IsSchemaIn schema_named (map schema_named i.schemas) (value_at (codes "schemas") ms) g.schemas.0 j.schemas
-        (all_mapped schema_named (PairBack IsSchemaIn schema_named) i.schemas (each_schema_back i.schemas))
-        (at (codes "schemas") parts ms (unless_empty list_in_order (map schema_named i.schemas)) object_is refl) g.schemas.1 g.schemas.2 in
-    λ k. (name k, object_of_parts (
-    (codes "@context", Some (text (codes "dtmi:dtdl:context;2")))
-    ∷ (codes "@id", Some (id k))
-    ∷ (codes "@type", Some (text (codes "Interface")))
-    ∷ (codes "comment", comment k)
-    ∷ (codes "contents", contents k)
-    ∷ (codes "description", description k)
-    ∷ (codes "displayName", display_name k)
-    ∷ (codes "extends", parents k)
-    ∷ (codes "schemas", schemas k)
-    ∷ []))
+    (all_mapped schema_named (PairBack IsSchemaIn schema_named) i.schemas (each_schema_back i.schemas))
+    (at (codes "schemas") parts ms (unless_empty list_in_order (map schema_named i.schemas)) object_is refl) g.schemas.1 g.schemas.2 in
+    λ k. (
+      name k,
+      object_of_parts (
+          (codes "@context", Some (text (codes "dtmi:dtdl:context;2")))
+          ∷ (codes "@id", Some (id k))
+          ∷ (codes "@type", Some (text (codes "Interface")))
+          ∷ (codes "comment", comment k)
+          ∷ (codes "contents", contents k)
+          ∷ (codes "description", description k)
+          ∷ (codes "displayName", display_name k)
+          ∷ (codes "extends", parents k)
+          ∷ (codes "schemas", schemas k)
+          ∷ []),
+    )

@@ -1,5 +1,5 @@
 -- What the canonical tree of a set declares, and the types of what documents declare.
-use Rattle.std.proofs.Common.{◌≡◌, ℕ, ◌+◌, filter, is_none, List, [], ◌∷◌, map, Bool, true, false, if◌then◌else◌, Option, Some, None, refl, sym, ap, ap₂, ◌∙◌, subst}
+use Rattle.std.proofs.Common.{◌≡◌, ℕ, ◌+◌, is_none, List, [], ◌∷◌, map, Bool, true, false, if◌then◌else◌, Option, Some, None, refl, sym, ap, ap₂, ◌∙◌, subst}
 use Rattle.std.specs.Prelude.{codes, IfSome}
 use Rattle.std.specs.List.{AllByRecursion, AllZip, enumerate_from}
 use Rattle.json_decimal.specs.Number.{Number}
@@ -7,7 +7,6 @@ use Rattle.json_tree.specs.Values.{Json, null, truth, number, text, array, objec
 use Rattle.local_rules.specs.Members.{list_of, value_at}
 use Rattle.local_rules.specs.Roles.{element_named, named_by}
 use Rattle.local_rules.specs.Types.{further}
-use Rattle.local_rules.specs.declared.role.Element.{Element}
 use Rattle.local_rules.specs.declared.role.Position.{Position}
 use Rattle.local_rules.specs.declared.role.Position.TheVariants as position
 use Rattle.dtdl_terms.specs.Terms.{ContentTerm, content, KindTerm, telemetry, property, command, relationship, component, ContentTerms, no_contents, more_contents}

@@ -1,5 +1,5 @@
 -- How deep canonical trees nest.
-use Rattle.std.proofs.Common.{◌≡◌, ℕ, zero, suc, ◌≤◌, List, [], ◌∷◌, ◌++◌, map, Bool, true, false, Option, Some, None, refl, sym, ap, ◌∙◌, subst, arith}
+use Rattle.std.proofs.Common.{◌≡◌, ℕ, zero, suc, ◌≤◌, List, [], ◌∷◌, ◌++◌, map, Bool, true, false, Option, Some, None, refl, sym, subst, arith}
 use Rattle.std.specs.Prelude.{codes, max, IfSome}
 use Rattle.std.specs.Option.{option_map}
 use Rattle.std.specs.List.{AllByRecursion}
@@ -16,10 +16,9 @@ use Rattle.dtdl_terms.specs.declared.enumeration.EnumEntry.{EnumEntry}
 use Rattle.dtdl_terms.specs.declared.enumeration.EnumValue.{EnumValue}
 use Rattle.dtdl_terms.specs.declared.enumeration.EnumValue.TheVariants as values
 use Rattle.dtdl_terms.specs.declared.interface.Interface.{Interface}
-use Rattle.local_rules.specs.declared.role.Element.TheVariants as element_kind
 use Rattle.local_rules.specs.declared.role.Position.TheVariants as position
-use Rattle.model_read.specs.Declarations.{type_of_kind, IsPropertyTerm}
-use Rattle.model_read.specs.Limits.{levels, payload_levels, payloads_levels, SchemaIsWithin, OuterSchemaIsWithin, OuterPayloadIsWithin, KindIsWithin, ContentIsWithin, ContentsAreWithin, IsWithinLimits}
+use Rattle.model_read.specs.Declarations.{IsPropertyTerm}
+use Rattle.model_read.specs.Limits.{levels, payload_levels, payloads_levels, OuterSchemaIsWithin, OuterPayloadIsWithin, KindIsWithin, ContentIsWithin, ContentsAreWithin, IsWithinLimits}
 use Rattle.canon_text.specs.Sorting.{sorted_by}
 use Rattle.canon_text.specs.Objects.{present, object_of_parts, members_in_order, list_in_order, unless_empty}
 use Rattle.canon_text.specs.Canonical.{id_value, entry_pair, localized_value, element_parts, enum_value, enum_entry_pair, value_schema, schema_value, payload_value, payload_pairs, schema_pair, typed, kind_type, writable_value, most_value, kind_parts, content_value, content_pairs, content_pair, parent_pair, interface_value, interface_pair, set_value}
@@ -150,7 +149,7 @@ mutual
   schema_nests (enumeration c a es) (suc n) le =
       let some = some_room n in
       let entries : AllByRecursion (λ e. PairNests (suc (room n)) (enum_entry_pair e)) es =
-          subst (λ (r : ℕ). AllByRecursion (λ e. PairNests (suc r) (enum_entry_pair e)) es) (sym some.1) (enum_entries_nest some.0 es) in
+      subst (λ (r : ℕ). AllByRecursion (λ e. PairNests (suc r) (enum_entry_pair e)) es) (sym some.1) (enum_entries_nest some.0 es) in
       let own : Parts = (codes "enumValues", Some (list_in_order (map enum_entry_pair es))) ∷ (codes "valueSchema", Some (value_schema a)) ∷ [] in
       object_nests (suc (suc (room n))) (element_parts (Some (text (codes "Enum"))) c ++ own)
       (element_nests (suc (room n)) (Some (text (codes "Enum"))) c own tt
@@ -249,25 +248,28 @@ parents_nest (p ∷ ps) = (tt, parents_nest ps)
 interface_nests : (i : Interface) → IsTyped i → IsWithinLimits i → NestsWithin 22 (interface_value i)
 interface_nests i t h =
     let contents = optional_list_nests 20 (map (λ c. content_pair (content_term c)) i.contents)
-        (all_mapped (λ c. content_pair (content_term c)) (PairNests 20) i.contents
-        (all_both (λ c. ContentIsTyped position.Content (content_term c)) (λ c. ContentIsWithin (content_term c)) (λ c. PairNests 20 (content_pair (content_term c)))
-        (λ c u g. content_nests (content_term c) u g) i.contents t h.contents)) in
+    (all_mapped (λ c. content_pair (content_term c)) (PairNests 20) i.contents
+    (all_both (λ c. ContentIsTyped position.Content (content_term c)) (λ c. ContentIsWithin (content_term c)) (λ c. PairNests 20 (content_pair (content_term c)))
+    (λ c u g. content_nests (content_term c) u g) i.contents t h.contents)) in
     let parents = optional_list_nests 20 (map parent_pair i.parents) (all_mapped parent_pair (PairNests 20) i.parents (parents_nest i.parents)) in
     let schemas = optional_list_nests 20 (map (λ s. schema_pair (schema_term s)) i.schemas)
-        (all_mapped (λ s. schema_pair (schema_term s)) (PairNests 20) i.schemas
-        (all_with (λ s. OuterSchemaIsWithin (schema_term s)) (λ s. PairNests 20 (schema_pair (schema_term s)))
-        (λ s g. deeper (schema_value (schema_term s)) 17 20 (omega arith) (outer_nests (schema_term s) g)) i.schemas h.schemas)) in
-    (21, refl, parts_nest 21 (
-    (codes "@context", Some (text (codes "dtmi:dtdl:context;2")))
-    ∷ (codes "@id", Some (id_value i.id))
-    ∷ (codes "@type", Some (text (codes "Interface")))
-    ∷ (codes "comment", option_map text i.comment)
-    ∷ (codes "contents", unless_empty list_in_order (map (λ c. content_pair (content_term c)) i.contents))
-    ∷ (codes "description", localized_value i.description)
-    ∷ (codes "displayName", localized_value i.display_name)
-    ∷ (codes "extends", unless_empty list_in_order (map parent_pair i.parents))
-    ∷ (codes "schemas", unless_empty list_in_order (map (λ s. schema_pair (schema_term s)) i.schemas))
-    ∷ []) (tt, (tt, (tt, (text_nests 21 i.comment, (contents, (localized_nests 20 i.description, (localized_nests 20 i.display_name, (parents, (schemas, tt))))))))))
+    (all_mapped (λ s. schema_pair (schema_term s)) (PairNests 20) i.schemas
+    (all_with (λ s. OuterSchemaIsWithin (schema_term s)) (λ s. PairNests 20 (schema_pair (schema_term s)))
+    (λ s g. deeper (schema_value (schema_term s)) 17 20 (omega arith) (outer_nests (schema_term s) g)) i.schemas h.schemas)) in (
+      21,
+      refl,
+      parts_nest 21 (
+          (codes "@context", Some (text (codes "dtmi:dtdl:context;2")))
+          ∷ (codes "@id", Some (id_value i.id))
+          ∷ (codes "@type", Some (text (codes "Interface")))
+          ∷ (codes "comment", option_map text i.comment)
+          ∷ (codes "contents", unless_empty list_in_order (map (λ c. content_pair (content_term c)) i.contents))
+          ∷ (codes "description", localized_value i.description)
+          ∷ (codes "displayName", localized_value i.display_name)
+          ∷ (codes "extends", unless_empty list_in_order (map parent_pair i.parents))
+          ∷ (codes "schemas", unless_empty list_in_order (map (λ s. schema_pair (schema_term s)) i.schemas))
+          ∷ []) (tt, (tt, (tt, (text_nests 21 i.comment, (contents, (localized_nests 20 i.description, (localized_nests 20 i.display_name, (parents, (schemas, tt))))))))),
+    )
 
 pub set_nests : (is : List Interface) → AllByRecursion IsTyped is → AllByRecursion IsWithinLimits is → NestsWithin 64 (set_value is)
 set_nests is t h =

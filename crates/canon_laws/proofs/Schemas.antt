@@ -4,8 +4,8 @@ use Rattle.std.specs.Prelude.{codes}
 use Rattle.std.specs.Option.{option_and_then, option_map}
 use Rattle.std.specs.List.{AllByRecursion, AllZip}
 use Rattle.json_decimal.specs.Number.{Number}
-use Rattle.json_tree.specs.Values.{Json, null, truth, number, text, array, object, Elements, no_elements, element, Members, members_of}
-use Rattle.local_rules.specs.Members.{list_of, value_at}
+use Rattle.json_tree.specs.Values.{Json, number, text, array, object, Elements, no_elements, element, Members, members_of}
+use Rattle.local_rules.specs.Members.{list_of}
 use Rattle.local_rules.specs.Roles.{type_in}
 use Rattle.local_rules.specs.declared.role.Position.TheVariants as position
 use Rattle.dtdl_terms.specs.Primitives.{primitive_name}
@@ -18,10 +18,10 @@ use Rattle.dtdl_terms.specs.declared.enumeration.EnumValue.{EnumValue}
 use Rattle.dtdl_terms.specs.declared.enumeration.EnumValue.TheVariants as values
 use Rattle.model_read.specs.Declarations.{HasCommon, IsEnumValue, IsEnumEntry, IsSchema, IsPayload, ArePayloads, HasSchema, HasPayload, HasOptionalPayload}
 use Rattle.model_read.specs.Declarations as declared
-use Rattle.model_read.proofs.Once.{Form, is, form, form_in, primitive_form, has_form}
+use Rattle.model_read.proofs.Once.{is, form, form_in, primitive_form, has_form}
 use Rattle.canon_text.specs.Numbers.{whole}
 use Rattle.canon_text.specs.Objects.{present, object_of_parts, list_in_order}
-use Rattle.canon_text.specs.Canonical.{id_value, element_parts, enum_value, enum_entry_value, enum_entry_pair, value_schema, schema_object, schema_value, payload_value, payload_pairs, id_text, schema_pair}
+use Rattle.canon_text.specs.Canonical.{element_parts, enum_value, enum_entry_value, enum_entry_pair, value_schema, schema_object, schema_value, payload_value, payload_pairs, id_text, schema_pair}
 use Rattle.canon_text.specs.Machinery.Pairs.{pair_value}
 use Rattle.canon_text.proofs.Told.{all_mapped}
 use Rattle.canon_laws.proofs.Tables.{Pairs, Parts, first_some, found, at, same_some, number_back, PairBack, list_back, LacksCommon, id_words, words_of, type_at, ids_back, element_back}
@@ -42,8 +42,8 @@ enum_entry_back e f g =
     let found : g.2.value.0 ≡ enum_value e.value = same_some g.2.value.0 (enum_value e.value) (sym g.2.value.1 ∙ at (codes "enumValue") parts g.0 (Some (enum_value e.value)) g.1 refl) in
     let value = enum_value_back e.value f.value g.2.value.0 found g.2.value.2 in
     let whole_value = element_back None e.common own (refl, refl, refl, refl, refl) g.0 g.1 f.common g.2.common
-        ((codes "enumValue", Some (enum_value f.value)) ∷ (codes "name", Some (text f.name)) ∷ [])
-        (λ i. (codes "enumValue", Some (value i)) ∷ (codes "name", Some (text (name i))) ∷ []) in
+    ((codes "enumValue", Some (enum_value f.value)) ∷ (codes "name", Some (text f.name)) ∷ [])
+    (λ i. (codes "enumValue", Some (value i)) ∷ (codes "name", Some (text (name i))) ∷ []) in
     λ i. (name i, whole_value i)
 
 value_schema_back : (a b : Bool) → Some (text (declared.value_schema b)) ≡ Some (value_schema a) → value_schema b ≡ value_schema a
@@ -134,7 +134,7 @@ mutual
       let own : Parts = (codes "enumValues", Some (list_in_order (map enum_entry_pair es))) ∷ (codes "valueSchema", Some (value_schema a)) ∷ [] in
       let parts : Parts = element_parts (Some (text (codes "Enum"))) c ++ own in
       let list : array g.1 ≡ list_in_order (map enum_entry_pair es) = same_some (array g.1) (list_in_order (map enum_entry_pair es))
-          (sym g.5 ∙ at (codes "enumValues") parts g.0 (Some (list_in_order (map enum_entry_pair es))) g.2.0 refl) in
+      (sym g.5 ∙ at (codes "enumValues") parts g.0 (Some (list_in_order (map enum_entry_pair es))) g.2.0 refl) in
       let entries = list_back IsEnumEntry enum_entry_pair (map enum_entry_pair es) g.1 fs (all_mapped enum_entry_pair (PairBack IsEnumEntry enum_entry_pair) es (each_entry_back es)) list g.6 in
       let kinds = value_schema_back a b (sym g.4 ∙ at (codes "valueSchema") parts g.0 (Some (value_schema a)) g.2.0 refl) in
       complex_back (codes "Enum") c own (refl, refl, refl, refl, refl) g.0 g.2.0 d g.3
@@ -154,9 +154,9 @@ mutual
       let own : Parts = (codes "fields", Some (list_in_order (payload_pairs ps))) ∷ [] in
       let parts : Parts = element_parts (Some (text (codes "Object"))) c ++ own in
       let list : array g.1 ≡ list_in_order (payload_pairs ps) = same_some (array g.1) (list_in_order (payload_pairs ps))
-          (sym g.4 ∙ at (codes "fields") parts g.0 (Some (list_in_order (payload_pairs ps))) g.2.0 refl) in
+      (sym g.4 ∙ at (codes "fields") parts g.0 (Some (list_in_order (payload_pairs ps))) g.2.0 refl) in
       let fields = ap list_in_order (payload_pairs_list qs)
-          ∙ list_back IsPayloadIn payload_pair (payload_pairs ps) g.1 (payload_list qs) (payloads_back ps) list (payloads_zip qs g.1 g.5) in
+      ∙ list_back IsPayloadIn payload_pair (payload_pairs ps) g.1 (payload_list qs) (payloads_back ps) list (payloads_zip qs g.1 g.5) in
       complex_back (codes "Object") c own (refl, refl, refl, refl, refl) g.0 g.2.0 d g.3 ((codes "fields", Some (list_in_order (payload_pairs qs))) ∷ [])
       (λ i. (codes "fields", Some (fields i)) ∷ [])
   forms_back (object_of c ps) other e = absurd cc
@@ -169,7 +169,7 @@ mutual
       let name : m ≡ n = cc in
       let part = part_back s (λ u h. forms_back s u (same_form s u h) h) t (codes "schema") parts g.0 g.2 refl (g.1, g.5, g.6) in
       let value = element_back None c own (refl, refl, refl, refl, refl) g.0 g.2 d g.4 ((codes "name", Some (text m)) ∷ (codes "schema", Some (schema_value t)) ∷ [])
-          (λ i. (codes "name", Some (text (name i))) ∷ (codes "schema", Some (part i)) ∷ []) in
+      (λ i. (codes "name", Some (text (name i))) ∷ (codes "schema", Some (part i)) ∷ []) in
       λ i. (name i, value i)
 
   payloads_back : (ps : PayloadTerms) → AllByRecursion (PairBack IsPayloadIn payload_pair) (payload_pairs ps)

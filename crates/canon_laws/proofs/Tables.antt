@@ -5,18 +5,18 @@ use Rattle.std.specs.Option.{option_map}
 use Rattle.std.specs.List.{AllByRecursion, AllZip}
 use Rattle.std.specs.Str.{bytes_eq}
 use Rattle.std.proofs.lemmas.Int.{ints}
-use Rattle.dtmi_name.specs.Grammar.{Identifier, dtmi_text}
+use Rattle.dtmi_name.specs.Grammar.{Identifier}
 use Rattle.json_decimal.specs.Number.{Number}
 use Rattle.json_decimal.specs.Comparing.{above, IsWhole}
 use Rattle.json_decimal.specs.Machinery.Sizes.{IsSize}
 use Rattle.json_decimal.proofs.Sizes.{above_from, below_from}
 use Rattle.json_decimal.proofs.Wholes.{whole_from_size, one_whole}
-use Rattle.json_tree.specs.Values.{Json, null, truth, number, text, array, object, Elements, no_elements, element, elements_of, Members, no_members, member, members_of}
+use Rattle.json_tree.specs.Values.{Json, null, truth, number, text, array, object, Elements, elements_of, Members, members_of}
 use Rattle.local_rules.specs.Members.{list_of, pairs_of, value_at}
 use Rattle.dtdl_terms.specs.declared.common.Common.{Common}
 use Rattle.dtdl_terms.specs.declared.common.Entry.{Entry}
 use Rattle.dtdl_terms.specs.declared.common.Localized.{Localized}
-use Rattle.model_read.specs.Declarations.{HasString, HasOptionalString, IsIdentifier, HasId, HasOptionalId, IsWritable, IsTextOfLanguage, IsLocalizedBy, IsLocalized, HasLocalized, HasCommon, HasMax, AreEntriesOf}
+use Rattle.model_read.specs.Declarations.{HasOptionalString, HasOptionalId, IsWritable, IsTextOfLanguage, IsLocalizedBy, IsLocalized, HasLocalized, HasCommon, HasMax, AreEntriesOf}
 use Rattle.canon_text.specs.Sorting.{sorted_by, put_by, is_before}
 use Rattle.canon_text.specs.Numbers.{without_zeros, sized, whole}
 use Rattle.canon_text.specs.Objects.{present, object_of_parts, members_in_order, list_in_order, unless_empty}
@@ -222,11 +222,11 @@ module _ (type : Option Json) (c : Common) (own : Parts) (lacks : LacksCommon ow
     pub common_back : element_parts type d ≡ element_parts type c
     common_back =
         let comments = sym (string_told (codes "comment") ms d.comment g.comment)
-            ∙ at (codes "comment") (element_parts type c ++ own) ms (option_map text c.comment) is (ap (first_some (option_map text c.comment)) lacks.2) in
+        ∙ at (codes "comment") (element_parts type c ++ own) ms (option_map text c.comment) is (ap (first_some (option_map text c.comment)) lacks.2) in
         let descriptions = localized_back (codes "description") ms c.description d.description
-            (at (codes "description") (element_parts type c ++ own) ms (localized_value c.description) is (ap (first_some (localized_value c.description)) lacks.3)) g.description in
+        (at (codes "description") (element_parts type c ++ own) ms (localized_value c.description) is (ap (first_some (localized_value c.description)) lacks.3)) g.description in
         let names = localized_back (codes "displayName") ms c.display_name d.display_name
-            (at (codes "displayName") (element_parts type c ++ own) ms (localized_value c.display_name) is (ap (first_some (localized_value c.display_name)) lacks.4)) g.display_name in
+        (at (codes "displayName") (element_parts type c ++ own) ms (localized_value c.display_name) is (ap (first_some (localized_value c.display_name)) lacks.4)) g.display_name in
         λ i. (codes "@id", ids_back i) ∷ (codes "@type", type) ∷ (codes "comment", comments i) ∷ (codes "description", descriptions i) ∷ (codes "displayName", names i) ∷ []
 
     -- an element with equal parts of its own

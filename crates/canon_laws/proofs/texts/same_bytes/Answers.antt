@@ -1,6 +1,5 @@
-use Rattle.std.proofs.Common.{ℕ, List, subst}
+use Rattle.std.proofs.Common.{subst}
 use Rattle.json_tree.specs.Values.{Json}
-use Rattle.dtdl_terms.specs.declared.uploaded.Uploaded.{Uploaded}
 use Rattle.model_read.specs.Uploads.{AreUploaded}
 use Rattle.canon_text.specs.Canonical.{set_value, set_text}
 use Rattle.canon_laws.proofs.texts.same_bytes.Goals as goal
