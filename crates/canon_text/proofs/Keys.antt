@@ -67,10 +67,10 @@ elements_distinct : (vs : List Json) → AllByRecursion HasDistinctKeys vs → E
 elements_distinct [] h = tt
 elements_distinct (v ∷ vs) h = (h.0, elements_distinct vs h.1)
 
-abbrev PairIsDistinct : List ℕ × Json → Type 0
+abbrev pub PairIsDistinct : List ℕ × Json → Type 0
 PairIsDistinct m = HasDistinctKeys (pair_value m)
 
-list_distinct : (ms : Pairs) → AllByRecursion PairIsDistinct ms → HasDistinctKeys (list_in_order ms)
+pub list_distinct : (ms : Pairs) → AllByRecursion PairIsDistinct ms → HasDistinctKeys (list_in_order ms)
 list_distinct ms h = elements_distinct (map pair_value (sorted_by pair_name ms)) (all_mapped pair_value HasDistinctKeys (sorted_by pair_name ms) (all_sorted pair_name PairIsDistinct ms h))
 
 optional_list_distinct : (ms : Pairs) → AllByRecursion PairIsDistinct ms → IfSome (unless_empty list_in_order ms) HasDistinctKeys

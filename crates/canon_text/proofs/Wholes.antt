@@ -23,21 +23,21 @@ kept_size (suc most) n z = by (n % 10 == 0) (λ t. kept_size most (n / 10) (suc 
     by true later t = later t
     by false later t = refl
 
-abbrev exponent_size : ℤ → ℕ
+abbrev pub exponent_size : ℤ → ℕ
 exponent_size (pos n) = n
 exponent_size (negsuc n) = 0
 
-abbrev size_of : Number → ℕ
+abbrev pub size_of : Number → ℕ
 size_of n = n.coefficient * 10 ^ exponent_size n.exponent
 
-size_sized : (negative : Bool) (n : ℕ) → size_of (sized negative n) ≡ n
+pub size_sized : (negative : Bool) (n : ℕ) → size_of (sized negative n) ≡ n
 size_sized negative zero = refl
 size_sized negative (suc n) = kept_size (suc n) (suc n) 0 ∙ omega arith
 
-abbrev is_negative : Number → Bool
+abbrev pub is_negative : Number → Bool
 is_negative n = n.negative
 
-sign_sized : (n : ℕ) → is_negative (sized false n) ≡ false
+pub sign_sized : (n : ℕ) → is_negative (sized false n) ≡ false
 sign_sized zero = refl
 sign_sized (suc n) = refl
 

@@ -2,7 +2,7 @@
 
 ghost use Rattle.std.specs.Prelude.{◌≡◌, map, IfOk};
 ghost use Rattle.json_tree.specs.View.{view, member_view};
-ghost use Rattle.canon_text.specs.Canonical.{interface_value, interface_pair, interface_text, set_text, parent_pair};
+ghost use Rattle.canon_text.specs.Canonical.{interface_value, interface_pair, interface_text, set_value, set_text, parent_pair};
 
 use crate::common::{id, localized, optional_text, text};
 use crate::contents::named_contents;
@@ -81,13 +81,20 @@ fn named_interfaces(alloc: Global, items: &[Interface]) -> Result<Vec<Member>, O
     Ok(members)
 }
 
-/// The canonical text of a set of interfaces: a list of their canonical trees in the order of their identifiers, and a
-/// newline. Fails only for want of memory.
+/// The canonical tree of a set of interfaces, of which `canon` gives the text: a list of their canonical trees in the order
+/// of their identifiers. Fails only for want of memory.
+pub fn canon_set_tree(alloc: Global, interfaces: &[Interface]) -> Result<Tree, OutOfMemory>
+    ensures { IfOk result (λ tree. view tree ≡ set_value interfaces.now) }
+{
+    let members = named_interfaces(alloc, interfaces)?;
+    list_in_order(alloc, members)
+}
+
+/// The canonical text of a set of interfaces: that of its canonical tree, and a newline. Fails only for want of memory.
 pub fn canon(alloc: Global, interfaces: &[Interface]) -> Result<List<u8>, OutOfMemory>
     ensures { IfOk result (λ bytes. bytes ≡ set_text interfaces.now) }
 {
-    let members = named_interfaces(alloc, interfaces)?;
-    let tree = list_in_order(alloc, members)?;
+    let tree = canon_set_tree(alloc, interfaces)?;
     let mut text = print(alloc, &tree)?.inner;
     text.push_str("\n")?;
     Ok(List::from_vec(text.into_bytes()))

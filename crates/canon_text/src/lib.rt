@@ -13,7 +13,7 @@ mod parts;
 mod schemas;
 mod sorting;
 
-pub use interfaces::{canon, canon_interface, canon_tree};
+pub use interfaces::{canon, canon_interface, canon_set_tree, canon_tree};
 pub use laws::{one_set_tree, one_text, one_tree, same_set_text, same_text};
 pub use own_ids::{each_identified, identified};
 

@@ -1,5 +1,5 @@
-//! Sets of interfaces: the rules on extension and components over whole sets, with the first breach, and what an
-//! interface has with all that it inherits.
+//! Sets of interfaces: the rules on extension and components over whole sets, with the first breach, and who is whose
+//! ancestor.
 #![tactic(auto)]
 
 mod ancestry;
@@ -21,6 +21,3 @@ pub use check::check_set;
 pub use end::SetEnd;
 pub use laws::{ancestors_of_ancestors, one_first_breach};
 pub use rule::SetRule;
-
-#[cfg(test)]
-mod tests;

@@ -149,10 +149,14 @@ mutual
   members_distinct no_members h = tt
   members_distinct (member key v ms) h = (lacks key ms h.0, distinct v h.1, members_distinct ms h.2)
 
-pub print_spells : (v : Json) → IsOfTree v → NestsWithin 64 v → HasDistinctKeys v → Spells (printed v) v
-print_spells v sound nests keys = (
+-- with white space behind it
+pub print_spells_before : (v : Json) (spaces : List ℕ) → IsOfTree v → IsSpaces spaces [] → NestsWithin 64 v → HasDistinctKeys v → Spells (printed v ++ spaces) v
+print_spells_before v spaces sound blank nests keys = (
   spelled v,
-  (printed v, [], no_spaces (printed v), subst (λ bytes. IsValue (spelled v) 64 bytes []) (append-nil (printed v)) (value_printed v 64 [] sound nests), no_spaces []),
+  (printed v ++ spaces, spaces, no_spaces (printed v ++ spaces), value_printed v 64 spaces sound nests, blank),
   distinct v keys,
   read_back v sound,
 )
+
+pub print_spells : (v : Json) → IsOfTree v → NestsWithin 64 v → HasDistinctKeys v → Spells (printed v) v
+print_spells v sound nests keys = subst (λ bytes. Spells bytes v) (append-nil (printed v)) (print_spells_before v [] sound (no_spaces []) nests keys)

@@ -1,7 +1,7 @@
 //! What the definitions say of values and their places, and of the texts of trees.
 
-ghost use Rattle.std.specs.Prelude.{◌≡◌, ℕ, List};
-ghost use Rattle.json_tree.specs.Grammar.{Spells};
+ghost use Rattle.std.specs.Prelude.{◌≡◌, ◌++◌, [], ℕ, List};
+ghost use Rattle.json_tree.specs.Grammar.{IsSpaces, Spells};
 ghost use Rattle.json_tree.specs.Pointers.{IsPointerOf};
 ghost use Rattle.json_tree.specs.Printing.{NestsWithin, printed};
 ghost use Rattle.json_tree.specs.Values.{Raw, Json, HasDistinctKeys, number};
@@ -25,6 +25,14 @@ pub fn one_pointer()
 #[tactic(auto, using(crate::proofs::Printable::print_spells))]
 pub fn reads_back(tree: &Tree)
     ensures { NestsWithin 64 (view tree.now) → HasDistinctKeys (view tree.now) → Spells (printed (view tree.now)) (view tree.now) }
+{
+    of_tree(tree);
+}
+
+/// The same of that text with white space behind it.
+pub fn reads_back_before_spaces(tree: &Tree)
+    ensures { (spaces : List ℕ) → IsSpaces spaces [] → NestsWithin 64 (view tree.now) → HasDistinctKeys (view tree.now)
+        → Spells (printed (view tree.now) ++ spaces) (view tree.now) }
 {
     of_tree(tree);
 }

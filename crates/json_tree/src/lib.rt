@@ -11,7 +11,7 @@ mod sorting;
 mod tree;
 
 pub use evaluation::at;
-pub use laws::{one_pointer, reads_back};
+pub use laws::{one_pointer, reads_back, reads_back_before_spaces};
 pub use places::Place;
 pub use pointers::{Pointer, pointer_of};
 pub use printing::{print, push_quoted};

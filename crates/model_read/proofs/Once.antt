@@ -175,10 +175,10 @@ primitive_once : (p q : Primitive) → primitive_name p ≡ primitive_name q →
 primitive_once p q e = sym (primitive_back p) ∙ (ap primitive_of e ∙ primitive_back q)
 
 -- Which form a schema has: what its `@type` names, and whether it is an identifier.
-data Form : Type 0 where
+pub data Form : Type 0 where
   is : Option Element → Bool → Form
 
-abbrev form : SchemaTerm → Form
+abbrev pub form : SchemaTerm → Form
 form (primitive p) = is None false
 form (named id) = is None true
 form (array_of c s) = is (Some element_kind.Array) false
@@ -186,12 +186,12 @@ form (enumeration c of_text es) = is (Some element_kind.Enumeration) false
 form (map_of c k e) = is (Some element_kind.Map) false
 form (object_of c fs) = is (Some element_kind.Object) false
 
-abbrev form_in : Json → Form
+abbrev pub form_in : Json → Form
 form_in (text bytes) = is None (starts_with nat_eq bytes (codes "dtmi:"))
 form_in (object ms) = is (type_of position.Schema ms) false
 form_in other = is None false
 
-primitive_form : (p : Primitive) → starts_with nat_eq (primitive_name p) (codes "dtmi:") ≡ false
+pub primitive_form : (p : Primitive) → starts_with nat_eq (primitive_name p) (codes "dtmi:") ≡ false
 primitive_form primitives.Boolean = refl
 primitive_form primitives.Date = refl
 primitive_form primitives.DateTime = refl
@@ -206,7 +206,7 @@ primitive_form primitives.Time = refl
 object_form : (type : Element) (v : Json) (ms : Members Number) → IsSchemaObject type v ms → form_in v ≡ is (Some type) false
 object_form type v ms g = ap form_in g.0 ∙ (λ i. is (g.1 i) false)
 
-has_form : (s : SchemaTerm) (v : Json) → IsSchema s v → form_in v ≡ form s
+pub has_form : (s : SchemaTerm) (v : Json) → IsSchema s v → form_in v ≡ form s
 has_form (primitive p) v g = ap form_in g ∙ (λ i. is None (primitive_form p i))
 has_form (named id) v g = ap form_in g.0
 has_form (array_of c s) v g = object_form element_kind.Array v g.0 g.2

@@ -1,0 +1,6 @@
+pub mod Tables
+pub mod Schemas
+pub mod Contents
+pub mod Documents
+pub mod Nests
+pub mod Spelled

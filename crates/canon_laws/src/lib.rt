@@ -1,0 +1,8 @@
+//! Laws of canonical texts: what they spell, and what they declare, read as documents.
+#![tactic(auto)]
+
+mod laws;
+mod texts;
+
+pub use laws::{declares_the_same, have_types, prints_itself};
+pub use texts::{nest, reads_back, same_bytes};

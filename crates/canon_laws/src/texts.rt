@@ -1,0 +1,51 @@
+//! What the canonical text of a set of interfaces spells.
+
+ghost use Rattle.std.specs.Prelude.{◌≡◌, ℕ, List, map, IfOk};
+ghost use Rattle.std.specs.List.{AllByRecursion};
+ghost use Rattle.json_tree.specs.Values.{Json};
+ghost use Rattle.json_tree.specs.Grammar.{Spells};
+ghost use Rattle.json_tree.specs.Printing.{NestsWithin};
+ghost use Rattle.dtdl_terms.specs.Distinct.{HasDeclaration};
+ghost use Rattle.dtdl_terms.specs.declared.interface.Interface.{Interface};
+ghost use Rattle.dtdl_terms.specs.declared.uploaded.Uploaded.{Uploaded};
+ghost use Rattle.model_read.specs.Limits.{IsWithinLimits};
+ghost use Rattle.model_read.specs.Uploads.{AreUploaded};
+ghost use Rattle.canon_text.specs.Canonical.{set_value, set_text};
+ghost use Rattle.canon_laws.specs.Typed.{IsTyped};
+
+use crate::laws::prints_itself;
+use canon_text::canon_set_tree;
+use dt_base::OutOfMemory;
+use dtdl_terms::Interface;
+use json_read::one_value;
+use json_tree::reads_back_before_spaces;
+use std::alloc::Global;
+
+/// The canonical tree of a set within the limits nests no deeper than a JSON text may.
+pub fn nest()
+    ensures { (is : List Interface) → AllByRecursion IsTyped is → AllByRecursion IsWithinLimits is → NestsWithin 64 (set_value is) }
+{}
+
+/// The canonical text of a set within the limits, whose interfaces have declarations, spells its canonical tree. The call
+/// makes the tree, and fails only for want of memory.
+pub fn reads_back(alloc: Global, interfaces: &[Interface]) -> Result<(), OutOfMemory>
+    ensures { IfOk result (λ done. AllByRecursion IsTyped interfaces.now → AllByRecursion IsWithinLimits interfaces.now → AllByRecursion HasDeclaration interfaces.now
+        → Spells (set_text interfaces.now) (set_value interfaces.now)) }
+{
+    let tree = canon_set_tree(alloc, interfaces)?;
+    reads_back_before_spaces(&tree);
+    Ok(())
+}
+
+/// Canonical bytes print themselves: whatever the canonical text of such a set declares, read as a document, has these bytes
+/// as its canonical text. The call makes the tree, and fails only for want of memory.
+pub fn same_bytes(alloc: Global, interfaces: &[Interface]) -> Result<(), OutOfMemory>
+    ensures { IfOk result (λ done. AllByRecursion IsTyped interfaces.now → AllByRecursion IsWithinLimits interfaces.now → AllByRecursion HasDeclaration interfaces.now
+        → (v : Json) (nth : ℕ) (us : List Uploaded) → Spells (set_text interfaces.now) v → AreUploaded v nth us
+        → set_text (map (λ u. u.interface) us) ≡ set_text interfaces.now) }
+{
+    one_value();
+    prints_itself();
+    reads_back(alloc, interfaces)?;
+    Ok(())
+}

@@ -1,0 +1,65 @@
+//! A set of one interface that names no other, of which its proofs know that it breaks no rule.
+
+ghost use Rattle.std.specs.Prelude.{◌≡◌, [], ◌∷◌, List, IfOk};
+ghost use Rattle.set_tests.specs.Lone.{IsLone};
+
+use dt_base::List;
+use dtdl_terms::{Interface, Localized, ModelSet};
+use dtmi_name::Dtmi;
+use extend_resolve::is_a;
+use model_resolve::{Table, resolve};
+use std::alloc::Global;
+use std::test::Fail;
+
+fn absent(alloc: Global) -> Localized
+    ensures { result.entries ≡ [] }
+{
+    Localized {
+        entries: List::new(alloc),
+    }
+}
+
+fn lone(alloc: Global, id: &Dtmi) -> Result<ModelSet, Fail>
+    ensures { IfOk result (λ set. IsLone set id.now) }
+{
+    let mut set = ModelSet::new(alloc);
+    set.insert(Interface {
+        id: id.copy(alloc)?,
+        comment: None,
+        description: absent(alloc),
+        display_name: absent(alloc),
+        parents: List::new(alloc),
+        contents: List::new(alloc),
+        schemas: List::new(alloc),
+    })?;
+    Ok(set)
+}
+
+#[test]
+fn resolves_a_lone_interface(rt: HostRuntime) -> Result<(), Fail> {
+    let alloc = rt.alloc();
+    let id = Dtmi::read(alloc, "dtmi:a;1")?;
+    let set = lone(alloc, &id)?;
+    assert!(rt; is_a(&set, &id, &id));
+    let resolved = resolve(alloc, &set, &id)?;
+    assert_eq!(rt; resolved.ancestors.len(), 1);
+    assert_eq!(rt; resolved.named.len(), 1);
+    assert!(rt; resolved.contents.is_empty() && resolved.parts.is_empty());
+    Ok(())
+}
+
+#[test]
+fn keeps_a_lone_interface(rt: HostRuntime) -> Result<(), Fail> {
+    let alloc = rt.alloc();
+    let ids = [Dtmi::read(alloc, "dtmi:a;1")?];
+    let set = lone(alloc, &ids[0])?;
+    let mut table = Table::new(alloc);
+    table.add(&set, &ids)?;
+    assert_eq!(rt;
+        table.get(&ids[0]).map(|resolved| resolved.ancestors.len()),
+        Some(1)
+    );
+    table.remove(&ids[0]);
+    assert!(rt; table.get(&ids[0]).is_none());
+    Ok(())
+}
