@@ -1,11 +1,12 @@
 //! What the canonical text of a set of interfaces spells.
 
-ghost use Rattle.std.specs.Prelude.{◌≡◌, ℕ, List, map, IfOk};
+ghost use Rattle.std.specs.Prelude.{◌≡◌, ◌↔◌, ℕ, List, map, IfOk};
 ghost use Rattle.std.specs.List.{AllByRecursion};
 ghost use Rattle.json_tree.specs.Values.{Json};
 ghost use Rattle.json_tree.specs.Grammar.{Spells};
 ghost use Rattle.json_tree.specs.Printing.{NestsWithin};
-ghost use Rattle.dtdl_terms.specs.Distinct.{HasDeclaration};
+ghost use Rattle.dtdl_terms.specs.Distinct.{AreDistinct, HasDeclaration};
+ghost use Rattle.dtdl_terms.specs.Equality.{DeclareTheSame, SameElements};
 ghost use Rattle.dtdl_terms.specs.declared.interface.Interface.{Interface};
 ghost use Rattle.dtdl_terms.specs.declared.uploaded.Uploaded.{Uploaded};
 ghost use Rattle.model_read.specs.Limits.{IsWithinLimits};
@@ -14,7 +15,7 @@ ghost use Rattle.canon_text.specs.Canonical.{set_value, set_text};
 ghost use Rattle.canon_laws.specs.Typed.{IsTyped};
 
 use crate::laws::prints_itself;
-use canon_text::canon_set_tree;
+use canon_text::{canon_set_tree, one_set_tree, same_set_text};
 use dt_base::OutOfMemory;
 use dtdl_terms::Interface;
 use json_read::one_value;
@@ -34,6 +35,22 @@ pub fn reads_back(alloc: Global, interfaces: &[Interface]) -> Result<(), OutOfMe
 {
     let tree = canon_set_tree(alloc, interfaces)?;
     reads_back_before_spaces(&tree);
+    Ok(())
+}
+
+/// Two such sets, each of distinct identifiers, have one canonical text exactly where they declare the same. The call makes
+/// both trees, and fails only for want of memory.
+pub fn one_set_text(alloc: Global, one: &[Interface], other: &[Interface]) -> Result<(), OutOfMemory>
+    ensures { IfOk result (λ done. AllByRecursion IsTyped one.now → AllByRecursion IsWithinLimits one.now → AllByRecursion HasDeclaration one.now
+        → AllByRecursion IsTyped other.now → AllByRecursion IsWithinLimits other.now → AllByRecursion HasDeclaration other.now
+        → AreDistinct (map (λ i. i.id) one.now) → AreDistinct (map (λ i. i.id) other.now)
+        → (set_text one.now ≡ set_text other.now) ↔ SameElements DeclareTheSame one.now other.now) }
+{
+    one_value();
+    one_set_tree(one, other);
+    same_set_text(one, other);
+    reads_back(alloc, one)?;
+    reads_back(alloc, other)?;
     Ok(())
 }
 

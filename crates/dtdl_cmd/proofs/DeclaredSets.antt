@@ -9,6 +9,8 @@ use Rattle.dtdl_terms.specs.Distinct.{AreDistinct, HasDeclaration}
 use Rattle.dtdl_terms.specs.declared.interface.Interface.{Interface}
 use Rattle.dtdl_terms.specs.declared.uploaded.Uploaded.{Uploaded}
 use Rattle.model_read.specs.Limits.{IsWithinLimits}
+use Rattle.model_read.specs.Uploads.{AreUploaded}
+use Rattle.canon_laws.specs.Typed.{IsTyped}
 use Rattle.model_read.proofs.Documents.{all_have_declarations, all_within}
 use Rattle.extend_resolve.specs.Breaches.{IsSound}
 use Rattle.extend_resolve.specs.declared.rule.SetRule.TheVariants as rules
@@ -37,6 +39,16 @@ limits n [] us unbroken none = subst (AllByRecursion (λ u. IsWithinLimits u.int
 limits n (v ∷ vs) us unbroken (first, rest, h, t, e) =
     subst (AllByRecursion (λ u. IsWithinLimits u.interface)) (sym e)
     (all_append (λ u. IsWithinLimits u.interface) first rest (all_within v n first unbroken.0 h) (limits (n + 1) vs rest unbroken.1 t))
+
+-- what each document declares is typed, as `canon_laws` tells
+abbrev pub TypesAreTold : Type 0
+TypesAreTold = (whole : Json) (nth : ℕ) (us : List Uploaded) → AreUploaded whole nth us → AllByRecursion (λ u. IsTyped u.interface) us
+
+types : TypesAreTold → (n : ℕ) (vs : List Json) (us : List Uploaded) → AllUploaded n vs us → AllByRecursion (λ u. IsTyped u.interface) us
+types told n [] us none = subst (AllByRecursion (λ u. IsTyped u.interface)) (sym none) tt
+types told n (v ∷ vs) us (first, rest, h, t, e) =
+    subst (AllByRecursion (λ u. IsTyped u.interface)) (sym e)
+    (all_append (λ u. IsTyped u.interface) first rest (told v n first h) (types told (n + 1) vs rest t))
 
 without_places : (P : Interface → Type 0) (us : List Uploaded) → AllByRecursion (λ u. P u.interface) us → AllByRecursion P (interfaces_of us)
 without_places P [] all = tt
@@ -75,10 +87,12 @@ distinct_ids (u ∷ us) apart = (
   distinct_ids us (λ k l v w first second less e. apart (suc k) (suc l) v w first second (omega (arith, less)) e),
 )
 
-pub declared_set : (documents : List (List ℕ)) (us : List Uploaded) → Declare documents us
-    → AllByRecursion HasDeclaration (interfaces_of us) × AllByRecursion IsWithinLimits (interfaces_of us) × AreDistinct (map (λ i. i.id) (interfaces_of us))
-declared_set documents us d = (
+pub declared_set : TypesAreTold → (documents : List (List ℕ)) (us : List Uploaded) → Declare documents us
+    → AllByRecursion HasDeclaration (interfaces_of us) × AllByRecursion IsWithinLimits (interfaces_of us)
+    × AllByRecursion IsTyped (interfaces_of us) × AreDistinct (map (λ i. i.id) (interfaces_of us))
+declared_set told documents us d = (
   without_places HasDeclaration us (declarations 1 d.values us (distinct_keys documents d.values d.spelled) d.unbroken d.uploaded),
   without_places IsWithinLimits us (limits 1 d.values us d.unbroken d.uploaded),
+  without_places IsTyped us (types told 1 d.values us d.uploaded),
   distinct_ids us (sound_apart us d.sound),
 )

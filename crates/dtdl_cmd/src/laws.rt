@@ -1,21 +1,24 @@
 //! What the definitions of answers say, whatever is run.
 
-ghost use Rattle.std.specs.Prelude.{◌≡◌, ◌↔◌, ℕ, List, Some, Option, String, map};
+ghost use Rattle.std.specs.Prelude.{◌≡◌, ◌↔◌, ℕ, List, Some, Option, String, map, IfOk};
 ghost use Rattle.std.specs.List.{AllByRecursion};
 ghost use Rattle.std.specs.declared.alloc.Global.{Global};
 ghost use Rattle.dtdl_terms.specs.Distinct.{AreDistinct, HasDeclaration};
 ghost use Rattle.dtdl_terms.specs.Equality.{DeclareTheSame, SameElements};
 ghost use Rattle.dtdl_terms.specs.declared.uploaded.Uploaded.{Uploaded};
 ghost use Rattle.model_read.specs.Limits.{IsWithinLimits};
-ghost use Rattle.canon_text.specs.Canonical.{set_text, set_value};
+ghost use Rattle.canon_text.specs.Canonical.{set_text};
+ghost use Rattle.canon_laws.specs.Typed.{IsTyped};
 ghost use Rattle.dtdl_cmd.specs.Documents.{AreFound, ShelfChange, StreamChange, documents_of};
 ghost use Rattle.dtdl_cmd.specs.FirstFaults.{Declare};
 ghost use Rattle.dtdl_cmd.specs.Answers.{Answers, interfaces_of};
 ghost use Rattle.dtdl_cmd.specs.declared.status.Status.{Status};
 
-use canon_text::{one_set_tree, same_set_text};
+use canon_laws::{have_types, one_set_text};
+use dt_base::OutOfMemory;
 use dtdl_terms::Interface;
 use json_decimal::one_number;
+use std::alloc::Global;
 
 /// The words and what is found of the documents have at most one answer: the status and the line or text are a function
 /// of them.
@@ -33,23 +36,24 @@ pub fn one_input()
         → input.before ≡ Some all → shelf.before ≡ Some files → AreFound input shelf names found → found ≡ documents_of all files names }
 {}
 
-/// The interfaces that documents without faults declare each have a declaration, are within the limits, and no two of
-/// them have one identifier.
+/// The interfaces that documents without faults declare each have a declaration, are within the limits, have types that
+/// their canonical trees tell, and no two of them have one identifier.
 pub fn declared_set()
     ensures { (documents : List (List ℕ)) (uploads : List Uploaded) → Declare documents uploads
         → AllByRecursion HasDeclaration (interfaces_of uploads) × AllByRecursion IsWithinLimits (interfaces_of uploads)
-        × AreDistinct (map (λ i. i.id) (interfaces_of uploads)) }
-{}
+        × AllByRecursion IsTyped (interfaces_of uploads) × AreDistinct (map (λ i. i.id) (interfaces_of uploads)) }
+{
+    have_types();
+}
 
-/// Two lists of interfaces that documents without faults declare have one canonical tree exactly where they declare the
-/// same, and then they have one canonical text. The call walks over both, and takes no memory.
-pub fn equal_sets(one: &[Interface], other: &[Interface])
-    ensures { (documents others : List (List ℕ)) (uploads more : List Uploaded) → Declare documents uploads → Declare others more
+/// Two lists of interfaces that documents without faults declare have one canonical text exactly where they declare the
+/// same. The call makes the trees of both, and fails only for want of memory.
+pub fn equal_texts(alloc: Global, one: &[Interface], other: &[Interface]) -> Result<(), OutOfMemory>
+    ensures { IfOk result (λ done. (documents others : List (List ℕ)) (uploads more : List Uploaded) → Declare documents uploads → Declare others more
         → one.now ≡ interfaces_of uploads → other.now ≡ interfaces_of more
-        → ((set_value one.now ≡ set_value other.now) ↔ SameElements DeclareTheSame one.now other.now)
-        × (SameElements DeclareTheSame one.now other.now → set_text one.now ≡ set_text other.now) }
+        → (set_text one.now ≡ set_text other.now) ↔ SameElements DeclareTheSame one.now other.now) }
 {
     declared_set();
-    one_set_tree(one, other);
-    same_set_text(one, other);
+    one_set_text(alloc, one, other)?;
+    Ok(())
 }
