@@ -40,7 +40,11 @@ pub fn reads_back(alloc: Global, interfaces: &[Interface]) -> Result<(), OutOfMe
 
 /// Two such sets, each of distinct identifiers, have one canonical text exactly where they declare the same. The call makes
 /// both trees, and fails only for want of memory.
-pub fn one_set_text(alloc: Global, one: &[Interface], other: &[Interface]) -> Result<(), OutOfMemory>
+pub fn one_set_text(
+    alloc: Global,
+    one: &[Interface],
+    other: &[Interface],
+) -> Result<(), OutOfMemory>
     ensures { IfOk result (λ done. AllByRecursion IsTyped one.now → AllByRecursion IsWithinLimits one.now → AllByRecursion HasDeclaration one.now
         → AllByRecursion IsTyped other.now → AllByRecursion IsWithinLimits other.now → AllByRecursion HasDeclaration other.now
         → AreDistinct (map (λ i. i.id) one.now) → AreDistinct (map (λ i. i.id) other.now)

@@ -12,7 +12,6 @@ ghost use Rattle.extend_resolve.specs.Breaches.{BreaksNoRule};
 ghost use Rattle.model_resolve.specs.Resolving.{IsResolved};
 ghost use Rattle.model_resolve.specs.Machinery.Families.{IsThere, IsFamily, Grows, IsShort, IsPartIn, IsPartOf, component_id, part_for, schemas_of};
 
-use extend_resolve::MOST_STEPS;
 use crate::contents::contents_of;
 use crate::found::Found;
 use dt_base::{List, OutOfMemory};
@@ -20,6 +19,7 @@ use dtdl_terms::{
     Content, ContentKind, Interface, ModelSet, NamedIn, PartOf, Resolved, ResolvedContent, Schema,
 };
 use dtmi_name::Dtmi;
+use extend_resolve::MOST_STEPS;
 use std::alloc::Global;
 
 /// What an interface of a set that breaks no rule has with all that it inherits and with what its components consist of:
