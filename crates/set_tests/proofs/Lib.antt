@@ -1,1 +1,1 @@
-pub mod Lone
+pub mod Soles

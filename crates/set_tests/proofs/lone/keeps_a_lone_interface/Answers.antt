@@ -1,6 +1,6 @@
 use Rattle.std.proofs.Common.{[], ◌∷◌, sym, subst}
 use Rattle.model_resolve.specs.Resolving.{ResolvesOthers}
-use Rattle.set_tests.proofs.Lone.{lone_others}
+use Rattle.set_tests.proofs.Soles.{lone_others}
 use Rattle.set_tests.proofs.lone.keeps_a_lone_interface.Goals as goal
 
 pub add-requires-clause-others : goal.add-requires-clause-others

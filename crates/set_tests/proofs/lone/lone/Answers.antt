@@ -1,7 +1,7 @@
 use Rattle.std.proofs.Common.{None, ap, ◌∙◌}
 use Rattle.dtdl_terms.specs.Sets.{with_interface}
 use Rattle.dtdl_terms.specs.declared.interface.Interface.{Interface}
-use Rattle.set_tests.proofs.Lone.{lone_sound, lone_declared}
+use Rattle.set_tests.proofs.Soles.{lone_sound, lone_declared}
 use Rattle.set_tests.proofs.lone.lone.Goals as goal
 
 pub returns : goal.returns
