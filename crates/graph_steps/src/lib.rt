@@ -1,0 +1,3 @@
+//! The typed graph of digital twins as definitions: its states, when a state is well typed, which asks may be made, and
+//! the step from one state to the next.
+#![tactic(auto)]

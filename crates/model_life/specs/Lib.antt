@@ -1,0 +1,4 @@
+pub mod Models
+pub mod Sums
+pub mod Refusals
+pub mod Codes
