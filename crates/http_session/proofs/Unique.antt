@@ -15,13 +15,19 @@ use Rattle.http_session.specs.Refusals.{refusal_of, refusal_text}
 use Rattle.http_session.specs.Sessions.{Exchange, entries_of, texts_of, IsMessage, AreRead, IsCause, EndsFor, Replies, EndsWith, Ends, IsOpen, Session}
 use Rattle.http_session.specs.Uniqueness.{IsDecided, AreLegal, AreFunctions, OneSession}
 
-ok_same : (a b : Request) → Ok {E = HttpEnd} a ≡ Ok b → a ≡ b
+abbrev ok : Request → Result Request HttpEnd
+ok request = Ok request
+
+abbrev err : HttpEnd → Result Request HttpEnd
+err cause = Err cause
+
+ok_same : (a b : Request) → ok a ≡ ok b → a ≡ b
 ok_same a b e = cc
 
-err_same : (a b : HttpEnd) → Err {T = Request} a ≡ Err b → a ≡ b
+err_same : (a b : HttpEnd) → err a ≡ err b → a ≡ b
 err_same a b e = cc
 
-ok_not_err : (a : Request) (b : HttpEnd) → Ok a ≡ Err b → ⊥
+ok_not_err : (a : Request) (b : HttpEnd) → ok a ≡ err b → ⊥
 ok_not_err a b e = cc
 
 some_same : (a b : Response) → Some a ≡ Some b → a ≡ b
@@ -150,16 +156,18 @@ module _ {S E : Type 0} (own : Request → Response → Type 0) (enters : Reques
   -- a session does not end where another one goes on
   no_end : (bytes : List ℕ) (left after : Option (List ℕ)) (last : Bool) (end : SessionEnd) (es : List E) (out : List ℕ) (request : Request)
       → IsDecided end → Ends own enters (Unit {0}) last end (Some bytes) left es out → IsMessage (Some bytes) request after → request.close ≡ false → (last ≡ true → ⊥) → ⊥
-  no_end bytes left after last Closed es out request x (inl h) k open more = not_both request.close (sym (ap (λ r. r.close) (one_message bytes h.0 request h.1 after h.2 k).request_is) ∙ h.3.1) open
-  no_end bytes left after last Full es out request x (inl h) k open more = more h.3.2
-  no_end bytes left after last Refused es out request x (inl h) k open more = h.3
-  no_end bytes left after last ReadFault es out request x (inl h) k open more = x
-  no_end bytes left after last WriteFault es out request x (inl h) k open more = x
-  no_end bytes left after last OutOfMemory es out request x (inl h) k open more = x
-  no_end bytes left after last end es out request x (inr h) k open more = no_message bytes left after end h.0 request out x h.3 h.1 k
+  no_end bytes left after last Closed es out request x (inl h) k stays_open more = not_both request.close (sym (ap (λ r. r.close) (one_message bytes h.0 request h.1 after h.2 k).request_is) ∙ h.3.1) stays_open
+  no_end bytes left after last Full es out request x (inl h) k stays_open more = more h.3.2
+  no_end bytes left after last Refused es out request x (inl h) k stays_open more = h.3
+  no_end bytes left after last ReadFault es out request x (inl h) k stays_open more = x
+  no_end bytes left after last WriteFault es out request x (inl h) k stays_open more = x
+  no_end bytes left after last OutOfMemory es out request x (inl h) k stays_open more = x
+  no_end bytes left after last end es out request x (inr h) k stays_open more = no_message bytes left after end h.0 request out x h.3 h.1 k
 
   not_last : (n k : ℕ) → n < k → (n == k) ≡ true → ⊥
-  not_last n k h e = omega (arith, grind (arith, nat_tests))
+  not_last n k h e =
+      let same : n ≡ k = grind (arith, nat_tests) in
+      omega (arith, h, same)
 
   pub one_run : AreFunctions own enters allowed → (s t u : S) (n : ℕ) (bytes : List ℕ) (xs ys : List (Exchange E)) (rest after left unread : Option (List ℕ)) (end other : SessionEnd) (es fs : List E) (out text : List ℕ) (j k : ℕ)
       → IsDecided end → IsDecided other
@@ -188,10 +196,10 @@ module _ {S E : Type 0} (own : Request → Response → Type 0) (enters : Reques
         more.0,
         append_assoc (option_to_list x.entry) (entries_of xs) es ∙ ap (λ (e : Option E). option_to_list e ++ (entries_of xs ++ es)) one.entry ∙ ap (λ (z : List E). option_to_list y.entry ++ z) more.1 ∙ sym (append_assoc (option_to_list y.entry) (entries_of ys) fs),
         append_assoc (text_of x.request x.response false) (texts_of xs) out
-        ∙ ap (λ (r : Request). text_of r x.response false ++ (texts_of xs ++ out)) same.request_is
-        ∙ ap (λ (r : Response). text_of y.request r false ++ (texts_of xs ++ out)) one.response
-        ∙ ap (λ (z : List ℕ). text_of y.request y.response false ++ z) more.2
-        ∙ sym (append_assoc (text_of y.request y.response false) (texts_of ys) text),
+            ∙ ap (λ (r : Request). text_of r x.response false ++ (texts_of xs ++ out)) same.request_is
+            ∙ ap (λ (r : Response). text_of y.request r false ++ (texts_of xs ++ out)) one.response
+            ∙ ap (λ (z : List ℕ). text_of y.request y.response false ++ z) more.2
+            ∙ sym (append_assoc (text_of y.request y.response false) (texts_of ys) text),
       )
 
 pub one_session : {S E : Type 0} (own : Request → Response → Type 0) (enters : Request → E → Response → Type 0) (allowed : S → E → Type 0) (follows : S → E → S) → OneSession own enters allowed follows

@@ -4,11 +4,13 @@
 
 mod ends;
 mod laws;
+mod links;
 mod refusals;
 mod service;
 mod session;
 
 pub use ends::SessionEnd;
 pub use laws::{Rules, one_session};
+pub use links::serve_link;
 pub use service::{Answer, Service, Trouble};
 pub use session::serve;

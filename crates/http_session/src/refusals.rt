@@ -15,7 +15,8 @@ use http_ends::{HttpEnd, Response, SendEnd, write_response};
 use std::alloc::Global;
 
 /// That no memory was found.
-const UNAVAILABLE: &[u8] = b"HTTP/1.1 503 Service Unavailable\r\nContent-Length: 32\r\nContent-Type: application/json\r\nConnection: close\r\n\r\n{\"error\":{\"code\":\"OutOfMemory\"}}";
+const UNAVAILABLE: &[u8] =
+    b"HTTP/1.1 503 Service Unavailable\r\nContent-Length: 32\r\nContent-Type: application/json\r\nConnection: close\r\n\r\n{\"error\":{\"code\":\"OutOfMemory\"}}";
 
 /// Writes, as far as the sink takes it, that no memory was found. It takes no memory.
 pub(crate) fn give_up<K: Sink>(sink: &mut K)

@@ -1,11 +1,10 @@
 //! A session over a source and a sink.
 
-ghost use Rattle.std.specs.Prelude.{◌≡◌, ℕ, ◌≤◌, List, Option, Some, None, Result, Ok, Err, IfOk};
-ghost use Rattle.std.specs.Io.KnownBytes.{Consumes, IsAtEnd};
+ghost use Rattle.std.specs.Prelude.{◌≡◌, ◌≤◌, None, Some, IfOk, ◌||◌};
 ghost use Rattle.dt_base.specs.Faults.{Rose};
 ghost use Rattle.http_ends.specs.Streams.{stream_of};
 ghost use Rattle.http_session.specs.declared.ends.SessionEnd.TheVariants.{ReadFault, WriteFault};
-ghost use Rattle.http_session.specs.Answers.{IsWithinLimits};
+ghost use Rattle.http_session.specs.Answers.{IsWithinLimits, is_head};
 ghost use Rattle.http_session.specs.Turns.{world, Exchanges, Responds, Turns, Serves};
 
 use crate::refusals::{end_for, give_up};
@@ -15,7 +14,21 @@ use http_ends::{Buffer, HttpEnd, Request, SendEnd, next_request, write_response}
 use std::alloc::Global;
 
 /// The most replies of a session.
-const MOST_REPLIES: u64 = 1_000_000;
+pub(crate) const MOST_REPLIES: u64 = 1_000_000;
+
+/// Whether the reply to a request is a closing one.
+fn is_closing(request: &Request, last: bool) -> bool
+    ensures { result ≡ request.now.close || last }
+{
+    request.close || last
+}
+
+/// Whether the head of the reply alone is asked for.
+fn asks_head(request: &Request) -> bool
+    ensures { result ≡ is_head request.now }
+{
+    request.method.as_str() == "HEAD"
+}
 
 /// Answers a request and writes the reply. `last` says that it is the last that may be written.
 fn exchange<D: Service, K: Sink>(
@@ -39,8 +52,8 @@ fn exchange<D: Service, K: Sink>(
         }
         Err(Trouble::EntryInHand) => return Some(SessionEnd::OutOfMemory),
     };
-    let closing = request.close || last;
-    let head_only = request.method.as_str() == "HEAD";
+    let closing = is_closing(request, last);
+    let head_only = asks_head(request);
     match write_response(alloc, sink, &answer.response, closing, head_only) {
         Ok(()) if request.close => Some(SessionEnd::Closed),
         Ok(()) if last => Some(SessionEnd::Full),
@@ -55,7 +68,7 @@ fn exchange<D: Service, K: Sink>(
 }
 
 /// Answers what came next.
-fn respond<D: Service, K: Sink>(
+pub(crate) fn respond<D: Service, K: Sink>(
     alloc: Global,
     service: &mut D,
     sink: &mut K,
