@@ -1,0 +1,5 @@
+pub mod Answers
+pub mod Refusals
+pub mod Sessions
+pub mod Turns
+pub mod Uniqueness
