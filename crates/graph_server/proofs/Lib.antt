@@ -1,0 +1,6 @@
+pub mod Distinct
+pub mod Ordinals
+pub mod Sound
+pub mod Methods
+pub mod Answering
+pub mod Unique
