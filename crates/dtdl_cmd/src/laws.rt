@@ -12,6 +12,8 @@ ghost use Rattle.canon_laws.specs.Typed.{IsTyped};
 ghost use Rattle.dtdl_cmd.specs.Documents.{AreFound, ShelfChange, StreamChange, documents_of};
 ghost use Rattle.dtdl_cmd.specs.FirstFaults.{Declare};
 ghost use Rattle.dtdl_cmd.specs.Answers.{Answers, interfaces_of};
+ghost use Rattle.dtdl_cmd.specs.Runs.{Ends, IsDecided};
+ghost use Rattle.dtdl_cmd.specs.Words.{AreReplay};
 ghost use Rattle.dtdl_cmd.specs.declared.status.Status.{Status};
 
 use canon_laws::{have_types, one_set_text};
@@ -35,6 +37,18 @@ pub fn one_input()
     ensures { (input : StreamChange) (shelf : ShelfChange) (names : List (List ℕ)) (all : List ℕ) (files : List (List ℕ × List ℕ)) (found : List (Option (List ℕ)))
         → input.before ≡ Some all → shelf.before ≡ Some files → AreFound input shelf names found → found ≡ documents_of all files names }
 {}
+
+/// Of two replays of the same bytes, which end as these bytes decide, the statuses are the same, and so are the bytes that
+/// two outputs, with the same before, have in the end.
+pub fn one_replay() -> Result<(), OutOfMemory>
+    ensures { IfOk result (λ done. (words : List (String Global)) (input other : StreamChange) (shelf files : ShelfChange) (output sink : StreamChange) (all before : List ℕ) (s t : Status)
+        → AreReplay words → input.before ≡ Some all → other.before ≡ Some all → output.before ≡ Some before → sink.before ≡ Some before
+        → Ends words input shelf output s → Ends words other files sink t → IsDecided s → IsDecided t
+        → (s ≡ t) × (output.after ≡ sink.after)) }
+{
+    graph_server::one_replay()?;
+    Ok(())
+}
 
 /// The interfaces that documents without faults declare each have a declaration, are within the limits, have types that
 /// their canonical trees tell, and no two of them have one identifier.

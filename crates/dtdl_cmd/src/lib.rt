@@ -8,9 +8,10 @@ mod judgement;
 mod laws;
 mod lines;
 mod refusal;
+mod replays;
 mod run;
 mod status;
 
-pub use laws::{declared_set, equal_texts, one_answer, one_input};
+pub use laws::{declared_set, equal_texts, one_answer, one_input, one_replay};
 pub use run::run_plain;
 pub use status::Status;
