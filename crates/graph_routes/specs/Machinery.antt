@@ -1,0 +1,2 @@
+-- What the private clauses speak of. No public contract names these words.
+pub mod Rows
