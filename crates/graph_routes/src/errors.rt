@@ -96,7 +96,7 @@ fn with_words(
     first: (&str, &str),
     second: (&str, &str),
 ) -> Result<List<u8>, OutOfMemory>
-    ensures { IfOk result (λ body. body ≡ error_text (code name.now ∷ word first.0.now first.1.now ∷ word second.0.now second.1.now ∷ [])) }
+    ensures { IfOk result (λ body. body ≡ error_text (code name.now ∷ word first.entry.0.now first.entry.1.now ∷ word second.entry.0.now second.entry.1.now ∷ [])) }
 {
     let mut out = open(alloc)?;
     push_word(&mut out, "code", name)?;
@@ -114,7 +114,7 @@ fn with_fault(
     name: &str,
     fault: &str,
 ) -> Result<List<u8>, OutOfMemory>
-    ensures { IfOk result (λ body. body ≡ error_text (placed (option_copied place) (code name.now ∷ fault_word fault.now ∷ []))) }
+    ensures { IfOk result (λ body. body ≡ error_text (placed (option_copied place.entry) (code name.now ∷ fault_word fault.now ∷ []))) }
 {
     let mut out = open(alloc)?;
     if let Some(place) = place {

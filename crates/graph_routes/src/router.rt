@@ -71,7 +71,7 @@ fn first_part<'p>(params: &Params<'_, 'p>) -> &'p str
 
 /// What is asked of a path of the table.
 fn asked_of(alloc: Global, found: Found<'_>, request: &Request) -> Result<Prepared, OutOfMemory>
-    ensures { IfOk result (λ answer. (parts : List (List ℕ)) → (found.route ≡ Route.Model → parts ≡ found.part.now ∷ []) → AsksOf found.route parts request.now answer) }
+    ensures { IfOk result (λ answer. (parts : List (List ℕ)) → (found.entry.route ≡ Route.Model → parts ≡ found.entry.part.now ∷ []) → AsksOf found.entry.route parts request.now answer) }
 {
     match method_named(request.method.as_str()) {
         Some(method) if has_method(found.route, method) => {
