@@ -1,3 +1,5 @@
 pub mod Walks
 pub mod Sought
 pub mod Hits
+pub mod Stands
+pub mod Taken

@@ -68,6 +68,7 @@ fn fault_refusal(alloc: Global, body: &[u8], fault: &JsonFault) -> Result<Refusa
 }
 
 /// Whether a value is a list of too many entries.
+#[tactic(auto, using(local_rules::proofs::Views::views, local_rules::proofs::Views::lists))]
 fn is_too_many(tree: &Tree) -> bool
     ensures { IsTrue result ↔ IsTooMany (view tree.now) }
 {

@@ -1,8 +1,7 @@
 //! The bodies of refusals.
 
 ghost use Rattle.std.specs.Prelude.{◌≡◌, ◌≢◌, ◌++◌, ◌∷◌, [], codes, string_bytes, IfOk, OnOk};
-ghost use Rattle.std.specs.Option.{option_copied};
-ghost use Rattle.graph_routes.specs.Errors.{code, count, error_text, fault_word, place_member, placed, refusal_text, word};
+ghost use Rattle.graph_routes.specs.Errors.{code, count, error_text, fault_word, place_member, refusal_text, word};
 ghost use Rattle.graph_routes.specs.Machinery.Groups.{refusal_group};
 
 use dt_base::{List, OutOfMemory};
@@ -107,20 +106,25 @@ fn with_words(
     close(out)
 }
 
-/// The body with a place, where there is one, a code and that of a fault.
-fn with_fault(
+/// The body with a code and that of a fault.
+fn with_fault(alloc: Global, name: &str, fault: &str) -> Result<List<u8>, OutOfMemory>
+    ensures { IfOk result (λ body. body ≡ error_text (code name.now ∷ fault_word fault.now ∷ [])) }
+{
+    with_word(alloc, name, "fault", fault)
+}
+
+/// The same with the place of the fault.
+fn with_fault_at(
     alloc: Global,
-    place: Option<&At>,
+    place: &At,
     name: &str,
     fault: &str,
 ) -> Result<List<u8>, OutOfMemory>
-    ensures { IfOk result (λ body. body ≡ error_text (placed (option_copied place.entry) (code name.now ∷ fault_word fault.now ∷ []))) }
+    ensures { IfOk result (λ body. body ≡ error_text (place_member place.now ∷ code name.now ∷ fault_word fault.now ∷ [])) }
 {
     let mut out = open(alloc)?;
-    if let Some(place) = place {
-        push_place(&mut out, place)?;
-        out.push(',')?;
-    }
+    push_place(&mut out, place)?;
+    out.push(',')?;
     push_word(&mut out, "code", name)?;
     out.push(',')?;
     push_word(&mut out, "fault", fault)?;
@@ -177,16 +181,20 @@ fn body_of_fault(alloc: Global, refusal: &Refusal) -> Result<List<u8>, OutOfMemo
 {
     match refusal {
         Refusal::JsonFault { at, fault } => {
-            with_fault(alloc, Some(at), "JsonFault", fault.as_str())
+            with_fault_at(alloc, at, "JsonFault", fault.as_str())
         }
         Refusal::ModelFault { at, fault } => {
-            with_fault(alloc, Some(at), "ModelFault", fault.as_str())
+            with_fault_at(alloc, at, "ModelFault", fault.as_str())
         }
         Refusal::BodyFault { at, fault } => {
-            with_fault(alloc, Some(at), "BodyFault", fault.as_str())
+            with_fault_at(alloc, at, "BodyFault", fault.as_str())
         }
-        Refusal::QueryFault { fault, at } => {
-            with_fault(alloc, at.as_ref(), "QueryFault", fault.as_str())
+        Refusal::QueryFault {
+            fault,
+            at: Some(at),
+        } => with_fault_at(alloc, at, "QueryFault", fault.as_str()),
+        Refusal::QueryFault { fault, at: None } => {
+            with_fault(alloc, "QueryFault", fault.as_str())
         }
         Refusal::PatchFault { fault, index } => patch_fault(alloc, fault.as_str(), *index),
         Refusal::IdDiffers { given, path } => with_words(

@@ -1,6 +1,6 @@
 //! What the parts of a path name.
 
-ghost use Rattle.std.specs.Prelude.{◌≡◌, ◌≤◌, length, IfOk, MatchOption};
+ghost use Rattle.std.specs.Prelude.{◌≡◌, ◌≤◌, ◌↔◌, length, IfOk, IsTrue, MatchOption};
 ghost use Rattle.dtmi_name.specs.Grammar.{Identifier, OwnDtmiText};
 ghost use Rattle.graph_routes.specs.Parts.{NamesModel};
 
@@ -11,6 +11,21 @@ use std::alloc::Global;
 
 /// The most bytes of a model's identifier.
 const MOST_BYTES: usize = 128;
+
+/// Whether a text was not read for want of memory.
+fn is_want_of_memory(fault: &NameFault) -> bool
+    ensures { IsTrue result ↔ (fault.now ≡ NameFault.OutOfMemory) }
+{
+    match fault {
+        NameFault::OutOfMemory => true,
+        NameFault::Empty
+        | NameFault::TooLong
+        | NameFault::BadByte { at: _ }
+        | NameFault::Ends
+        | NameFault::BadVersion
+        | NameFault::Reserved => false,
+    }
+}
 
 /// The identifier of a model that a text is.
 fn read_model(alloc: Global, text: &str) -> Result<Option<Dtmi>, OutOfMemory>
@@ -23,15 +38,12 @@ fn read_model(alloc: Global, text: &str) -> Result<Option<Dtmi>, OutOfMemory>
     }
     match Dtmi::read(alloc, text) {
         Ok(id) => Ok(Some(id)),
-        Err(NameFault::OutOfMemory) => Err(OutOfMemory),
-        Err(
-            NameFault::Empty
-            | NameFault::TooLong
-            | NameFault::BadByte { .. }
-            | NameFault::Ends
-            | NameFault::BadVersion
-            | NameFault::Reserved,
-        ) => Ok(None),
+        Err(fault) => {
+            if is_want_of_memory(&fault) {
+                return Err(OutOfMemory);
+            }
+            Ok(None)
+        }
     }
 }
 
