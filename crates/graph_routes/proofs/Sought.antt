@@ -200,9 +200,22 @@ relationship_fits p k s part t e = by (either (if_word (slash ∷ []) p (first (
         let w = word_found (slash ∷ []) p (first (prepend (param_token ∷ []) (ends (Some 3))) (drop 1 p)) k h in
         let g = last_part 3 (drop 1 p) k (behind-text (slash ∷ []) (drop 1 p) (subst IsText w.0 t)) w.1 in
         let rest = slash ∷ (codes "relationships" ++ p) in
-        subst (λ (n : ℕ). BelowTwin n s (codes "relationships" ++ p)) g.1
-        (s ∷ drop 1 p ∷ [], (slash ∷ (s ++ rest), refl, (s, drop 1 p ∷ [], rest, refl, part, refl,
-        (p, refl, (drop 1 p, [], [], refl, g.0, w.0 ∙ ap (λ r. slash ∷ r) (sym (append-nil (drop 1 p))), (refl, refl))))))
+        subst (λ (n : ℕ). BelowTwin n s (codes "relationships" ++ p)) g.1 (
+          s ∷ drop 1 p ∷ [],
+          (
+            slash ∷ (s ++ rest),
+            refl,
+            (
+              s,
+              drop 1 p ∷ [],
+              rest,
+              refl,
+              part,
+              refl,
+              (p, refl, (drop 1 p, [], [], refl, g.0, w.0 ∙ ap (λ r. slash ∷ r) (sym (append-nil (drop 1 p))), (refl, refl))),
+            ),
+          ),
+        )
     by (inr h) =
         let w = end_found 4 p k h in
         let rest = slash ∷ (codes "relationships" ++ p) in
@@ -223,15 +236,29 @@ below_twin_fits p k s part t e = by (either _ _ k (sym (twin_rows-first p) ∙ e
         let w = word_found (codes "relationships") p (first relationship_rows (drop 13 p)) k (sym (or_else-none (if_word (codes "relationships") p (first relationship_rows (drop 13 p)))) ∙ h) in
         let g = relationship_fits (drop 13 p) k s part (behind-text (codes "relationships") (drop 13 p) (subst IsText w.0 t)) w.1 in
         subst (λ (q : List ℕ). BelowTwin k s q) (sym w.0) g
+
     by : (if_word (codes "components/") p (first (prepend (param_token ∷ []) (ends (Some 1))) (drop 11 p)) ≡ Some k)
         ⊎ (or_else (if_word (codes "incomingrelationships") p (first (([], 2) ∷ []) (drop 21 p))) (or_else (if_word (codes "relationships") p (first relationship_rows (drop 13 p))) None) ≡ Some k) → BelowTwin k s p
     by (inl h) =
         let w = word_found (codes "components/") p (first (prepend (param_token ∷ []) (ends (Some 1))) (drop 11 p)) k h in
         let g = last_part 1 (drop 11 p) k (behind-text (codes "components/") (drop 11 p) (subst IsText w.0 t)) w.1 in
         let name = drop 11 p in
-        subst (λ (n : ℕ). BelowTwin n s p) g.1
-        (s ∷ name ∷ [], (slash ∷ (s ++ slash ∷ p), refl, (s, name ∷ [], slash ∷ p, refl, part, refl,
-        (slash ∷ name, ap (λ r. slash ∷ r) w.0, (name, [], [], refl, g.0, ap (λ r. slash ∷ r) (sym (append-nil name)), (refl, refl))))))
+        subst (λ (n : ℕ). BelowTwin n s p) g.1 (
+          s ∷ name ∷ [],
+          (
+            slash ∷ (s ++ slash ∷ p),
+            refl,
+            (
+              s,
+              name ∷ [],
+              slash ∷ p,
+              refl,
+              part,
+              refl,
+              (slash ∷ name, ap (λ r. slash ∷ r) w.0, (name, [], [], refl, g.0, ap (λ r. slash ∷ r) (sym (append-nil name)), (refl, refl))),
+            ),
+          ),
+        )
     by (inr h) = incoming (either _ _ k h)
 
 pub twin_fits : (p : List ℕ) (k : ℕ) → IsText p → first behind_twins p ≡ Some k → Fits k (slash ∷ (codes "digitaltwins/" ++ p))
@@ -258,12 +285,14 @@ behind_slash p k t e = by (either _ _ k (sym (root_rows-first p) ∙ e))
         let w = word_found (codes "query") p (first (([], 8) ∷ []) (drop 5 p)) k (sym (or_else-none (if_word (codes "query") p (first (([], 8) ∷ []) (drop 5 p)))) ∙ h) in
         let g = end_found 8 (drop 5 p) k w.1 in
         subst (λ (n : ℕ). Fits n (slash ∷ p)) g.1 ([], (drop 5 p, ap (λ r. slash ∷ r) w.0, (refl, g.0)))
+
     twins : (if_word (codes "digitaltwins/") p (first behind_twins (drop 13 p)) ≡ Some k)
         ⊎ (or_else (if_word (codes "models") p (first model_rows (drop 6 p))) (or_else (if_word (codes "query") p (first (([], 8) ∷ []) (drop 5 p))) None) ≡ Some k) → Fits k (slash ∷ p)
     twins (inl h) =
         let w = word_found (codes "digitaltwins/") p (first behind_twins (drop 13 p)) k h in
         subst (λ (q : List ℕ). Fits k (slash ∷ q)) (sym w.0) (twin_fits (drop 13 p) k (behind-text (codes "digitaltwins/") (drop 13 p) (subst IsText w.0 t)) w.1)
     twins (inr h) = models (either _ _ k h)
+
     by : (if_word (codes "canon") p (first (([], 0) ∷ []) (drop 5 p)) ≡ Some k)
         ⊎ (or_else (if_word (codes "digitaltwins/") p (first behind_twins (drop 13 p))) (or_else (if_word (codes "models") p (first model_rows (drop 6 p))) (or_else (if_word (codes "query") p (first (([], 8) ∷ []) (drop 5 p))) None)) ≡ Some k) → Fits k (slash ∷ p)
     by (inl h) =

@@ -40,12 +40,7 @@ fn json_refusal(alloc: Global, at: At, code: &str) -> Result<Refusal, OutOfMemor
 }
 
 /// The refusal of a body with a fault at a place of its value.
-fn refusal_at(
-    alloc: Global,
-    body: &[u8],
-    place: &Place,
-    code: &str,
-) -> Result<Refusal, OutOfMemory>
+fn refusal_at(alloc: Global, body: &[u8], place: &Place, code: &str) -> Result<Refusal, OutOfMemory>
     requires { (raw : Raw) × IsText body.now raw × ((part : Raw) × StandsAt raw place.now.steps part) }
     ensures { IfOk result (RefusesPlace body.now place.now code.now) }
 {
@@ -68,7 +63,7 @@ fn fault_refusal(alloc: Global, body: &[u8], fault: &JsonFault) -> Result<Refusa
 }
 
 /// Whether a value is a list of too many entries.
-#[tactic(auto, using(local_rules::proofs::Views::views, local_rules::proofs::Views::lists))]
+#[tactic(auto, using(local_rules::proofs::Views::views))]
 fn is_too_many(tree: &Tree) -> bool
     ensures { IsTrue result ↔ IsTooMany (view tree.now) }
 {

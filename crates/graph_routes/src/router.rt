@@ -75,7 +75,13 @@ fn asked_of(alloc: Global, found: Found<'_>, request: &Request) -> Result<Prepar
 {
     match method_named(request.method.as_str()) {
         Some(method) if has_method(found.route, method) => {
-            asked(alloc, found.route, method, found.part, request.body.as_slice())
+            asked(
+                alloc,
+                found.route,
+                method,
+                found.part,
+                request.body.as_slice(),
+            )
         }
         _ => Ok(Prepared::Own(Refusal::BadMethod {
             allow: Text::from_str(alloc, allow_text(found.route))?,
