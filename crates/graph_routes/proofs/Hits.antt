@@ -143,7 +143,7 @@ missing_fits_none path r parts t h m =
     let some : map_key numbered (Some (number_of r)) ≡ None = subst (λ (x : Option ℕ). map_key numbered x ≡ None) hit none in
     cc
 
-one_match_of_bytes : (r s : Route) (parts others : List (List ℕ)) (path : List ℕ) → IsText path → Matches r parts path → Matches s others path → r ≡ s
+pub one_match_of_bytes : (r s : Route) (parts others : List (List ℕ)) (path : List ℕ) → IsText path → Matches r parts path → Matches s others path → r ≡ s
 one_match_of_bytes r s parts others path t m n =
     let a = number_hits r parts path t m in
     let b = number_hits s others path t n in

@@ -4,6 +4,7 @@
 mod asks;
 mod bodies;
 mod errors;
+mod laws;
 mod method;
 mod parts;
 mod prepared;
@@ -11,6 +12,7 @@ mod responses;
 mod route;
 mod router;
 
+pub use laws::one_prepared;
 pub use method::Method;
 pub use prepared::Prepared;
 pub use responses::{response_of, response_of_refusal};
