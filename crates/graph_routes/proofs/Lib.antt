@@ -5,3 +5,7 @@ pub mod Stands
 pub mod Taken
 pub mod OneMatch
 pub mod OnePrepared
+pub mod DistinctKeys
+pub mod Ordinals
+pub mod SoundModels
+pub mod SoundAsks

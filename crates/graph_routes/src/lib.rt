@@ -12,7 +12,7 @@ mod responses;
 mod route;
 mod router;
 
-pub use laws::one_prepared;
+pub use laws::{one_prepared, prepared_is_right};
 pub use method::Method;
 pub use prepared::Prepared;
 pub use responses::{response_of, response_of_refusal};
