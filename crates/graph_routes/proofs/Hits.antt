@@ -1,21 +1,19 @@
 -- The router finds each path of the table, and a path is at most one of them.
-use Rattle.std.proofs.Common.{◌≡◌, ◌≢◌, ℕ, ◌<◌, List, [], ◌∷◌, ◌++◌, get_or, Option, Some, None, Bool, true, false, cond, refl, sym, ap, subst, ◌∙◌, arith, nat_eq, ◌==◌, ltb, ◌&&◌, append-nil, map, lit<}
+use Rattle.std.proofs.Common.{◌≡◌, ℕ, List, [], ◌∷◌, ◌++◌, get_or, Option, Some, None, refl, sym, ap, subst, ◌∙◌, append-nil, lit<}
 use Rattle.std.specs.Prelude.{codes}
-use Rattle.std.proofs.lemmas.Bool.Decides.{nat_tests}
-use Rattle.std.specs.List.{AllByRecursion, starts_with}
-use Rattle.matchit.specs.Rows.{Rows, RowsOf, prepend, ends, rows_of, param_token}
+use Rattle.matchit.specs.Rows.{prepend, ends, param_token}
 use Rattle.matchit.specs.Seek.{or_else, first}
 use Rattle.matchit.specs.Level.{IsText}
-use Rattle.matchit.specs.Router.{RouteOf, rename, map_key}
+use Rattle.matchit.specs.Router.{RouteOf, map_key}
 use Rattle.matchit.proofs.SeekLemmas.{first-prefix, or_else-none}
 use Rattle.matchit.proofs.RenameLemmas.{first-rename}
 use Rattle.matchit.proofs.OnLiterals.{matchit_on_literals}
-use Rattle.graph_routes.specs.Paths.{Piece, word, part, slash, IsPart, ConsistsOf, Matches, pieces}
+use Rattle.graph_routes.specs.Paths.{slash, IsPart, Matches}
 use Rattle.graph_routes.specs.Machinery.Rows.{table}
 use Rattle.graph_routes.specs.declared.route.Route.{Route}
 use Rattle.graph_routes.specs.declared.route.Route.TheVariants as route
-use Rattle.graph_routes.proofs.Walks.{behind, part_ends, part_goes_on, last_part_ends}
-use Rattle.graph_routes.proofs.Sought.{numbers, number_of, entry_of, numbered, relationship_rows, twin_rows, model_rows, behind_twins, root_rows, all_rows, table_is, text_of, behind-text, relationship_rows-first, model_rows-first, twin_rows-first, root_rows-first, Fits, number_fits}
+use Rattle.graph_routes.proofs.Walks.{part_ends, part_goes_on, last_part_ends}
+use Rattle.graph_routes.proofs.Sought.{numbers, number_of, entry_of, numbered, relationship_rows, twin_rows, model_rows, behind_twins, root_rows, all_rows, table_is, text_of, behind-text, relationship_rows-first, model_rows-first, twin_rows-first, root_rows-first, number_fits}
 
 -- ---- parts
 last_part_hit : (key : ℕ) (s : List ℕ) → IsPart s → IsText (s ++ []) → first (prepend (param_token ∷ []) (ends (Some key))) (s ++ []) ≡ Some key

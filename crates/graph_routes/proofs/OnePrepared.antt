@@ -1,7 +1,7 @@
 -- A request is at most one ask, or its bytes decide at most one refusal.
-use Rattle.std.proofs.Common.{◌≡◌, ◌≢◌, ◌⊎◌, ℕ, ◌<◌, List, [], ◌∷◌, Bool, true, false, refl, sym, ap, ap₂, subst, ◌∙◌, inl, inr, arith}
-use Rattle.std.specs.Prelude.{codes, Contains, bytes_eq, cond}
-use Rattle.dtmi_name.specs.Grammar.{Identifier, HasDtmiForm}
+use Rattle.std.proofs.Common.{◌≡◌, ℕ, List, [], ◌∷◌, Bool, refl, sym, ap, ap₂, subst, ◌∙◌, inl, inr}
+use Rattle.std.specs.Prelude.{codes, bytes_eq, cond}
+use Rattle.dtmi_name.specs.Grammar.{Identifier}
 use Rattle.dtmi_name.proofs.Cuts.{HasDtmiForm-unique}
 use Rattle.dtdl_terms.specs.declared.uploaded.Uploaded.{Uploaded}
 use Rattle.json_tree.specs.Values.{Json, Raw, truth}
@@ -30,10 +30,10 @@ use Rattle.graph_asks.specs.declared.refusal.At.TheVariants as at
 use Rattle.graph_asks.specs.declared.refusal.Refusal.{Refusal}
 use Rattle.graph_asks.specs.declared.refusal.Refusal.TheVariants as refusals
 use Rattle.graph_routes.specs.Paths.{Matches}
-use Rattle.graph_routes.specs.Methods.{allow_text, method_text, methods}
+use Rattle.graph_routes.specs.Methods.{method_text}
 use Rattle.graph_routes.specs.Parts.{NamesModel}
-use Rattle.graph_routes.specs.Bodies.{DeclaresModels, IsTooMany, RefusesFor, RefusesJson, RefusesModels, RefusesPatch, RefusesPlace, SetsMark, SetsOne, SetsTo, most_models}
-use Rattle.graph_routes.specs.Prepared.{Asks, AsksOf, IsMethodOf, IsPrepared, Marks, PutsModels, WithBody, WithModel}
+use Rattle.graph_routes.specs.Bodies.{DeclaresModels, RefusesFor, RefusesJson, RefusesModels, RefusesPatch, RefusesPlace, SetsMark, SetsTo}
+use Rattle.graph_routes.specs.Prepared.{Asks, AsksOf, IsPrepared, Marks, PutsModels, WithBody, WithModel}
 use Rattle.graph_routes.specs.declared.method.Method.{Method}
 use Rattle.graph_routes.specs.declared.method.Method.TheVariants as method
 use Rattle.graph_routes.specs.declared.prepared.Prepared.{Prepared}

@@ -1,20 +1,19 @@
 -- Which path of the table the router finds: the one that the path's pieces fit.
-use Rattle.std.proofs.Common.{◌≡◌, ◌≢◌, ℕ, ◌<◌, List, [], ◌∷◌, ◌++◌, length, drop, get_or, Option, Some, None, Bool, true, false, cond, refl, sym, ap, subst, ◌∙◌, arith, nat_eq, ◌==◌, ltb, ◌&&◌, append-nil, ◌⊎◌, inl, inr, lit<}
+use Rattle.std.proofs.Common.{◌≡◌, ℕ, ◌<◌, List, [], ◌∷◌, ◌++◌, drop, get_or, Option, Some, None, Bool, true, false, cond, refl, sym, ap, subst, ◌∙◌, arith, nat_eq, ltb, ◌&&◌, append-nil, ◌⊎◌, inl, inr, lit<}
 use Rattle.std.specs.Prelude.{codes}
 use Rattle.std.proofs.lemmas.Bool.Decides.{nat_tests}
-use Rattle.std.specs.List.{AllByRecursion, starts_with}
-use Rattle.matchit.specs.Rows.{Rows, RowsOf, prepend, ends, rows_of, param_token}
+use Rattle.std.specs.List.{starts_with}
+use Rattle.matchit.specs.Rows.{Rows, prepend, ends, rows_of, param_token}
 use Rattle.matchit.specs.Seek.{or_else, first, has_slash}
 use Rattle.matchit.specs.Level.{IsText}
-use Rattle.matchit.specs.Router.{RouteOf, rename, map_key}
+use Rattle.matchit.specs.Router.{RouteOf, rename}
 use Rattle.matchit.proofs.SeekLemmas.{first-prefix, seek-empty, or_else-none}
-use Rattle.matchit.proofs.RenameLemmas.{first-rename}
 use Rattle.matchit.proofs.OnLiterals.{matchit_on_literals}
-use Rattle.graph_routes.specs.Paths.{slash, IsPart, ConsistsOf, Matches, pieces}
+use Rattle.graph_routes.specs.Paths.{slash, IsPart, Matches}
 use Rattle.graph_routes.specs.Machinery.Rows.{row, table}
 use Rattle.graph_routes.specs.declared.route.Route.{Route}
 use Rattle.graph_routes.specs.declared.route.Route.TheVariants as route
-use Rattle.graph_routes.proofs.Walks.{branch, either, word_found, end_found, NoSlash, uncut, cut, parted, behind, part_ends, part_goes_on, part_stops, part_missing, last_part_ends, last_part_stops}
+use Rattle.graph_routes.proofs.Walks.{branch, either, word_found, end_found, NoSlash, cut, parted, behind, part_ends, part_goes_on, part_stops, part_missing, last_part_ends, last_part_stops}
 
 -- ---- the rows with numbers in place of the paths
 abbrev pub numbers : List Route

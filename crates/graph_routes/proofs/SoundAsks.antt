@@ -1,9 +1,7 @@
 -- The ask that a request makes is sound, and a refusal that its bytes decide lists the methods of a path.
-use Rattle.std.proofs.Common.{◌≡◌, ◌≤◌, ◌⊎◌, ℕ, List, [], ◌∷◌, Bool, length, refl, sym, ap, subst, ◌∙◌, inl, inr}
+use Rattle.std.proofs.Common.{◌≡◌, ◌≤◌, ℕ, List, [], ◌∷◌, length, refl, sym, subst, inl, inr}
 use Rattle.dtmi_name.specs.Grammar.{Identifier, OwnDtmiText, dtmi_text}
-use Rattle.dtdl_terms.specs.declared.uploaded.Uploaded.{Uploaded}
 use Rattle.json_tree.specs.Values.{Json}
-use Rattle.json_tree.specs.declared.places.Place.{Place}
 use Rattle.json_read.specs.declared.fault.JsonFault.{JsonFault}
 use Rattle.json_read.specs.declared.fault.JsonFault.TheVariants as faults
 use Rattle.http_ends.specs.declared.request.Request.{Request}
@@ -14,8 +12,8 @@ use Rattle.graph_asks.specs.declared.refusal.Refusal.{Refusal}
 use Rattle.graph_asks.specs.declared.refusal.Refusal.TheVariants as refusals
 use Rattle.graph_routes.specs.Methods.{allow_text}
 use Rattle.graph_routes.specs.Parts.{NamesModel}
-use Rattle.graph_routes.specs.Bodies.{RefusesFor, RefusesJson}
-use Rattle.graph_routes.specs.Prepared.{Asks, AsksOf, IsPrepared, Marks, PutsModels, WithBody, WithModel}
+use Rattle.graph_routes.specs.Bodies.{RefusesFor}
+use Rattle.graph_routes.specs.Prepared.{Asks, IsPrepared, Marks, PutsModels, WithBody, WithModel}
 use Rattle.graph_routes.specs.Responses.{ListsMethods}
 use Rattle.graph_routes.specs.Soundness.{IsModelId, IsSoundAsk}
 use Rattle.graph_routes.specs.declared.method.Method.{Method}

@@ -1,5 +1,5 @@
 -- What is put by a request is sound.
-use Rattle.std.proofs.Common.{◌≡◌, ℕ, zero, suc, ◌+◌, ◌<◌, ◌≤◌, ◌⊎◌, List, [], ◌∷◌, Some, None, length, refl, sym, ap, subst, ◌∙◌, inl, inr, arith}
+use Rattle.std.proofs.Common.{◌≡◌, ℕ, zero, suc, ◌+◌, ◌<◌, ◌≤◌, List, [], ◌∷◌, Some, length, refl, sym, ap, subst, ◌∙◌, arith}
 use Rattle.std.specs.Prelude.{slice_get}
 use Rattle.std.specs.List.{AllByRecursion, AllZip, enumerate_from}
 use Rattle.std.proofs.lemmas.List.FromFn.{length-enumerate_from}
@@ -12,9 +12,9 @@ use Rattle.dtdl_terms.specs.declared.uploaded.Uploaded.{Uploaded}
 use Rattle.extend_resolve.specs.Breaches.{HasOrdinals}
 use Rattle.local_rules.specs.Members.{list_of}
 use Rattle.model_read.specs.Limits.{IsWithinLimits}
-use Rattle.model_read.specs.Uploads.{AreUploaded, IsUploaded, IsUploadedAt}
+use Rattle.model_read.specs.Uploads.{AreUploaded, IsUploadedAt}
 use Rattle.model_read.proofs.Documents.{all_have_declarations, all_within}
-use Rattle.graph_routes.specs.Bodies.{DeclaresModels, IsTooMany, IsUnbroken}
+use Rattle.graph_routes.specs.Bodies.{DeclaresModels, IsTooMany}
 use Rattle.graph_routes.specs.Soundness.{AreSoundModels, IsSoundModel}
 use Rattle.graph_routes.proofs.DistinctKeys.{spelled_distinct}
 use Rattle.graph_routes.proofs.Ordinals.{in_document}

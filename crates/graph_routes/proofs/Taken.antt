@@ -1,5 +1,5 @@
 -- What a router tells of the one part of a model's path.
-use Rattle.std.proofs.Common.{◌≡◌, ◌≢◌, ℕ, zero, suc, ◌+◌, ◌-◌, ◌<◌, ◌≤◌, List, [], ◌∷◌, ◌++◌, length, drop, take, get_or, Option, Some, None, Bool, true, false, cond, refl, sym, ap, ap₂, subst, ◌∙◌, arith, nat_eq, ◌==◌, ltb, leb, ◌&&◌, append-nil, length-append, lit<}
+use Rattle.std.proofs.Common.{◌≡◌, ℕ, suc, ◌+◌, ◌-◌, ◌<◌, ◌≤◌, List, [], ◌∷◌, ◌++◌, length, get_or, true, refl, sym, ap, ap₂, subst, ◌∙◌, arith, ltb, leb, append-nil, lit<}
 use Rattle.std.specs.Prelude.{codes}
 use Rattle.std.specs.Str.{IsUtf8}
 use Rattle.std.proofs.lemmas.Bool.Decides.{nat_tests}
@@ -8,7 +8,7 @@ use Rattle.std.proofs.lemmas.List.{take_all}
 use Rattle.matchit.specs.Rows.{param_token}
 use Rattle.matchit.specs.Level.{IsText}
 use Rattle.matchit.specs.Router.{RouteOf}
-use Rattle.matchit.specs.Params.{walk, wild_from, wild_stop, part_of, next_at}
+use Rattle.matchit.specs.Params.{walk, wild_from, wild_stop, part_of}
 use Rattle.graph_routes.specs.Paths.{slash, Matches}
 use Rattle.graph_routes.specs.declared.route.Route.{Route}
 use Rattle.graph_routes.specs.declared.route.Route.TheVariants as route

@@ -1,11 +1,11 @@
 -- What the walk of a router finds in rows that branch by words, and in rows behind a part.
-use Rattle.std.proofs.Common.{◌≡◌, ◌≢◌, ℕ, zero, suc, ◌+◌, ◌-◌, ◌<◌, ◌≤◌, List, [], ◌∷◌, ◌++◌, length, drop, take, Option, Some, None, Bool, true, false, cond, refl, sym, ap, subst, ◌∙◌, length-append, arith, nat_eq, ◌==◌, ltb, ◌&&◌, append-nil, ◌⊎◌, inl, inr, lit<}
+use Rattle.std.proofs.Common.{◌≡◌, ◌≢◌, ℕ, suc, ◌+◌, ◌-◌, ◌<◌, List, [], ◌∷◌, ◌++◌, length, drop, Option, Some, None, Bool, true, false, cond, refl, sym, ap, subst, ◌∙◌, length-append, arith, nat_eq, ◌==◌, ltb, ◌&&◌, append-nil, ◌⊎◌, inl, inr, lit<}
 use Rattle.std.proofs.lemmas.Bool.Decides.{nat_tests}
 use Rattle.std.proofs.lemmas.List.Prefix.{end_rest, front_rest}
 use Rattle.std.specs.List.{AllByRecursion, starts_with}
 use Rattle.std.specs.Cmp.Lexicographic.{pointwise}
-use Rattle.matchit.specs.Rows.{Rows, Seen, prepend, ends, rows, rows_of, param_token, catch_all_token}
-use Rattle.matchit.specs.Seek.{own, step, or_else, seek, first, after_param, param_step, has_slash, segment, slash, cuts, better, longest_suffix, longest_from}
+use Rattle.matchit.specs.Rows.{Rows, Seen, prepend, ends, rows_of, param_token, catch_all_token}
+use Rattle.matchit.specs.Seek.{step, or_else, seek, first, after_param, param_step, has_slash, segment, slash, cuts, better, longest_suffix}
 use Rattle.matchit.specs.Level.{IsText, AreSuffixes, AllSegment}
 use Rattle.matchit.proofs.SeekLemmas.{own-append, own-prepend, step-append, step-hit, step-miss, prepend-nil, or_else-none, param_step-empty, seek-empty, first-prefix}
 use Rattle.matchit.proofs.LongestLemmas.{longest-kid}

@@ -1,4 +1,4 @@
-use Rattle.std.proofs.Common.{subst, ◌≡◌, List, ℕ, Some, None, arith}
+use Rattle.std.proofs.Common.{subst, ◌≡◌, Some, None, arith}
 use Rattle.matchit.specs.Rows.{RowsOf}
 use Rattle.matchit.specs.Router.{RouteOf}
 use Rattle.matchit.specs.Seek.{first}
