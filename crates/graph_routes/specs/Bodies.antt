@@ -1,8 +1,7 @@
 -- What bodies say: models to put, and a mark to set; and why others are refused.
-use Rattle.std.specs.Prelude.{◌≡◌, ℕ, ◌<◌, ◌⊎◌, List, [], ◌∷◌, length, Bool, codes}
-use Rattle.json_decimal.specs.Number.{Number}
+use Rattle.std.specs.Prelude.{◌≡◌, ℕ, ◌<◌, List, [], ◌∷◌, length, Bool, codes}
 use Rattle.json_tree.specs.Values.{Json, Raw, null, truth, number, text, array, object}
-use Rattle.json_tree.specs.Grammar.{IsText, Spells}
+use Rattle.json_tree.specs.Grammar.{IsText}
 use Rattle.json_tree.specs.Pointers.{IsPointerOf}
 use Rattle.json_tree.specs.declared.places.Place.{Place}
 use Rattle.json_read.specs.Faults.{IsFault}

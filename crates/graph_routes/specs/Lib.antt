@@ -5,3 +5,5 @@ pub mod Bodies
 pub mod Prepared
 pub mod Errors
 pub mod Responses
+pub mod Soundness
+pub mod Machinery
