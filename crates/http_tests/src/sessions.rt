@@ -28,7 +28,7 @@ fn reply(alloc: Global, status: u16, body: &[u8]) -> Result<Response, OutOfMemor
 }
 
 impl Service for Echo {
-    ghost use Rattle.std.proofs.Common.{append-nil, append_assoc, sym};
+    ghost use Rattle.std.proofs.Common.{append-nil, append_assoc, ap, sym, ◌∙◌};
 
     ghost Entry = { ℕ };
 
@@ -40,7 +40,7 @@ impl Service for Echo {
 
     ghost stays = { λ s. sym (append-nil s.entries) };
 
-    ghost goes_on = { λ s t u es fs h k. Prim.cc (append_assoc s.entries es fs) };
+    ghost goes_on = { λ s t u es fs h k. k ∙ ap (λ xs. xs ++ fs) h ∙ append_assoc s.entries es fs };
 
     fn answer(&mut self, request: &Request) -> Result<Answer, Trouble> {
         let method = request.method.as_str();
