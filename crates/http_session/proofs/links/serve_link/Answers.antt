@@ -1,5 +1,5 @@
-use Rattle.std.proofs.Common.{◌≡◌, ◌≤◌, ◌+◌, ◌==◌, [], Some, refl, ap, inr, arith}
-use Rattle.dt_base.specs.Faults.{Rose}
+use Rattle.std.proofs.Common.{◌≡◌, ◌+◌, ◌==◌, [], Some, refl, ap, sym, ◌∙◌, inr, arith}
+use Rattle.std.proofs.KnownBytes.{Consumes-nil}
 use Rattle.http_ends.specs.declared.request.HttpEnd.TheVariants as causes
 use Rattle.http_ends.specs.Streams.{stream_of}
 use Rattle.http_session.specs.Turns.{world}
@@ -9,11 +9,12 @@ use Rattle.http_session.proofs.links.serve_link.Goals as goal
 pub returns-in_default-clause-session : goal.returns-in_default-clause-session
 returns-in_default-clause-session g c =
     let wrote = c.give_up.ensures.wrote in
+    let left : g.L.Source.left c.give_up.new.sink ≡ g.L.Source.left c.args.link.now = sym (g.met.L.Link.left_aside c.give_up.new.sink) ∙ c.give_up.ensures.beside ∙ g.met.L.Link.left_aside c.args.link.now in
     let here = world (g.L.Source.left c.args.link.now) (g.L.Sink.taken c.args.link.now) c.args.service.now in
     let there = world (g.L.Source.left c.args.link.now) (g.L.Sink.taken c.give_up.new.sink) c.args.service.now in
     last_turn g.D.Service.goes g.D.Service.own g.D.Service.enters g.met.D.Service.goes_on 0 _ _ _ here here there (g.L.Source.left c.give_up.new.sink) (λ rose. rose) (omega arith)
     (none_yet g.D.Service.goes g.D.Service.own g.D.Service.enters g.met.D.Service.stays here here refl refl refl)
-    ([], wrote.0, record { goes_by = g.met.D.Service.stays c.args.service.now; appended = wrote.1 }, inr (causes.OutOfMemory, tt, refl, wrote.2))
+    ([], wrote.0, record { goes_by = g.met.D.Service.stays c.args.service.now; appended = wrote.1 }, inr (causes.OutOfMemory, tt, refl, wrote.2), ([], rw left (Consumes-nil here.bytes)))
 
 pub returns-in-Some-clause-session : goal.returns-in-Some-clause-session
 returns-in-Some-clause-session g c =

@@ -1,5 +1,5 @@
-use Rattle.std.proofs.Common.{◌+◌, ◌<◌, ◌==◌, [], refl, inr, arith}
-use Rattle.std.proofs.lemmas.Bool.Decides.{nat_tests}
+use Rattle.std.proofs.Common.{◌+◌, ◌==◌, [], refl, inr, arith}
+use Rattle.std.proofs.KnownBytes.{Consumes-nil}
 use Rattle.http_ends.specs.declared.request.HttpEnd.TheVariants as causes
 use Rattle.http_ends.specs.Streams.{stream_of}
 use Rattle.http_session.specs.Turns.{world}
@@ -13,7 +13,7 @@ returns-in_default-clause-session g c =
     let there = world (g.S.Source.left c.args.source.now) (g.K.Sink.taken c.give_up.new.sink) c.args.service.now in
     last_turn g.D.Service.goes g.D.Service.own g.D.Service.enters g.met.D.Service.goes_on 0 _ _ _ here here there (g.S.Source.left c.args.source.now) (λ rose. rose) (omega arith)
     (none_yet g.D.Service.goes g.D.Service.own g.D.Service.enters g.met.D.Service.stays here here refl refl refl)
-    ([], wrote.0, record { goes_by = g.met.D.Service.stays c.args.service.now; appended = wrote.1 }, inr (causes.OutOfMemory, tt, refl, wrote.2))
+    ([], wrote.0, record { goes_by = g.met.D.Service.stays c.args.service.now; appended = wrote.1 }, inr (causes.OutOfMemory, tt, refl, wrote.2), ([], Consumes-nil here.bytes))
 
 pub returns-in-Some-clause-session : goal.returns-in-Some-clause-session
 returns-in-Some-clause-session g c =
