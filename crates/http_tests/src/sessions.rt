@@ -3,9 +3,9 @@
 ghost use Rattle.std.specs.Prelude.{◌≡◌, ℕ, List, [], ◌++◌, length, IfOk};
 ghost use Rattle.http_tests.specs.Echoes.{echoed};
 
-use dt_base::{List, MemSink, MemSource, OutOfMemory};
+use dt_base::{List, MemLink, MemSink, MemSource, OutOfMemory};
 use http_ends::{Request, Response};
-use http_session::{Answer, Service, SessionEnd, Trouble, serve};
+use http_session::{Answer, Service, SessionEnd, Trouble, serve, serve_link};
 use std::alloc::{AllocError, Global};
 use std::test::Fail;
 
@@ -260,5 +260,44 @@ fn writes_what_there_is_room_for(rt: HostRuntime) -> Result<(), Fail> {
     )?;
     assert_eq!(rt; session.end, SessionEnd::OutOfMemory);
     assert_eq!(rt; session.text.as_slice(), b"HTTP/1.1 5".as_slice());
+    Ok(())
+}
+
+#[test]
+fn serves_a_link(rt: HostRuntime) -> Result<(), Fail> {
+    for (bytes, end, text, _) in SESSIONS {
+        let mut link = MemLink::new(
+            rt.alloc(),
+            list_of(rt.alloc(), bytes)?,
+            10_000,
+            List::new(rt.alloc()),
+            list_of(rt.alloc(), &[5, 1, 40])?,
+        )?;
+        let mut echo = Echo {
+            alloc: rt.alloc(),
+            entries: List::new(rt.alloc()),
+        };
+        assert_eq!(rt; serve_link(rt.alloc(), &mut echo, &mut link), end);
+        assert_eq!(rt; link.taken(), text.as_bytes());
+    }
+    // A failed call is the link's, be it a read or a write.
+    for (call, end) in [
+        (1, SessionEnd::ReadFault),
+        (2, SessionEnd::WriteFault),
+        (3, SessionEnd::ReadFault),
+    ] {
+        let mut link = MemLink::new(
+            rt.alloc(),
+            list_of(rt.alloc(), b"GET /a HTTP/1.1\r\n\r\n")?,
+            10_000,
+            list_of(rt.alloc(), &[call])?,
+            List::new(rt.alloc()),
+        )?;
+        let mut echo = Echo {
+            alloc: rt.alloc(),
+            entries: List::new(rt.alloc()),
+        };
+        assert_eq!(rt; serve_link(rt.alloc(), &mut echo, &mut link), end);
+    }
     Ok(())
 }
