@@ -1,11 +1,12 @@
 //! Worked rows of sessions, over sources and sinks in memory and a service that answers with the path.
 
 ghost use Rattle.std.specs.Prelude.{◌≡◌, ℕ, List, [], ◌++◌, length, IfOk};
+ghost use Rattle.http_session.specs.Uniqueness.{OneSession};
 ghost use Rattle.http_tests.specs.Echoes.{echoed};
 
 use dt_base::{List, MemLink, MemSink, MemSource, OutOfMemory};
 use http_ends::{Request, Response};
-use http_session::{Answer, Service, SessionEnd, Trouble, serve, serve_link};
+use http_session::{Answer, Rules, Service, SessionEnd, Trouble, one_session, serve, serve_link};
 use std::alloc::{AllocError, Global};
 use std::test::Fail;
 
@@ -71,6 +72,30 @@ impl Service for Echo {
             Err(_) => Err(Trouble::EntryInHand),
         }
     }
+}
+
+/// What the service answers with, from state to state.
+struct EchoRules;
+
+impl Rules for EchoRules {
+    ghost State = { Unit {0} };
+
+    ghost Entry = { ℕ };
+
+    ghost own = { λ request response. response ≡ echoed 404 [] };
+
+    ghost enters = { λ request entry response. (entry ≡ length request.path) × (response ≡ echoed 200 request.path) };
+
+    ghost allowed = { λ s e. Unit {0} };
+
+    ghost follows = { λ s e. tt };
+}
+
+/// The law of sessions at this service.
+fn has_one_session()
+    ensures { OneSession ⟦<EchoRules as Rules>⟧.own ⟦<EchoRules as Rules>⟧.enters ⟦<EchoRules as Rules>⟧.allowed ⟦<EchoRules as Rules>⟧.follows }
+{
+    one_session::<EchoRules>()
 }
 
 fn list_of<T: Copy>(alloc: Global, items: &[T]) -> Result<List<T>, AllocError> {
