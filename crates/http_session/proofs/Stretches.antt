@@ -2,9 +2,10 @@
 use Rattle.std.proofs.Common.{◌≡◌, ℕ, ◌+◌, ◌<◌, ◌≤◌, ◌==◌, Bool, false, List, [], ◌∷◌, ◌++◌, length, Option, Some, None, Result, Ok, Err, true, is_some, inl, inr, refl, sym, ap, ◌∙◌, append_assoc, append-nil, arith, length-append, option_to_list}
 use Rattle.std.specs.List.{AllByRecursion}
 use Rattle.std.proofs.lemmas.Bool.Decides.{nat_tests}
-use Rattle.std.specs.Io.KnownBytes.{Appends}
-use Rattle.std.proofs.KnownBytes.{Appends-trans, Appends-nil}
+use Rattle.std.specs.Io.KnownBytes.{Appends, Consumes}
+use Rattle.std.proofs.KnownBytes.{Appends-trans, Appends-nil, Consumes-trans, Consumes-nil}
 use Rattle.dt_base.specs.Faults.{Rose}
+use Rattle.httparse.specs.Grammar.{print_request}
 use Rattle.http_ends.specs.declared.request.Request.{Request}
 use Rattle.http_ends.specs.declared.request.HttpEnd.{HttpEnd}
 use Rattle.http_ends.specs.declared.response.Response.{Response}
@@ -90,6 +91,37 @@ cause_of (Some bytes) (Some rest) read causes.BodyTooLong h none = (h.0, refl)
 cause_of (Some bytes) (Some rest) read causes.TransferCoding h none = (h.0, refl)
 cause_of (Some bytes) (Some rest) read causes.CutOff h none = (h.0, refl)
 
+-- where no request was read, all that was read is still there
+unread : (stream left : Option (List ℕ)) (read : List ℕ) (cause : HttpEnd) → OnStreams stream (stream_of read left) (ReadsNext (Err cause)) → Consumes stream left read
+unread None left read cause h = tt
+unread (Some bytes) None read cause h = absurd h
+unread (Some bytes) (Some rest) read causes.Closed h = sym h.1
+unread (Some bytes) (Some rest) read causes.BadHead h = sym h.2
+unread (Some bytes) (Some rest) read causes.BodyTooLong h = sym h.1
+unread (Some bytes) (Some rest) read causes.TransferCoding h = sym h.1
+unread (Some bytes) (Some rest) read causes.CutOff h = sym h.1
+unread (Some bytes) (Some rest) read causes.ReadFault h = sym h
+unread (Some bytes) (Some rest) read causes.OutOfMemory h = sym h
+
+-- a message is the front of its stream
+message : (stream after : Option (List ℕ)) (request : Request) → IsMessage stream request after → (took : List ℕ) × Consumes stream after took
+message None after request h = ([], tt)
+message (Some bytes) None request h = absurd h
+message (Some bytes) (Some rest) request h =
+    (print_request h.head ++ request.body, h.begins.reads.1 ∙ sym (append_assoc (print_request h.head) request.body rest))
+
+messages : {E : Type 0} (stream after : Option (List ℕ)) (xs : List (Exchange E)) → AreRead stream xs after → (took : List ℕ) × Consumes stream after took
+messages stream after [] h = ([], rw h (Consumes-nil stream))
+messages stream after (x ∷ xs) h =
+    let first = message stream h.0 x.request h.1 in
+    let more = messages h.0 after xs h.2 in
+    (first.0 ++ more.0, Consumes-trans stream h.0 after first.0 more.0 first.1 more.1)
+
+-- the bytes of a stream that are read are its front
+pub held : (left : Option (List ℕ)) (read : List ℕ) → Consumes (stream_of read left) left read
+held None read = tt
+held (Some rest) read = refl
+
 module _ {D E : Type 0} (goes : D → List E → D → Type 0) (own : Request → Response → Type 0) (enters : Request → E → Response → Type 0) where
   pub with_weaker : (r s : Type 0) (last : Bool) (end : SessionEnd) (request : Request) (es : List E) (out : List ℕ) → (r → s) → EndsWith own enters r last end request es out → EndsWith own enters s last end request es out
   with_weaker r s last Closed request es out f h = h
@@ -107,10 +139,12 @@ module _ {D E : Type 0} (goes : D → List E → D → Type 0) (own : Request �
   -- a session whose sink's count rose is one of which that is not told
   pub session_weaker : (r s : Type 0) (end : SessionEnd) (stream left : Option (List ℕ)) (es : List E) (out : List ℕ) → (r → s) → Session own enters r end stream left es out → Session own enters s end stream left es out
   session_weaker r s end stream left es out f h = record {
+    took = h.took;
     exchanges = h.exchanges;
     rest = h.rest;
     last_es = h.last_es;
     last_out = h.last_out;
+    consumed = h.consumed;
     read = h.read;
     open_all = h.open_all;
     few = h.few;
@@ -147,14 +181,25 @@ module _ {D E : Type 0} (goes : D → List E → D → Type 0) (own : Request �
         record { goes_by = moves.goes_by; appended = moves.appended },
       )
   one_turn rose last stream left read (Ok request) (Some end) before after s t h none k =
-      (k.0, k.1, record { goes_by = k.2.goes_by; appended = k.2.appended }, inl (request, stream_of read left, h, k.3))
+      let first = message stream (stream_of read left) request h in (
+        k.0,
+        k.1,
+        record { goes_by = k.2.goes_by; appended = k.2.appended },
+        inl (request, stream_of read left, h, k.3),
+        (first.0 ++ read, Consumes-trans stream (stream_of read left) left first.0 read first.1 (held left read)),
+      )
   one_turn rose last stream left read (Err cause) None before after s t h none k = absurd k
-  one_turn rose last stream left read (Err cause) (Some end) before after s t h none k =
-      ([], k.0, record { goes_by = k.1.goes_by; appended = k.1.appended }, inr (cause, cause_of stream left read cause h (λ is. none (ap Err is)), refl, k.2))
+  one_turn rose last stream left read (Err cause) (Some end) before after s t h none k = (
+    [],
+    k.0,
+    record { goes_by = k.1.goes_by; appended = k.1.appended },
+    inr (cause, cause_of stream left read cause h (λ is. none (ap Err is)), refl, k.2),
+    (read, unread stream left read cause h),
+  )
 
   pub turn_weaker : (r s : Type 0) (last : Bool) (a b : World D) (left : Option (List ℕ)) (end : Option SessionEnd) → (r → s) → Turns goes own enters r last a b left end → Turns goes own enters s last a b left end
   turn_weaker r s last a b left None f h = h
-  turn_weaker r s last a b left (Some end) f h = (h.0, h.1, h.2, ends_weaker r s last end a.bytes left h.0 h.1 f h.3)
+  turn_weaker r s last a b left (Some end) f h = (h.0, h.1, h.2, ends_weaker r s last end a.bytes left h.0 h.1 f h.3, h.4)
 
   -- no turn yet
   pub none_yet : ((s : D) → goes s [] s) → (a b : World D) → b.bytes ≡ a.bytes → b.taken ≡ a.taken → b.service ≡ a.service → Going goes own enters 0 a b
@@ -182,15 +227,18 @@ module _ {D E : Type 0} (goes : D → List E → D → Type 0) (own : Request �
       → (n : ℕ) (r rose : Type 0) (end : SessionEnd) (a b c : World D) (left : Option (List ℕ)) → (r → rose) → n < 1000000 → Going goes own enters n a b
       → Turns goes own enters r (n + 1 == 1000000) b c left (Some end) → Serves goes own enters rose a (world left c.taken c.service) end
   last_turn on n r rose end a b c left f few g t =
-      let both = moves_trans on a b c _ t.0 _ t.1 g.moves t.2 in (
+      let both = moves_trans on a b c _ t.0 _ t.1 g.moves t.2 in
+      let first = messages a.bytes b.bytes g.exchanges g.read in (
         entries_of g.exchanges ++ t.0,
         texts_of g.exchanges ++ t.1,
         record { goes_by = both.goes_by; appended = both.appended },
         record {
+          took = first.0 ++ t.4.0;
           exchanges = g.exchanges;
           rest = b.bytes;
           last_es = t.0;
           last_out = t.1;
+          consumed = Consumes-trans a.bytes b.bytes left first.0 t.4.0 first.1 t.4.1;
           read = g.read;
           open_all = g.open_all;
           few = rw g.count few;

@@ -1,5 +1,5 @@
 -- There is one session of a stream.
-use Rattle.std.proofs.Common.{◌≡◌, ℕ, ◌+◌, ◌<◌, ◌==◌, Bool, true, false, List, [], ◌∷◌, ◌++◌, length, Option, Some, None, Result, Ok, Err, inl, inr, refl, sym, ap, ◌∙◌, subst, append_assoc, append-nil, arith, option_to_list}
+use Rattle.std.proofs.Common.{◌≡◌, ℕ, ◌+◌, ◌<◌, ◌==◌, Bool, true, false, List, [], ◌∷◌, ◌++◌, length, Option, Some, None, Result, Ok, Err, inl, inr, refl, sym, ap, ◌∙◌, append_assoc, append-nil, arith, option_to_list}
 use Rattle.std.specs.List.{AllByRecursion}
 use Rattle.std.proofs.lemmas.Bool.Decides.{nat_tests}
 use Rattle.http_ends.specs.declared.request.Request.{Request}
@@ -12,8 +12,9 @@ use Rattle.http_session.specs.declared.ends.SessionEnd.{SessionEnd}
 use Rattle.http_session.specs.declared.ends.SessionEnd.TheVariants.{Closed, Refused, Full, ReadFault, WriteFault, OutOfMemory}
 use Rattle.http_session.specs.Answers.{IsAnswered, text_of}
 use Rattle.http_session.specs.Refusals.{refusal_of, refusal_text}
-use Rattle.http_session.specs.Sessions.{Exchange, entries_of, texts_of, IsMessage, AreRead, IsCause, EndsFor, Replies, EndsWith, Ends, IsOpen, Session}
-use Rattle.http_session.specs.Uniqueness.{IsDecided, AreLegal, AreFunctions, OneSession}
+use Rattle.http_session.specs.Sessions.{Exchange, entries_of, texts_of, IsMessage, AreRead, IsCause, EndsFor, Replies, EndsWith, Ends, IsOpen}
+use Rattle.http_session.specs.Legal.{AreLegal}
+use Rattle.http_session.specs.Uniqueness.{IsDecided, AreFunctions, OneSession}
 
 abbrev ok : Request → Result Request HttpEnd
 ok request = Ok request

@@ -1,4 +1,5 @@
 pub mod Answers
+pub mod Legal
 pub mod Refusals
 pub mod Sessions
 pub mod Turns

@@ -1,5 +1,5 @@
 -- The replies that a session makes by itself. Each of them is a closing one.
-use Rattle.std.specs.Prelude.{ℕ, true, false, List, ◌++◌, Option, Some, None, codes}
+use Rattle.std.specs.Prelude.{ℕ, true, false, List, Option, Some, None, codes}
 use Rattle.http_ends.specs.declared.request.HttpEnd.{HttpEnd}
 use Rattle.http_ends.specs.declared.request.HttpEnd.TheVariants.{Closed, BadHead, BodyTooLong, TransferCoding, CutOff, ReadFault, OutOfMemory}
 use Rattle.http_ends.specs.declared.response.Response.{Response}

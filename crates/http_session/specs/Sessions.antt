@@ -2,8 +2,9 @@
 --
 -- A stream is told or not, as the link that it comes from tells its bytes. What is said of its bytes is said where they
 -- are told.
-use Rattle.std.specs.Prelude.{◌≡◌, ℕ, ◌+◌, ◌<◌, ◌⊎◌, Bool, true, false, ◌||◌, List, [], ◌∷◌, ◌++◌, length, take, Option, Some, None, Err, IfSome, ◌==◌, option_to_list}
+use Rattle.std.specs.Prelude.{◌≡◌, ℕ, ◌+◌, ◌<◌, ◌⊎◌, Bool, true, false, ◌||◌, List, [], ◌∷◌, ◌++◌, length, take, Option, Some, Err, IfSome, ◌==◌, option_to_list}
 use Rattle.std.specs.List.{AllByRecursion}
+use Rattle.std.specs.Io.KnownBytes.{Consumes}
 use Rattle.http_ends.specs.declared.request.Request.{Request}
 use Rattle.http_ends.specs.declared.request.HttpEnd.{HttpEnd}
 use Rattle.http_ends.specs.declared.request.HttpEnd.TheVariants as causes
@@ -94,13 +95,15 @@ module _ {E : Type 0} (own : Request → Response → Type 0) (enters : Request 
   abbrev pub IsOpen : Exchange E → Type 0
   IsOpen x = IsAnswered own enters x.request x.entry x.response × (x.request.close ≡ false)
 
-  -- A session over a stream, of which the source has `left` at the end. Each reply before the last is whole and not
-  -- closing.
+  -- A session over a stream, of which the source has `left` at the end: what it read is `took`. Each reply before the
+  -- last is whole and not closing.
   pub record Session (rose : Type 0) (end : SessionEnd) (stream left : Option (List ℕ)) (es : List E) (out : List ℕ) : Type 0 where
+    pub took : List ℕ
     pub exchanges : List (Exchange E)
     pub rest : Option (List ℕ)
     pub last_es : List E
     pub last_out : List ℕ
+    pub consumed : Consumes stream left took
     pub read : AreRead stream exchanges rest
     pub open_all : AllByRecursion IsOpen exchanges
     pub few : length exchanges < 1000000

@@ -1,12 +1,12 @@
 -- What a session keeps from one turn to the next.
-use Rattle.std.specs.Prelude.{◌≡◌, ℕ, Bool, true, false, List, [], ◌∷◌, length, Option, Some, None, Result, Ok, Err, option_to_list}
+use Rattle.std.specs.Prelude.{◌≡◌, ℕ, Bool, false, List, [], length, Option, Some, None, Result, Ok, Err, option_to_list}
 use Rattle.std.specs.List.{AllByRecursion}
-use Rattle.std.specs.Io.KnownBytes.{Appends}
+use Rattle.std.specs.Io.KnownBytes.{Appends, Consumes}
 use Rattle.http_ends.specs.declared.request.Request.{Request}
 use Rattle.http_ends.specs.declared.request.HttpEnd.{HttpEnd}
 use Rattle.http_ends.specs.declared.response.Response.{Response}
 use Rattle.http_session.specs.declared.ends.SessionEnd.{SessionEnd}
-use Rattle.http_session.specs.Answers.{IsAnswered, text_of}
+use Rattle.http_session.specs.Answers.{text_of}
 use Rattle.http_session.specs.declared.ends.SessionEnd.TheVariants as ends
 use Rattle.http_session.specs.Refusals.{refusal_text, unavailable}
 use Rattle.http_session.specs.Sessions.{IsCutShort, IsWritten, Exchange, entries_of, texts_of, IsMessage, AreRead, IsOpen, Replies, EndsWith, EndsFor, Ends, Session}
@@ -52,7 +52,7 @@ module _ {D E : Type 0} (goes : D → List E → D → Type 0) (own : Request �
   abbrev pub Turns : Type 0 → Bool → World D → World D → Option (List ℕ) → Option SessionEnd → Type 0
   Turns rose last a b left None =
       (x : Exchange E) × IsMessage a.bytes x.request b.bytes × IsOpen own enters x × (last ≡ false) × Moves goes a b (option_to_list x.entry) (text_of x.request x.response false)
-  Turns rose last a b left (Some end) = (es : List E) × (out : List ℕ) × Moves goes a b es out × Ends own enters rose last end a.bytes left es out
+  Turns rose last a b left (Some end) = (es : List E) × (out : List ℕ) × Moves goes a b es out × Ends own enters rose last end a.bytes left es out × ((took : List ℕ) × Consumes a.bytes left took)
 
   -- The turns so far, n requests.
   pub record Going (n : ℕ) (a b : World D) : Type 0 where

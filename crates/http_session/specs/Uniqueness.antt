@@ -1,9 +1,10 @@
 -- There is one session of a stream.
-use Rattle.std.specs.Prelude.{◌≡◌, ℕ, List, [], ◌∷◌, Option, Some}
+use Rattle.std.specs.Prelude.{◌≡◌, ℕ, List, Option, Some}
 use Rattle.http_ends.specs.declared.request.Request.{Request}
 use Rattle.http_ends.specs.declared.response.Response.{Response}
 use Rattle.http_session.specs.declared.ends.SessionEnd.{SessionEnd}
 use Rattle.http_session.specs.declared.ends.SessionEnd.TheVariants.{Closed, Refused, Full, ReadFault, WriteFault, OutOfMemory}
+use Rattle.http_session.specs.Legal.{AreLegal}
 use Rattle.http_session.specs.Sessions.{Session}
 
 -- The stream alone ends the session so.
@@ -14,11 +15,6 @@ IsDecided Full = Unit {0}
 IsDecided ReadFault = ⊥
 IsDecided WriteFault = ⊥
 IsDecided OutOfMemory = ⊥
-
--- Each entry is allowed at its point, when they are taken in order from the first state to the last.
-abbrev pub AreLegal : {S E : Type 0} → (S → E → Type 0) → (S → E → S) → S → List E → S → Type 0
-AreLegal allowed follows s [] t = t ≡ s
-AreLegal allowed follows s (e ∷ es) t = allowed s e × AreLegal allowed follows (follows s e) es t
 
 module _ {S E : Type 0} (own : Request → Response → Type 0) (enters : Request → E → Response → Type 0) (allowed : S → E → Type 0) where
   -- At each state a request has one response, and leaves one entry or none.

@@ -37,10 +37,6 @@ pub trait Service {
     ghost enters: { Request → Self.Entry → Response → Type 0 };
     // From one moment to another, these are the session's own entries in between.
     ghost goes: { Self → List Self.Entry → Self → Type 0 };
-    // Nothing was asked.
-    ghost stays: { (s : Self) → goes s [] s };
-    // One stretch after another.
-    ghost goes_on: { (s t u : Self) (es fs : List Self.Entry) → goes s es t → goes t fs u → goes s (es ++ fs) u };
 
     /// Answers a request that was read whole.
     ///
@@ -49,4 +45,9 @@ pub trait Service {
         requires within { IsWithinLimits request.now }
         ensures answers { Answers own enters goes self.old self.new request.now result }
         ensures writable { IfOk result (λ answer. IsWritable answer.response) };
+
+    // Where nothing was asked, there is no entry.
+    ghost stays: { (s : Self) → goes s [] s };
+    // The entries of one stretch after another are joined.
+    ghost goes_on: { (s t u : Self) (es fs : List Self.Entry) → goes s es t → goes t fs u → goes s (es ++ fs) u };
 }

@@ -1,11 +1,12 @@
 //! Worked rows of sessions, over sources and sinks in memory and a service that answers with the path.
 
 ghost use Rattle.std.specs.Prelude.{◌≡◌, ℕ, List, [], ◌++◌, length, IfOk};
+ghost use Rattle.http_session.specs.Uniqueness.{OneSession};
 ghost use Rattle.http_tests.specs.Echoes.{echoed};
 
-use dt_base::{List, MemSink, MemSource, OutOfMemory};
+use dt_base::{List, MemLink, MemSink, MemSource, OutOfMemory};
 use http_ends::{Request, Response};
-use http_session::{Answer, Service, SessionEnd, Trouble, serve};
+use http_session::{Answer, Rules, Service, SessionEnd, Trouble, one_session, serve, serve_link};
 use std::alloc::{AllocError, Global};
 use std::test::Fail;
 
@@ -28,7 +29,7 @@ fn reply(alloc: Global, status: u16, body: &[u8]) -> Result<Response, OutOfMemor
 }
 
 impl Service for Echo {
-    ghost use Rattle.std.proofs.Common.{append-nil, append_assoc, sym};
+    ghost use Rattle.std.proofs.Common.{append-nil, append_assoc, ap, sym, ◌∙◌};
 
     ghost Entry = { ℕ };
 
@@ -40,7 +41,7 @@ impl Service for Echo {
 
     ghost stays = { λ s. sym (append-nil s.entries) };
 
-    ghost goes_on = { λ s t u es fs h k. Prim.cc (append_assoc s.entries es fs) };
+    ghost goes_on = { λ s t u es fs h k. k ∙ ap (λ xs. xs ++ fs) h ∙ append_assoc s.entries es fs };
 
     fn answer(&mut self, request: &Request) -> Result<Answer, Trouble> {
         let method = request.method.as_str();
@@ -71,6 +72,30 @@ impl Service for Echo {
             Err(_) => Err(Trouble::EntryInHand),
         }
     }
+}
+
+/// What the service answers with, from state to state.
+struct EchoRules;
+
+impl Rules for EchoRules {
+    ghost State = { Unit {0} };
+
+    ghost Entry = { ℕ };
+
+    ghost own = { λ request response. response ≡ echoed 404 [] };
+
+    ghost enters = { λ request entry response. (entry ≡ length request.path) × (response ≡ echoed 200 request.path) };
+
+    ghost allowed = { λ s e. Unit {0} };
+
+    ghost follows = { λ s e. tt };
+}
+
+/// The law of sessions at this service.
+fn has_one_session()
+    ensures { OneSession ⟦<EchoRules as Rules>⟧.own ⟦<EchoRules as Rules>⟧.enters ⟦<EchoRules as Rules>⟧.allowed ⟦<EchoRules as Rules>⟧.follows }
+{
+    one_session::<EchoRules>()
 }
 
 fn list_of<T: Copy>(alloc: Global, items: &[T]) -> Result<List<T>, AllocError> {
@@ -260,5 +285,44 @@ fn writes_what_there_is_room_for(rt: HostRuntime) -> Result<(), Fail> {
     )?;
     assert_eq!(rt; session.end, SessionEnd::OutOfMemory);
     assert_eq!(rt; session.text.as_slice(), b"HTTP/1.1 5".as_slice());
+    Ok(())
+}
+
+#[test]
+fn serves_a_link(rt: HostRuntime) -> Result<(), Fail> {
+    for (bytes, end, text, _) in SESSIONS {
+        let mut link = MemLink::new(
+            rt.alloc(),
+            list_of(rt.alloc(), bytes)?,
+            10_000,
+            List::new(rt.alloc()),
+            list_of(rt.alloc(), &[5, 1, 40])?,
+        )?;
+        let mut echo = Echo {
+            alloc: rt.alloc(),
+            entries: List::new(rt.alloc()),
+        };
+        assert_eq!(rt; serve_link(rt.alloc(), &mut echo, &mut link), end);
+        assert_eq!(rt; link.taken(), text.as_bytes());
+    }
+    // A failed call is the link's, be it a read or a write.
+    for (call, end) in [
+        (1, SessionEnd::ReadFault),
+        (2, SessionEnd::WriteFault),
+        (3, SessionEnd::ReadFault),
+    ] {
+        let mut link = MemLink::new(
+            rt.alloc(),
+            list_of(rt.alloc(), b"GET /a HTTP/1.1\r\n\r\n")?,
+            10_000,
+            list_of(rt.alloc(), &[call])?,
+            List::new(rt.alloc()),
+        )?;
+        let mut echo = Echo {
+            alloc: rt.alloc(),
+            entries: List::new(rt.alloc()),
+        };
+        assert_eq!(rt; serve_link(rt.alloc(), &mut echo, &mut link), end);
+    }
     Ok(())
 }
