@@ -1,5 +1,3 @@
-pub mod Distinct
-pub mod Ordinals
 pub mod Sound
 pub mod Methods
 pub mod Answering

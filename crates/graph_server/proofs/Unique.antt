@@ -8,6 +8,7 @@ use Rattle.http_session.proofs.Stretches.{session_weaker}
 use Rattle.http_session.specs.declared.ends.SessionEnd.{SessionEnd}
 use Rattle.graph_asks.specs.Answers.{Answer, body, created, canon, done, refused, answer_of}
 use Rattle.graph_asks.specs.declared.ask.Ask.{Ask}
+use Rattle.graph_asks.specs.declared.refusal.Refusal.{Refusal}
 use Rattle.graph_asks.specs.declared.reply.Reply.{Reply}
 use Rattle.graph_asks.specs.declared.reply.Reply.TheVariants as replies
 use Rattle.graph_steps.specs.Soundness.{IsSound}
@@ -20,7 +21,21 @@ use Rattle.graph_routes.specs.declared.prepared.Prepared.{Prepared}
 use Rattle.graph_routes.specs.declared.prepared.Prepared.TheVariants as prepared
 use Rattle.graph_server.specs.Entries.{Entry, entry, own, enters, allows, follows}
 use Rattle.graph_server.specs.Replays.{IsReplay, OneReplay}
-use Rattle.graph_server.proofs.Sound.{ask_not_own, ask_same, own_same}
+
+abbrev ask_made : Ask → Prepared
+ask_made a = prepared.Ask a
+
+abbrev own_made : Refusal → Prepared
+own_made r = prepared.Own r
+
+ask_same : (a b : Ask) → ask_made a ≡ ask_made b → a ≡ b
+ask_same a b e = cc
+
+own_same : (r q : Refusal) → own_made r ≡ own_made q → r ≡ q
+own_same r q e = cc
+
+ask_not_own : (a : Ask) (r : Refusal) → ask_made a ≡ own_made r → ⊥
+ask_not_own a r e = cc
 
 -- what is known of requests and of graphs
 pub record Known : Type 0 where

@@ -2,7 +2,7 @@
 use Rattle.std.specs.Prelude.{◌≡◌, List}
 use Rattle.http_ends.specs.declared.request.Request.{Request}
 use Rattle.http_ends.specs.declared.response.Response.{Response}
-use Rattle.http_session.specs.Uniqueness.{AreLegal}
+use Rattle.http_session.specs.Legal.{AreLegal}
 use Rattle.graph_asks.specs.Answers.{Answer, answer_of}
 use Rattle.graph_asks.specs.declared.ask.Ask.{Ask}
 use Rattle.graph_asks.specs.declared.refusal.Refusal.{Refusal}

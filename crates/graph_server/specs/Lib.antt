@@ -1,3 +1,2 @@
 pub mod Entries
-pub mod Stretches
 pub mod Replays

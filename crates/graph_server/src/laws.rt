@@ -9,20 +9,16 @@ ghost use Rattle.graph_routes.specs.declared.prepared.Prepared.TheVariants as pr
 ghost use Rattle.graph_server.specs.Replays.{OneReplay};
 ghost use Rattle.graph_steps.specs.Soundness.{IsSound};
 
-use canon_laws::have_types;
 use dt_base::OutOfMemory;
 use graph_machine::one_answer;
-use graph_routes::one_prepared;
+use graph_routes::{one_prepared, prepared_is_right};
 use http_session::{Rules, one_session};
-use model_read::{have_declarations, within_limits};
 
-/// What a request asks of a graph is sound, and of the asks that are built.
+/// What a request asks of a graph is sound, and is an ask that is built.
 pub fn sound_asks()
     ensures { (request : Request) (ask : Ask) → IsPrepared request (prepared.Ask ask) → IsSound ask × IsBuilt ask }
 {
-    have_declarations();
-    within_limits();
-    have_types();
+    prepared_is_right();
 }
 
 /// What requests are answered with by a graph.
@@ -49,7 +45,7 @@ impl Rules for GraphRules {
 pub fn one_replay() -> Result<(), OutOfMemory>
     ensures { IfOk result (λ done. OneReplay) }
 {
-    one_prepared()?;
+    one_prepared();
     one_answer()?;
     sound_asks();
     one_session::<GraphRules>();

@@ -8,7 +8,7 @@ ghost use Rattle.std.specs.Prelude.{IfOk};
 use crate::laws::sound_asks;
 use dt_base::{Object, OutOfMemory};
 use graph_machine::Machine;
-use graph_routes::{Prepared, Routes, response_of, response_of_refusal};
+use graph_routes::{Prepared, Routes, prepared_is_right, response_of, response_of_refusal};
 use http_ends::Request;
 use http_session::{Answer, Service, Trouble};
 use std::alloc::Global;
@@ -37,8 +37,8 @@ impl Replayer {
 impl Service for Replayer {
     ghost use Rattle.std.specs.Prelude.{refl};
     ghost use Rattle.graph_machine.specs.Held.{state_of};
-    ghost use Rattle.graph_server.specs.Entries.{Entry, own, enters, IsHistory};
-    ghost use Rattle.graph_server.specs.Stretches.{history_on};
+    ghost use Rattle.http_session.specs.Legal.{legal_trans};
+    ghost use Rattle.graph_server.specs.Entries.{Entry, own, enters, allows, follows, IsHistory};
 
     ghost Entry = { Entry };
 
@@ -50,11 +50,12 @@ impl Service for Replayer {
 
     ghost stays = { λ s. refl };
 
-    ghost goes_on = { λ s t u es fs first rest. history_on (state_of s.machine) (state_of t.machine) (state_of u.machine) es fs first rest };
+    ghost goes_on = { λ s t u es fs first rest. legal_trans allows follows (state_of s.machine) (state_of t.machine) (state_of u.machine) es fs first rest };
 
     /// Makes the ask of the request and answers it, or answers with the refusal that the request's own bytes decide.
     fn answer(&mut self, request: &Request) -> Result<Answer, Trouble> {
         sound_asks();
+        prepared_is_right();
         let Ok(prepared) = self.routes.ask_of(request) else {
             return Err(Trouble::NoEntry);
         };

@@ -1,4 +1,5 @@
 use Rattle.std.proofs.Common.{[], inr, refl, arith}
+use Rattle.std.proofs.KnownBytes.{Consumes-nil}
 use Rattle.http_ends.specs.declared.request.HttpEnd.TheVariants as causes
 use Rattle.graph_steps.specs.States.{empty}
 use Rattle.graph_server.proofs.replays.replay.Goals as goal
@@ -13,10 +14,12 @@ returns-in_default-clause-replay g c =
         state = empty;
         legal = refl;
         session = record {
+          took = [];
           exchanges = [];
           rest = g.S.Source.left c.args.source.now;
           last_es = [];
           last_out = wrote.0;
+          consumed = Consumes-nil (g.S.Source.left c.args.source.now);
           read = refl;
           open_all = tt;
           few = omega arith;
