@@ -1,9 +1,15 @@
-//! Stub.
+//! The typed graph of digital twins as an object that answers one ask at a time. Only the asks on models are built.
 #![tactic(auto)]
 
-mod laws;
+mod answers;
+mod canon;
+mod drop_model;
+mod get_model;
+mod list_models;
 mod machine;
+mod mark;
 mod object;
+mod put_models;
+mod trees;
 
-pub use laws::one_answer;
-pub use machine::Machine;
+pub use machine::{Counts, Machine};

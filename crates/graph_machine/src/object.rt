@@ -1,10 +1,11 @@
 //! The machine as an object that answers one ask at a time.
 
-ghost use Rattle.std.specs.Prelude.{◌≡◌, IfOk, OnErr};
+ghost use Rattle.std.specs.Prelude.{◌≡◌, IfOk, IsOk, OnErr};
+ghost use Rattle.graph_asks.specs.Answers.{done};
 ghost use Rattle.graph_steps.specs.Soundness.{IsSound};
-ghost use Rattle.graph_steps.specs.Steps.{Allows, follows};
+ghost use Rattle.graph_steps.specs.Steps.{Allows, Answers, follows};
 ghost use Rattle.graph_steps.specs.States.{State};
-ghost use Rattle.graph_machine.specs.Built.{IsBuilt};
+ghost use Rattle.graph_machine.specs.Built.{IsBuilt, NeedsNoMemory};
 ghost use Rattle.graph_machine.specs.Held.{state_of};
 
 use crate::machine::Machine;
@@ -33,9 +34,16 @@ impl Object for Machine {
         ensures allowed { IfOk result (Allows (state_of self.old) ask.now) }
         ensures follows { IfOk result (λ reply. state_of self.new ≡ follows (state_of self.old) ask.now reply) }
         ensures unchanged { OnErr result (state_of self.new ≡ state_of self.old) }
+        ensures free { NeedsNoMemory ask.now → Answers (state_of self.old) ask.now done → IsOk result }
     {
-        let _alloc = self.alloc;
-        let _ask = ask;
-        Err(OutOfMemory)
+        match ask {
+            Ask::PutModels { models } => self.put_models(models.as_slice()),
+            Ask::GetModel { id } => self.get_model(id),
+            Ask::ListModels => self.list_models(),
+            Ask::Mark { id, on } => self.mark(id, *on),
+            Ask::DropModel { id } => self.drop_model(id),
+            Ask::Canon => self.canon(),
+            _ => unreachable!(),
+        }
     }
 }

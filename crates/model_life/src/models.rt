@@ -48,6 +48,17 @@ impl Models {
         Models { set: ModelSet::new(alloc) }
     }
 
+    /// What holds of all models: the rules on sets are broken nowhere, each interface has a declaration, the identifiers
+    /// ascend, and no limit on models is passed.
+    pub fn sound(&self)
+        ensures rules { BreaksNoRule (interfaces_of self.now) }
+        ensures declared { AllByRecursion HasDeclaration (interfaces_of self.now) }
+        ensures ordered { InOrder (interfaces_of self.now) }
+        ensures limits { AreWithinLimits self.now }
+    {
+        let _set = &self.set;
+    }
+
     pub fn len(&self) -> u64
         ensures { result ≡ length self.now }
     {

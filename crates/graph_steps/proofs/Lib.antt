@@ -1,0 +1,4 @@
+pub mod Empty
+pub mod OneAnswer
+pub mod Ordinals
+pub mod Documents

@@ -1,0 +1,12 @@
+-- The asks on models.
+use Rattle.graph_asks.specs.declared.ask.Ask.{Ask}
+use Rattle.graph_asks.specs.declared.ask.Ask.TheVariants as asks
+
+abbrev pub IsOnModels : Ask → Type 0
+IsOnModels (asks.PutModels models) = Unit {0}
+IsOnModels (asks.GetModel id) = Unit {0}
+IsOnModels asks.ListModels = Unit {0}
+IsOnModels (asks.Mark id on) = Unit {0}
+IsOnModels (asks.DropModel id) = Unit {0}
+IsOnModels asks.Canon = Unit {0}
+IsOnModels other = ⊥
