@@ -40,14 +40,13 @@ pub fn one_input()
 
 /// Of two replays of the same bytes, which end as these bytes decide, the statuses are the same, and so are the bytes that
 /// two outputs, with the same before, have in the end.
-pub fn one_replay() -> Result<(), OutOfMemory>
-    ensures { IfOk result (λ done. (words : List (String Global)) (input other : StreamChange) (shelf files : ShelfChange) (output sink : StreamChange) (all before : List ℕ) (s t : Status)
+pub fn one_replay()
+    ensures { (words : List (String Global)) (input other : StreamChange) (shelf files : ShelfChange) (output sink : StreamChange) (all before : List ℕ) (s t : Status)
         → AreReplay words → input.before ≡ Some all → other.before ≡ Some all → output.before ≡ Some before → sink.before ≡ Some before
         → Ends words input shelf output s → Ends words other files sink t → IsDecided s → IsDecided t
-        → (s ≡ t) × (output.after ≡ sink.after)) }
+        → (s ≡ t) × (output.after ≡ sink.after) }
 {
-    graph_server::one_replay()?;
-    Ok(())
+    graph_server::one_replay();
 }
 
 /// The interfaces that documents without faults declare each have a declaration, are within the limits, have types that

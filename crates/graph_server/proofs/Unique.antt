@@ -8,9 +8,11 @@ use Rattle.http_session.proofs.Stretches.{session_weaker}
 use Rattle.http_session.specs.declared.ends.SessionEnd.{SessionEnd}
 use Rattle.graph_asks.specs.Answers.{Answer, body, created, canon, done, refused, answer_of}
 use Rattle.graph_asks.specs.declared.ask.Ask.{Ask}
+use Rattle.graph_asks.specs.declared.ask.Ask.TheVariants as asks
 use Rattle.graph_asks.specs.declared.refusal.Refusal.{Refusal}
 use Rattle.graph_asks.specs.declared.reply.Reply.{Reply}
 use Rattle.graph_asks.specs.declared.reply.Reply.TheVariants as replies
+use Rattle.graph_steps.specs.OnModels.{IsOnModels}
 use Rattle.graph_steps.specs.Soundness.{IsSound}
 use Rattle.graph_steps.specs.States.{State, empty}
 use Rattle.graph_steps.specs.Steps.{Answers}
@@ -37,10 +39,19 @@ own_same r q e = cc
 ask_not_own : (a : Ask) (r : Refusal) → ask_made a ≡ own_made r → ⊥
 ask_not_own a r e = cc
 
+on_models : (a : Ask) → IsBuilt a → IsOnModels a
+on_models (asks.PutModels models) h = tt
+on_models (asks.GetModel id) h = tt
+on_models asks.ListModels h = tt
+on_models (asks.Mark id on) h = tt
+on_models (asks.DropModel id) h = tt
+on_models asks.Canon h = tt
+on_models _ h = absurd h
+
 -- what is known of requests and of graphs
 pub record Known : Type 0 where
   pub requests : (request : Request) (a b : Prepared) → IsPrepared request a → IsPrepared request b → a ≡ b
-  pub answered : (s : State) (ask : Ask) (a b : Answer) → IsSound ask → IsBuilt ask → Answers s ask a → Answers s ask b → a ≡ b
+  pub answered : (s : State) (ask : Ask) (a b : Answer) → IsSound ask → IsOnModels ask → Answers s ask a → Answers s ask b → a ≡ b
   pub sound : (request : Request) (ask : Ask) → IsPrepared request (prepared.Ask ask) → IsSound ask × IsBuilt ask
   pub session : OneSession own enters allows follows
 
@@ -68,11 +79,11 @@ same_entry a b x y e f = cc
 
 one_entry : Known → (s : State) (request : Request) (e f : Entry) (a b : Response) → enters request e a → enters request f b → allows s e → allows s f → (e ≡ f) × (a ≡ b)
 one_entry known s request e f a b (made, (reply, gives, is)) (also, (other, gives_too, is_too)) legal legal_too =
-    let asks = ask_same e.ask f.ask (known.requests request (prepared.Ask e.ask) (prepared.Ask f.ask) made also) in
+    let same = ask_same e.ask f.ask (known.requests request (prepared.Ask e.ask) (prepared.Ask f.ask) made also) in
     let built = known.sound request e.ask made in
-    let answered = subst (λ (ask : Ask). Answers s ask f.answer) (sym asks) legal_too.1 in
-    let answers = known.answered s e.ask e.answer f.answer built.0 built.1 legal.1 answered in (
-      same_entry e.ask f.ask e.answer f.answer asks answers,
+    let answered = subst (λ (ask : Ask). Answers s ask f.answer) (sym same) legal_too.1 in
+    let answers = known.answered s e.ask e.answer f.answer built.0 (on_models e.ask built.1) legal.1 answered in (
+      same_entry e.ask f.ask e.answer f.answer same answers,
       is ∙ same_response reply other (gives ∙ answers ∙ sym gives_too) ∙ sym is_too,
     )
 

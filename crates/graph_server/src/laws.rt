@@ -1,6 +1,5 @@
 //! Laws of replays. Each function does nothing but name laws, and its contract is the law.
 
-ghost use Rattle.std.specs.Prelude.{IfOk};
 ghost use Rattle.http_ends.specs.declared.request.Request.{Request};
 ghost use Rattle.graph_asks.specs.declared.ask.Ask.{Ask};
 ghost use Rattle.graph_machine.specs.Built.{IsBuilt};
@@ -9,9 +8,8 @@ ghost use Rattle.graph_routes.specs.declared.prepared.Prepared.TheVariants as pr
 ghost use Rattle.graph_server.specs.Replays.{OneReplay};
 ghost use Rattle.graph_steps.specs.Soundness.{IsSound};
 
-use dt_base::OutOfMemory;
-use graph_machine::one_answer;
 use graph_routes::{one_prepared, prepared_is_right};
+use graph_steps::one_answer;
 use http_session::{Rules, one_session};
 
 /// What a request asks of a graph is sound, and is an ask that is built.
@@ -42,12 +40,11 @@ impl Rules for GraphRules {
 }
 
 /// A stream that its bytes end has one replay: one history from the empty graph, one end, and the same bytes are written.
-pub fn one_replay() -> Result<(), OutOfMemory>
-    ensures { IfOk result (λ done. OneReplay) }
+pub fn one_replay()
+    ensures { OneReplay }
 {
     one_prepared();
-    one_answer()?;
+    one_answer();
     sound_asks();
     one_session::<GraphRules>();
-    Ok(())
 }
