@@ -50,4 +50,4 @@ pub record AllTake (set : List Interface) (bytes : ℕ) : Type 0 where
 pub record AreWithinLimits (ms : List Model) : Type 0 where
   pub models : length ms ≤ 10000
   pub bytes : model_bytes ms ≤ 67108864
-  pub resolved : (bytes : ℕ) × AllTake (interfaces_of ms) bytes × (bytes ≤ 268435456)
+  pub resolved : (n : ℕ) × AllTake (interfaces_of ms) n × (n ≤ 268435456)

@@ -53,10 +53,14 @@ pub struct Models {
 
 impl Model for Models {
     ghost use Rattle.std.specs.Prelude.{List};
+    ghost use Rattle.std.specs.Coded.{coded_list};
     ghost use Rattle.model_life.specs.Models.{Model as Live};
+    ghost use Rattle.model_life.specs.Machinery.Codes.{model_code};
     ghost use Rattle.model_life.specs.Machinery.Keeping.{models_of, IsKept};
 
     ghost Value = { List Live };
+
+    ghost coded = { coded_list model_code };
 
     ghost view = { λ m. models_of m.set m.records };
 

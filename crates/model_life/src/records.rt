@@ -78,12 +78,12 @@ impl Records {
     }
 
     /// Puts a record under an identifier. `Err` is want of memory: nothing changes.
-    pub fn insert(&mut self, id: Dtmi, record: Record) -> Result<(), OutOfMemory>
-        ensures ok { OnOk result (self.new ≡ insert_entry id_cmp self.old id record) }
+    pub fn insert(&mut self, id: Dtmi, kept: Record) -> Result<(), OutOfMemory>
+        ensures ok { OnOk result (self.new ≡ insert_entry id_cmp self.old id kept) }
         ensures ordered { IsStrictlySortedBy id_cmp (keys_of self.old) }
         ensures err { OnErr result (self.new ≡ self.old) }
     {
-        self.entries.insert(id, record)?;
+        self.entries.insert(id, kept)?;
         Ok(())
     }
 

@@ -55,9 +55,11 @@ fn enter_all(
 ) -> Result<(), OutOfMemory>
     requires absent { AllByRecursion (λ u. interface_at u.interface.id set.old ≡ None) new }
     requires apart { AreApart (map (λ u. u.interface) new) }
+    requires ordered { InOrder set.old }
     ensures ok { OnOk result (set.new ≡ with_uploads new set.old) }
     ensures records { OnOk result (AllByRecursion (λ u. record_at u.interface.id records.new ≡ Some (fresh u.interface)) new) }
-    ensures err { OnErr result (without_interfaces (map (λ u. u.interface.id) new) set.new ≡ set.old) }
+    ensures ordered { InOrder set.new }
+    ensures interfaces { (q : Identifier) → is_one_of (map (λ u. u.interface.id) new) q ≡ false → interface_at q set.new ≡ interface_at q set.old }
     ensures others { (q : Identifier) → is_one_of (map (λ u. u.interface.id) new) q ≡ false → record_at q records.new ≡ record_at q records.old }
 {
     'new: for upload in new.items {
@@ -68,6 +70,7 @@ fn enter_all(
 
 /// Takes interfaces out of the set, with their records. Takes no memory.
 fn leave_all(set: &mut ModelSet, records: &mut Records, ids: &[Dtmi])
+    requires { InOrder set.old }
     ensures set { set.new ≡ without_interfaces ids.now set.old }
     ensures records { (q : Identifier) → record_at q records.new ≡ cond (is_one_of ids.now q) None (record_at q records.old) }
 {
@@ -111,6 +114,7 @@ pub fn grow(
 
 /// Takes interfaces out of the set, with their records and as users. Takes no memory.
 pub fn shrink(set: &mut ModelSet, records: &mut Records, users: &mut Users, ids: &[Dtmi])
+    requires ordered { InOrder set.old }
     requires texts { HaveTexts set.old records.old }
     requires within { UsersAreWithin set.old users.old }
     ensures set { set.new ≡ without_interfaces ids.now set.old }

@@ -2,8 +2,7 @@
 use Rattle.std.specs.Prelude.{◌≡◌, ℕ, ◌+◌, ◌-◌, ◌^◌, ◌≤◌, min, List, length, Bool, true, false, cond, Option, Some, None, IsSome, map}
 use Rattle.std.specs.Option.{IsSomeAnd}
 use Rattle.std.specs.List.{AllByRecursion, sum_by}
-use Rattle.std.specs.List.Sorted.{IsStrictlySortedBy}
-use Rattle.std.specs.Map.{lookup, keys_of}
+use Rattle.std.specs.Map.{lookup}
 use Rattle.std.specs.BTreeMap.{is_at}
 use Rattle.ordered_table.specs.Rows.{pair_cmp}
 use Rattle.dtmi_name.specs.Grammar.{Identifier, dtmi_text, id_cmp}
@@ -72,7 +71,6 @@ UsersAreWithin set us = (used user : Identifier) → use_of used (interface_at u
 
 -- ---- what agrees with the set
 pub record Fits (set : List Interface) (es : List (Identifier × Record)) (us : Users) : Type 0 where
-  pub sorted : IsStrictlySortedBy id_cmp (keys_of es)
   pub records : (id : Identifier) → RecordOf (interface_at id set) (record_at id es)
   pub users : (used user : Identifier) → user_at used user us ≡ use_of used (interface_at user set)
 
@@ -112,9 +110,9 @@ pub record IsKept (set : List Interface) (es : List (Identifier × Record)) (us 
   pub ordered : InOrder set
   pub declared : AllByRecursion HasDeclaration set
   pub fits : Fits set es us
-  pub table : ResolvesAll set table
-  pub bytes : bytes ≡ sum_by text_bytes set
-  pub resolved : resolved ≡ shares set table
+  pub entries : ResolvesAll set table
+  pub sum : bytes ≡ sum_by text_bytes set
+  pub total : resolved ≡ shares set table
   pub few : length set ≤ 10000
   pub small : bytes ≤ 67108864
   pub bounded : resolved ≤ 268435456
