@@ -1,2 +1,4 @@
 pub mod Using
+pub mod Linking
 pub mod Summing
+pub mod Recorded

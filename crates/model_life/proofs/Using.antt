@@ -112,3 +112,10 @@ component_named t (component of) = refl
 
 pub itself : (a : Identifier) → id_eq a a ≡ true
 itself a = (bytes_eq-Decides (dtmi_text a) (dtmi_text a)).1 refl
+
+pub not_there : {X : Type 0} (p : X → Bool) (xs : List X) (n : ℕ) (x : X) → n < length xs → x ≡ slice_index_or xs n x → list_any p xs ≡ false → p x ≡ false
+not_there p xs n x low is none =
+    elim (p x) as (λ b. p x ≡ b → b ≡ false) [
+      | true ↦ λ e. absurd (true≢false (sym (any_at p xs n x low is e) ∙ none))
+      | false ↦ λ _. refl
+    ] refl

@@ -7,7 +7,7 @@ use Rattle.model_life.proofs.store.enter_all.Given as goal
 
 abbrev pub invariant-new : goal.invariant-new
 invariant-new l = record {
-  whole : l.yielded ++ l.upload-iterator.rest ≡ l.fn.new;
+  whole : l.yielded ++ l.upload-iterator.rest.items ≡ l.fn.new;
   set : l.set ≡ with_uploads l.yielded l.fn.set;
   records : AllByRecursion (λ u. record_at u.interface.id l.records ≡ Some (fresh u.interface)) l.yielded;
   others : (q : Identifier) → is_one_of (map (λ u. u.interface.id) l.yielded) q ≡ false → record_at q l.records ≡ record_at q l.fn.records;
