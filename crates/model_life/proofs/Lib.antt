@@ -2,3 +2,4 @@ pub mod Using
 pub mod Linking
 pub mod Summing
 pub mod Recorded
+pub mod Seen
