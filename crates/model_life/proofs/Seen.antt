@@ -19,7 +19,7 @@ use Rattle.model_life.specs.Models.{Model, model_of, interfaces_of, by_id, model
 use Rattle.model_life.specs.Machinery.Keeping.{record_at, is_marked, mark_at, models_of, IsRecord, RecordOf, Users, Fits}
 use Rattle.model_life.specs.declared.records.Record.{Record}
 
-abbrev Records : Type 0
+abbrev pub Records : Type 0
 Records = List (Identifier × Record)
 
 abbrev pub seen : Records → Interface → Model
