@@ -6,3 +6,4 @@ pub mod Seen
 pub mod Taking
 pub mod Whole
 pub mod Growing
+pub mod Leaving

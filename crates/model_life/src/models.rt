@@ -187,7 +187,6 @@ impl Models {
     /// Takes out models that no other model extends directly or has a component of. Takes no memory.
     pub fn take_back(&mut self, ids: &[Dtmi])
         requires distinct { AreDistinct (map (λ id. dtmi_text id) ids.now) }
-        requires there { AllByRecursion (λ id. IsSome (model_at id self.old)) ids.now }
         requires free { AreFree (interfaces_of self.old) ids.now }
         ensures { self.new ≡ without_models ids.now self.old }
     {
