@@ -137,7 +137,7 @@ record_text a b es e = ap (λ t. lookup (λ (k : Identifier). is_eq (C t (dtmi_t
 
 -- ---- the larger set
 module _ (us : List Uploaded) (set : List Interface) (absent : AreAbsent set us) (apart : AreApart (map interface_of us)) where
-  upload_there : (k : ℕ) (u : Uploaded) → slice_get us k ≡ Some u → interface_at u.interface.id (with_uploads us set) ≡ Some u.interface
+  pub upload_there : (k : ℕ) (u : Uploaded) → slice_get us k ≡ Some u → interface_at u.interface.id (with_uploads us set) ≡ Some u.interface
   upload_there k u at =
       sym (uploads_same us set absent apart u.interface.id)
       ∙ at_append u.interface.id set (map interface_of us)
@@ -170,7 +170,7 @@ module _ (g : Identifier → Bool) where
   abbrev by_mark : Interface → Model
   by_mark i = model_of i (g i.id)
 
-  values_by : (ms : List Model) → values_of (by_id ms) ≡ ms
+  pub values_by : (ms : List Model) → values_of (by_id ms) ≡ ms
   values_by [] = refl
   values_by (m ∷ ms) = ap (λ xs. m ∷ xs) (values_by ms)
 

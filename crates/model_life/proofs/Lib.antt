@@ -7,3 +7,4 @@ pub mod Taking
 pub mod Whole
 pub mod Growing
 pub mod Leaving
+pub mod Joining

@@ -1,6 +1,5 @@
 //! How the calls on models end.
 
-use dt_base::OutOfMemory;
 use dtdl_terms::{Limit, Spot};
 use extend_resolve::SetRule;
 
@@ -23,12 +22,6 @@ pub enum AddEnd {
     },
     /// There was no memory.
     OutOfMemory,
-}
-
-impl From<OutOfMemory> for AddEnd {
-    fn from(_error: OutOfMemory) -> AddEnd {
-        AddEnd::OutOfMemory
-    }
 }
 
 /// Why a model is not marked.

@@ -203,8 +203,13 @@ impl Models {
         ensures ok { OnOk result (self.new ≡ with_models new self.old) }
         ensures err { OnErr result (self.new ≡ self.old) }
     {
-        judge(self.alloc, &self.set, new.as_slice())?;
-        let ids = ids_of(self.alloc, new.as_slice())?;
+        match judge(self.alloc, &self.set, new.as_slice()) {
+            Ok(_) => {}
+            Err(end) => return Err(end),
+        }
+        let Ok(ids) = ids_of(self.alloc, new.as_slice()) else {
+            return Err(AddEnd::OutOfMemory);
+        };
         self.join(new, ids.as_slice())
     }
 
@@ -219,14 +224,16 @@ impl Models {
         ensures ok { OnOk result (self.new ≡ with_models new self.old) }
         ensures err { OnErr result (self.new ≡ self.old) }
     {
-        grow(
+        let Ok(_) = grow(
             &mut self.set,
             &mut self.records,
             &mut self.users,
             self.alloc,
             new,
             ids,
-        )?;
+        ) else {
+            return Err(AddEnd::OutOfMemory);
+        };
         let bytes = self.bytes.saturating_add(bytes_of(&self.records, ids));
         if bytes > MOST_MODEL_BYTES {
             shrink(&mut self.set, &mut self.records, &mut self.users, ids);
