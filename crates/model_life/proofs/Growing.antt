@@ -97,7 +97,7 @@ users_back us ids set old grown new of absent fits same gone t u = gone t u ∙ 
     by false e = ap (λ b. cond b None (user_at t u grown)) e ∙ same t u e
 
 -- ---- what an interface uses is there
-names_of : (t : Identifier) (k : KindTerm) → is_component t k ≡ true → (p : Identifier) × (k ≡ component p) × (id_eq t p ≡ true)
+pub names_of : (t : Identifier) (k : KindTerm) → is_component t k ≡ true → (p : Identifier) × (k ≡ component p) × (id_eq t p ≡ true)
 names_of t (telemetry schema semantic unit) h = absurd (true≢false (sym h))
 names_of t (property schema semantic unit writable) h = absurd (true≢false (sym h))
 names_of t (command request response) h = absurd (true≢false (sym h))

@@ -8,3 +8,5 @@ pub mod Whole
 pub mod Growing
 pub mod Leaving
 pub mod Joining
+pub mod Least
+pub mod Refused

@@ -13,6 +13,7 @@ use Rattle.dtmi_name.specs.Grammar.{Identifier, dtmi_text, id_cmp, id_eq}
 use Rattle.dtdl_terms.specs.Sets.{interface_at, is_past, next_past}
 use Rattle.dtdl_terms.specs.declared.interface.Interface.{Interface}
 use Rattle.model_resolve.proofs.ByKey.{C}
+use Rattle.model_resolve.proofs.Families.{spelled}
 use Rattle.model_resolve.proofs.Changes.{ids_total}
 use Rattle.set_laws.proofs.Looking.{eq_tests, turned}
 use Rattle.model_life.specs.Models.{Model, model_of, interfaces_of, by_id, model_at, next_model, mark_one, with_mark}
@@ -133,3 +134,17 @@ marked_fits set es new us id r w t b found put same fits = record { records = λ
 
 pub record_at_text : (id : Identifier) (es : Records) (q : Identifier) → id_eq q id ≡ true → record_at q es ≡ record_at id es
 record_at_text id es q e = ap (λ t. lookup (λ (k : Identifier). is_eq (C t (dtmi_text k))) es) ((bytes_eq-Decides (dtmi_text q) (dtmi_text id)).0 e)
+
+pub copied_is : {X : Type 0} (o : Option (Bor X)) (p : Option X) → option_copied o ≡ p → is_some o ≡ true → IsSome p
+copied_is o p is h = ap is_some (sym is) ∙ copied_some o ∙ h
+
+pub copied_not : {X : Type 0} (o : Option (Bor X)) (p : Option X) → option_copied o ≡ p → is_some o ≡ false → p ≡ None
+copied_not o p is h = none_from p (ap is_some (sym is) ∙ copied_some o ∙ h)
+
+-- the text that is kept is the identifier's
+pub text_there : (set : List Interface) (es : Records) (us : Users) (id : Identifier) (r : Record) → Fits set es us → record_at id es ≡ Some r → r.text ≡ dtmi_text id
+text_there set es us id r fits found = by (interface_at id set) refl (subst (RecordOf (interface_at id set)) found (fits.records id))
+  where
+    by : (o : Option Interface) → interface_at id set ≡ o → RecordOf o (Some r) → r.text ≡ dtmi_text id
+    by None e h = absurd h
+    by (Some i) e h = h.text ∙ sym (spelled set id i e)
