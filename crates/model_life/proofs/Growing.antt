@@ -1,9 +1,9 @@
 -- Sets that grow with their records and users, and that are as before where they could not.
-use Rattle.std.proofs.Common.{◌≡◌, ◌≢◌, ℕ, zero, suc, ◌⊎◌, inl, inr, List, [], ◌∷◌, ◌++◌, map, Bool, true, false, not, cond, ◌||◌, length, Option, Some, None, refl, sym, ap, ◌∙◌, subst, true≢false, Ordering, Less, Equal, Greater, is_eq}
+use Rattle.std.proofs.Common.{◌≡◌, ℕ, ◌⊎◌, inl, inr, List, [], ◌∷◌, map, Bool, true, false, not, cond, ◌||◌, Option, Some, None, refl, sym, ap, ◌∙◌, subst, true≢false, Less, Equal, Greater, is_eq}
 use Rattle.std.specs.Prelude.{slice_get, Contains, IsSome}
-use Rattle.std.specs.Option.{is_some, IsSomeAnd}
+use Rattle.std.specs.Option.{IsSomeAnd}
 use Rattle.std.specs.Ordering.{match_ordering}
-use Rattle.std.specs.List.{AllByRecursion, filter, list_any}
+use Rattle.std.specs.List.{AllByRecursion, list_any}
 use Rattle.std.specs.Map.{lookup, values_of}
 use Rattle.std.specs.BTreeMap.{insert_entry}
 use Rattle.std.proofs.lemmas.Option.{none-some}
@@ -24,9 +24,9 @@ use Rattle.model_resolve.proofs.ByKey.{C}
 use Rattle.model_resolve.proofs.Families.{listed, spelled}
 use Rattle.set_laws.specs.Changing.{with_uploads, is_one_of, without_interfaces, AreApart}
 use Rattle.set_laws.proofs.Apart.{there_apart, contains_head, contains_tail}
-use Rattle.set_laws.proofs.Looking.{AreAbsent, or_else, at_append, at_text, one_text_of, at_without, ordered_without, uploads_same, same_set}
+use Rattle.set_laws.proofs.Looking.{AreAbsent, or_else, at_append, at_text, at_without, ordered_without, uploads_same, same_set}
 use Rattle.model_life.specs.Models.{Model, model_of, by_id, with_model, with_models, without_models, is_component, uses}
-use Rattle.model_life.specs.Machinery.Keeping.{record_at, is_marked, mark_at, models_of, fresh, IsRecord, RecordOf, HasText, HaveTexts, Users, UsersAreWithin, user_at, use_of, Fits}
+use Rattle.model_life.specs.Machinery.Keeping.{record_at, is_marked, mark_at, models_of, fresh, IsRecord, RecordOf, HaveTexts, Users, UsersAreWithin, user_at, use_of, Fits}
 use Rattle.model_life.specs.declared.records.Record.{Record}
 use Rattle.model_life.proofs.Seen.{Records, seen}
 
@@ -235,6 +235,7 @@ left_fits ids set es new us vs gone left fits = record {
     both : (b : Bool) (q : Identifier) → RecordOf (cond b None (interface_at q set)) (cond b None (record_at q es))
     both true q = tt
     both false q = fits.records q
+
     turned : (b : Bool) (t : Identifier) (o : Option Interface) → cond b None (use_of t o) ≡ use_of t (cond b None o)
     turned true t o = refl
     turned false t o = refl

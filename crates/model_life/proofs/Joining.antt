@@ -1,10 +1,10 @@
 -- What is kept where models come, and where they were taken back.
-use Rattle.std.proofs.Common.{◌≡◌, ℕ, zero, suc, ◌+◌, ◌≤◌, ◌<◌, ◌⊎◌, inl, inr, List, [], ◌∷◌, ◌++◌, map, Bool, true, false, not, cond, ◌||◌, length, Option, Some, None, refl, sym, ap, ◌∙◌, subst, true≢false, Less, Equal, Greater, is_eq, arith}
+use Rattle.std.proofs.Common.{◌≡◌, ℕ, zero, suc, ◌+◌, inl, inr, List, [], ◌∷◌, map, Bool, true, false, not, cond, ◌||◌, length, Option, Some, None, refl, sym, ap, ◌∙◌, subst, true≢false, Less, Equal, Greater, arith}
 use Rattle.std.specs.Prelude.{slice_get, Contains, IsSome}
 use Rattle.std.specs.Option.{is_some}
 use Rattle.std.specs.Ordering.{match_ordering}
-use Rattle.std.specs.List.{AllByRecursion, list_any, sum_by}
-use Rattle.std.specs.Map.{lookup, values_of}
+use Rattle.std.specs.List.{AllByRecursion, sum_by}
+use Rattle.std.specs.Map.{values_of}
 use Rattle.std.specs.BTreeMap.{insert_entry}
 use Rattle.std.proofs.lemmas.Option.{same_Some, none-some}
 use Rattle.std.proofs.lemmas.List.Sums.{sum_by-cons}
@@ -14,7 +14,6 @@ use Rattle.dtmi_name.specs.Grammar.{Identifier, dtmi_text, id_cmp, id_eq}
 use Rattle.dtdl_terms.specs.Distinct.{HasDeclaration}
 use Rattle.dtdl_terms.specs.Sets.{keyed, InOrder, interface_at, with_interface}
 use Rattle.dtdl_terms.specs.declared.interface.Interface.{Interface}
-use Rattle.dtdl_terms.specs.declared.resolved.Resolved.{Resolved}
 use Rattle.dtdl_terms.specs.declared.uploaded.Uploaded.{Uploaded}
 use Rattle.dtdl_terms.proofs.Keyed.{values-keyed}
 use Rattle.extend_resolve.specs.Breaches.{BreaksNoRule, IsSound}
@@ -27,11 +26,10 @@ use Rattle.model_resolve.proofs.Changes.{lacks_none, with_more}
 use Rattle.set_laws.specs.Changing.{with_uploads, is_one_of, without_interfaces, AreApart, AreFree}
 use Rattle.set_laws.proofs.Looking.{AreAbsent, or_else, at_append, eq_tests, one_text_of, uploads_ordered, uploads_same}
 use Rattle.set_laws.proofs.Sound.{new_apart, with_sound}
-use Rattle.model_life.specs.Models.{Model, model_of, by_id, interfaces_of, with_model, with_models, without_models}
-use Rattle.model_life.specs.Sums.{text_bytes, bytes_in, bytes_of, model_bytes, AllTake}
-use Rattle.model_life.specs.Machinery.Keeping.{record_at, mark_at, models_of, recorded, share_at, shares, Users, user_at, Fits, IsKept}
-use Rattle.model_life.specs.declared.records.Record.{Record}
-use Rattle.model_life.proofs.Seen.{Records, seen, seen_all}
+use Rattle.model_life.specs.Models.{Model, model_of, by_id, with_model, with_models, without_models}
+use Rattle.model_life.specs.Sums.{text_bytes, bytes_in, bytes_of, model_bytes}
+use Rattle.model_life.specs.Machinery.Keeping.{record_at, models_of, recorded, share_at, shares, Users, user_at, Fits, IsKept}
+use Rattle.model_life.proofs.Seen.{Records, seen}
 use Rattle.model_life.proofs.Taking.{sum_same, sum_with_all, recorded_is, recorded_all, share_same}
 use Rattle.model_life.proofs.Whole.{length_seen, bytes_seen}
 use Rattle.model_life.proofs.Growing.{absent_one, rolled_back, upload_there, left_fits, left_models}
@@ -168,6 +166,7 @@ module _ (us : List Uploaded) (ids : List Identifier) (set : List Interface) (es
     where
       at_there : (k : ℕ) (i : Interface) → slice_get set k ≡ Some i → IsThere set i
       at_there k i at = (listed set kept.ordered i).0 (contains_placed set i k at)
+
       by : (i : Interface) → IsThere set i → (b : Bool) → is_one_of ids i.id ≡ b → is_one_of ids i.id ≡ false
       by i there true e = absurd (none-some i (sym (absent_id i.id e) ∙ there))
       by i there false e = e

@@ -1,7 +1,7 @@
 -- The least model that uses another.
-use Rattle.std.proofs.Common.{◌≡◌, ℕ, zero, suc, ◌<◌, ◌⊎◌, inl, inr, List, [], ◌∷◌, map, Bool, true, false, not, cond, ◌||◌, ◌&&◌, length, Option, Some, None, refl, sym, ap, ◌∙◌, subst, true≢false, Ordering, Less, is_eq, arith}
-use Rattle.std.specs.Prelude.{slice_get, Contains, IsSome}
-use Rattle.std.specs.Option.{is_some, option_map, IsSomeAnd}
+use Rattle.std.proofs.Common.{◌≡◌, ℕ, ◌⊎◌, inl, inr, List, [], ◌∷◌, Bool, true, false, not, cond, ◌||◌, ◌&&◌, Option, Some, None, refl, sym, ap, ◌∙◌, true≢false, Less, is_eq, arith}
+use Rattle.std.specs.Prelude.{slice_get, Contains}
+use Rattle.std.specs.Option.{option_map}
 use Rattle.std.specs.List.{filter, list_any}
 use Rattle.std.specs.List.Sorted.{IsStrictlySortedBy}
 use Rattle.std.specs.Map.{lookup, keys_of}
@@ -10,8 +10,6 @@ use Rattle.std.proofs.lemmas.Option.{same_Some, none-some}
 use Rattle.std.proofs.lemmas.Map.{lookup-none}
 use Rattle.std.proofs.lemmas.Map.Entries.{none_below_head}
 use Rattle.std.proofs.lemmas.Slice.Eq.{bytes_eq-Decides}
-use Rattle.ordered_table.specs.Rows.{pair_cmp, row_of}
-use Rattle.ordered_table.proofs.Kept.{lookup-row, sorted-row}
 use Rattle.dtmi_name.specs.Grammar.{Identifier, dtmi_text, id_cmp, id_eq}
 use Rattle.dtdl_terms.specs.Sets.{InOrder, interface_at}
 use Rattle.dtdl_terms.specs.TermViews.{kind_term}
@@ -27,12 +25,11 @@ use Rattle.model_resolve.specs.Machinery.Families.{IsThere}
 use Rattle.model_resolve.proofs.ByKey.{C, alike, all_of_contained}
 use Rattle.model_resolve.proofs.Families.{listed, stands, spelled}
 use Rattle.model_resolve.proofs.Changes.{ids_total, lacks_none}
-use Rattle.set_laws.specs.Changing.{is_one_of, AreFree}
+use Rattle.set_laws.specs.Changing.{AreFree}
 use Rattle.set_laws.proofs.Apart.{uncons, contains_head, contains_tail}
 use Rattle.set_laws.proofs.Looking.{at_text, one_is}
 use Rattle.model_life.specs.Models.{Model, is_component, uses, is_user, first_user}
-use Rattle.model_life.specs.Machinery.Keeping.{record_at, models_of, RecordOf, Users, user_at, use_of, Fits}
-use Rattle.model_life.specs.declared.records.Record.{Record}
+use Rattle.model_life.specs.Machinery.Keeping.{record_at, models_of, Users, user_at, use_of, Fits}
 use Rattle.model_life.proofs.Seen.{Records, seen, record_there}
 use Rattle.model_life.proofs.Growing.{names_of, used_there}
 
@@ -214,6 +211,7 @@ unused_free set es id sorted none i k p there named on =
     no_first : (o : Option Interface) → option_map (λ (j : Interface). j.id) o ≡ None → o ≡ None
     no_first None h = refl
     no_first (Some j) h = absurd (none-some j.id (sym h))
+
     itself : (a b : Bool) → a ≡ true → (a && not b) ≡ false → b ≡ true
     itself a true g h = refl
     itself true false g h = absurd (true≢false h)

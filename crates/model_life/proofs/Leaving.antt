@@ -3,7 +3,6 @@ use Rattle.std.proofs.Common.{◌≡◌, ℕ, ◌+◌, ◌-◌, ◌≤◌, List,
 use Rattle.std.specs.Prelude.{unwrap_or}
 use Rattle.std.specs.Option.{option_map}
 use Rattle.std.specs.List.{AllByRecursion, filter, sum_by}
-use Rattle.std.proofs.lemmas.Option.{none-some}
 use Rattle.dtmi_name.specs.Grammar.{Identifier, dtmi_text}
 use Rattle.dtdl_terms.specs.Distinct.{AreDistinct, HasDeclaration}
 use Rattle.dtdl_terms.specs.Sets.{InOrder, interface_at}
@@ -12,13 +11,12 @@ use Rattle.dtdl_terms.specs.declared.resolved.Resolved.{Resolved}
 use Rattle.extend_resolve.specs.Breaches.{BreaksNoRule}
 use Rattle.model_resolve.specs.Resolving.{entry_at, EntryOf, ResolvesAll}
 use Rattle.model_resolve.proofs.Families.{listed, stands}
-use Rattle.model_resolve.proofs.Changes.{lacks_none, same_resolved, entry_changes}
+use Rattle.model_resolve.proofs.Changes.{same_resolved, entry_changes}
 use Rattle.set_laws.specs.Changing.{is_one_of, without_interfaces, AreFree}
 use Rattle.set_laws.proofs.Looking.{at_without, ordered_without}
 use Rattle.set_laws.proofs.Sound.{rest_within, rest_whole, rest_sound}
 use Rattle.model_life.specs.Sums.{text_bytes, bytes_in, bytes_of}
-use Rattle.model_life.specs.Machinery.Keeping.{record_at, capped, recorded, share_at, shares, Users, user_at, Fits, IsKept}
-use Rattle.model_life.specs.declared.records.Record.{Record}
+use Rattle.model_life.specs.Machinery.Keeping.{record_at, capped, recorded, share_at, shares, Users, user_at, IsKept}
 use Rattle.model_life.proofs.Seen.{Records}
 use Rattle.model_life.proofs.Taking.{sum_same, sum_without_all, recorded_is, recorded_all, share_same, share_found, exact}
 use Rattle.model_life.proofs.Growing.{left_fits}

@@ -1,5 +1,5 @@
 -- Interfaces that become users, and that are users no more.
-use Rattle.std.proofs.Common.{◌≡◌, List, [], ◌∷◌, Bool, true, false, cond, ◌||◌, ◌&&◌, Option, Some, None, refl, sym, ap, ◌∙◌, subst, true≢false}
+use Rattle.std.proofs.Common.{◌≡◌, List, [], ◌∷◌, Bool, true, false, cond, ◌||◌, ◌&&◌, Some, None, refl, sym, ap, ◌∙◌, subst}
 use Rattle.std.specs.Prelude.{bytes_eq}
 use Rattle.std.specs.Option.{IsSomeAnd}
 use Rattle.std.specs.List.{AllByRecursion, list_any}
@@ -73,10 +73,13 @@ module _ (set : List Interface) (id : Identifier) (i : Interface) (found : inter
       either : (p : Bool) → user_at t u old ≡ None → cond p None (user_at t u old) ≡ None
       either true h = refl
       either false h = h
+
       goes : (o : Bool) → one u ≡ o → user_at t u old ≡ cond o None (user_at t u first)
       goes o g = so_far t u ∙ ap (λ x. cond x None (user_at t u first)) g
+
       to : (o b : Bool) → one u ≡ o → id_eq u id ≡ b → cond (o || b) None (user_at t u first) ≡ cond (one u || id_eq u id) None (user_at t u first)
       to o b g e = ap (λ x. cond x None (user_at t u first)) (ap (λ x. x || b) (sym g) ∙ ap (λ y. one u || y) (sym e))
+
       by : (o : Bool) → one u ≡ o → (a : Bool) → uses t i ≡ a → (b : Bool) → id_eq u id ≡ b → user_at t u new ≡ cond (one u || id_eq u id) None (user_at t u first)
       by true g a f b e = put t u ∙ either (uses t i && id_eq u i.id) (goes true g) ∙ to true b g e
       by false g true f true e = put t u ∙ ap (λ p. cond p None (user_at t u old)) (pair_is t u true true f e) ∙ to false true g e
@@ -102,8 +105,10 @@ module _ (set : List Interface) (id : Identifier) (none : interface_at id set �
     where
       goes : (o : Bool) → one u ≡ o → user_at t u old ≡ cond o None (user_at t u first)
       goes o g = so_far t u ∙ ap (λ x. cond x None (user_at t u first)) g
+
       to : (o b : Bool) → one u ≡ o → id_eq u id ≡ b → cond (o || b) None (user_at t u first) ≡ cond (one u || id_eq u id) None (user_at t u first)
       to o b g e = ap (λ x. cond x None (user_at t u first)) (ap (λ x. x || b) (sym g) ∙ ap (λ y. one u || y) (sym e))
+
       by : (o : Bool) → one u ≡ o → (b : Bool) → id_eq u id ≡ b → user_at t u old ≡ cond (one u || id_eq u id) None (user_at t u first)
       by true g b e = goes true g ∙ to true b g e
       by false g true e = goes false g ∙ within t u (use_none t u e) ∙ to false true g e

@@ -1,15 +1,14 @@
 -- Interfaces and records that come and go.
-use Rattle.std.proofs.Common.{◌≡◌, ◌≢◌, ℕ, ◌++◌, List, [], ◌∷◌, map, Bool, true, false, cond, ◌||◌, length, Option, Some, None, refl, sym, ap, ◌∙◌, subst, true≢false, is_eq}
-use Rattle.std.specs.List.{AllByRecursion, list_any}
+use Rattle.std.proofs.Common.{◌≡◌, ◌≢◌, ℕ, ◌++◌, List, [], ◌∷◌, map, Bool, true, false, cond, ◌||◌, length, Option, Some, None, refl, ap, ◌∙◌, true≢false, is_eq}
+use Rattle.std.specs.List.{AllByRecursion}
 use Rattle.std.specs.List.Sorted.{IsStrictlySortedBy}
 use Rattle.std.specs.Map.{lookup, remove_entry, keys_of}
 use Rattle.std.specs.BTreeMap.{is_at, insert_entry}
-use Rattle.std.proofs.lemmas.Slice.Eq.{bytes_eq-Decides}
 use Rattle.dtmi_name.specs.Grammar.{Identifier, dtmi_text, id_cmp, id_eq}
 use Rattle.dtdl_terms.specs.Sets.{InOrder, interface_at, with_interface, without_interface}
 use Rattle.dtdl_terms.specs.declared.interface.Interface.{Interface}
 use Rattle.dtdl_terms.specs.declared.uploaded.Uploaded.{Uploaded}
-use Rattle.model_resolve.proofs.ByKey.{C, alike, lookup-insert}
+use Rattle.model_resolve.proofs.ByKey.{alike, lookup-insert}
 use Rattle.model_resolve.proofs.Changes.{left, taken_out}
 use Rattle.canon_text.specs.Canonical.{interface_text}
 use Rattle.set_laws.specs.Changing.{with_uploads, is_one_of, AreApart}

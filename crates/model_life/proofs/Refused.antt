@@ -1,16 +1,13 @@
 -- What a judgement of a set says of the models.
-use Rattle.std.proofs.Common.{◌≡◌, ℕ, ◌+◌, ◌≤◌, ◌<◌, List, [], ◌∷◌, map, take, length, false, Option, Some, None, refl, sym, ap, ◌∙◌, subst, Less, Equal, Greater, Result, Ok, Err}
-use Rattle.std.specs.Prelude.{slice_get, IsSome, MatchResult}
+use Rattle.std.proofs.Common.{◌≡◌, ℕ, ◌+◌, ◌<◌, List, [], ◌∷◌, map, take, length, false, None, refl, sym, ap, ◌∙◌, subst, Less, Equal, Greater, Result, Ok, Err}
+use Rattle.std.specs.Prelude.{MatchResult}
 use Rattle.std.specs.Ordering.{match_ordering}
-use Rattle.std.specs.List.{AllByRecursion}
 use Rattle.std.specs.Map.{values_of}
 use Rattle.std.specs.BTreeMap.{insert_entry}
 use Rattle.std.proofs.lemmas.List.{length-map}
-use Rattle.dtmi_name.specs.Grammar.{Identifier, id_cmp}
+use Rattle.dtmi_name.specs.Grammar.{id_cmp}
 use Rattle.dtdl_terms.specs.Sets.{keyed, interface_at, with_interface}
 use Rattle.dtdl_terms.specs.declared.interface.Interface.{Interface}
-use Rattle.dtdl_terms.specs.declared.limit.Limit.{Limit}
-use Rattle.dtdl_terms.specs.declared.limit.Limit.TheVariants as limits
 use Rattle.dtdl_terms.specs.declared.uploaded.Uploaded.{Uploaded}
 use Rattle.dtdl_terms.proofs.Keyed.{values-keyed}
 use Rattle.extend_resolve.specs.Breaches.{IsFirstBreach, IsSound}

@@ -1,5 +1,5 @@
 -- Models as they are seen: each interface with the mark of its record.
-use Rattle.std.proofs.Common.{◌≡◌, ℕ, List, [], ◌∷◌, map, Bool, true, false, not, cond, Option, Some, None, refl, sym, ap, ◌∙◌, subst, true≢false, is_eq}
+use Rattle.std.proofs.Common.{◌≡◌, List, [], ◌∷◌, Bool, true, false, not, cond, Option, Some, None, refl, sym, ap, ◌∙◌, subst, true≢false, is_eq}
 use Rattle.std.specs.Prelude.{slice_get, IsSome}
 use Rattle.std.specs.Option.{is_some, option_map, option_copied}
 use Rattle.std.specs.List.{filter}
@@ -16,8 +16,8 @@ use Rattle.model_resolve.proofs.ByKey.{C}
 use Rattle.model_resolve.proofs.Families.{spelled}
 use Rattle.model_resolve.proofs.Changes.{ids_total}
 use Rattle.set_laws.proofs.Looking.{eq_tests, turned}
-use Rattle.model_life.specs.Models.{Model, model_of, interfaces_of, by_id, model_at, next_model, mark_one, with_mark}
-use Rattle.model_life.specs.Machinery.Keeping.{record_at, is_marked, mark_at, models_of, IsRecord, RecordOf, Users, Fits}
+use Rattle.model_life.specs.Models.{Model, model_of, interfaces_of, model_at, next_model, mark_one, with_mark}
+use Rattle.model_life.specs.Machinery.Keeping.{record_at, is_marked, mark_at, models_of, RecordOf, Users, Fits}
 use Rattle.model_life.specs.declared.records.Record.{Record}
 
 abbrev pub Records : Type 0
@@ -115,6 +115,7 @@ marked_seen id on (i ∷ is) es new w mark put =
     by : (b : Bool) → record_at i.id new ≡ cond b (Some w) (record_at i.id es) → seen new i ≡ cond b (model_of i on) (seen es i)
     by true e = ap (λ o. model_of i (is_marked o)) e ∙ ap (model_of i) mark
     by false e = ap (λ o. model_of i (is_marked o)) e
+
     head : seen new i ≡ mark_one id on (seen es i)
     head = by (id_eq i.id id) (put i.id) ∙ ap (λ b. cond b (model_of i on) (seen es i)) (turned i.id id)
 

@@ -1,6 +1,6 @@
 -- What models take: sums over sets that grow and shrink, and one sum for each set.
-use Rattle.std.proofs.Common.{◌≡◌, ◌≢◌, ℕ, zero, suc, ◌+◌, ◌-◌, ◌^◌, ◌<◌, ◌≤◌, min, List, [], ◌∷◌, map, Bool, true, false, cond, length, Option, Some, None, refl, sym, ap, ◌∙◌, subst, true≢false, is_eq, arith, lit≤, lit<, ◌||◌}
-use Rattle.std.specs.Prelude.{Contains, IsSome, unwrap_or}
+use Rattle.std.proofs.Common.{◌≡◌, ◌≢◌, ℕ, ◌+◌, ◌-◌, ◌^◌, ◌<◌, ◌≤◌, min, List, [], ◌∷◌, map, Bool, true, false, cond, Option, Some, None, refl, sym, ap, ◌∙◌, subst, is_eq, arith, lit≤, lit<, ◌||◌}
+use Rattle.std.specs.Prelude.{Contains, unwrap_or}
 use Rattle.std.specs.Option.{option_map}
 use Rattle.std.specs.List.{AllByRecursion, sum_by}
 use Rattle.std.specs.List.Sorted.{IsStrictlySortedBy}
@@ -17,8 +17,7 @@ use Rattle.dtdl_terms.specs.declared.resolved.PartOf.{PartOf}
 use Rattle.dtdl_terms.specs.declared.resolved.Resolved.{Resolved}
 use Rattle.dtdl_terms.specs.declared.uploaded.Uploaded.{Uploaded}
 use Rattle.dtdl_terms.proofs.Keyed.{values-keyed}
-use Rattle.extend_resolve.specs.Chains.{IsAncestor}
-use Rattle.model_resolve.specs.Resolving.{HasPart, ListsParts, IsResolved, entry_at, EntryOf, ResolvesAll, IsWithin, LacksNone}
+use Rattle.model_resolve.specs.Resolving.{IsResolved, entry_at, EntryOf, ResolvesAll, IsWithin, LacksNone}
 use Rattle.model_resolve.specs.Machinery.Families.{IsThere}
 use Rattle.model_resolve.proofs.ByKey.{C}
 use Rattle.model_resolve.proofs.Families.{listed, stands, spelled, ancestors_there}
@@ -26,9 +25,9 @@ use Rattle.model_resolve.proofs.Changes.{ids_total, keys_keyed, same_resolved}
 use Rattle.model_resolve.proofs.OneResolved.{one_resolved}
 use Rattle.set_laws.specs.Changing.{with_uploads, is_one_of, without_interfaces, AreApart}
 use Rattle.set_laws.proofs.Apart.{contains_head, contains_tail, unlike}
-use Rattle.set_laws.proofs.Looking.{AreAbsent, absent_more, ordered_with, at_without, ordered_without, ordered_without_one, same_set, eq_tests, at_text}
-use Rattle.model_life.specs.Sums.{text_bytes, bytes_in, bytes_of, LineTakes, ResolvedTakes, AllTake}
-use Rattle.model_life.specs.Machinery.Keeping.{record_at, bytes_at, recorded, capped, line_in, line_at, share_in, share_at, shares, RecordOf, Users, Fits}
+use Rattle.set_laws.proofs.Looking.{AreAbsent, absent_more, ordered_with, at_without, ordered_without, ordered_without_one, same_set, eq_tests}
+use Rattle.model_life.specs.Sums.{bytes_in, bytes_of, LineTakes, ResolvedTakes, AllTake}
+use Rattle.model_life.specs.Machinery.Keeping.{record_at, bytes_at, recorded, capped, line_in, line_at, share_in, share_at, shares, RecordOf}
 use Rattle.model_life.specs.declared.records.Record.{Record}
 use Rattle.model_life.proofs.Recorded.{gone_interface}
 
@@ -205,6 +204,7 @@ module _ (set : List Interface) (table : List (Identifier × Resolved)) (sorted 
       no_entry None None is h = refl
       no_entry None (Some r) is h = absurd h
       no_entry (Some i) e is h = absurd (none-some i (sym is))
+
       by : (o : Option Interface) → interface_at id set ≡ o → unwrap_or (option_map (λ (i : Interface). share_at (bytes_of set) table i.id) o) 0 ≡ share_at (bytes_of set) table id
       by None e = sym (ap (share_in (bytes_of set) table) (no_entry (interface_at id set) (entry_at id table) e (all id)))
       by (Some i) e = ap (λ t. share_in (bytes_of set) table (lookup (λ (k : Identifier). is_eq (C t (dtmi_text k))) table)) (sym (spelled set id i e))

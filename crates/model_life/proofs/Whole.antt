@@ -1,15 +1,13 @@
 -- What holds of all models together.
-use Rattle.std.proofs.Common.{◌≡◌, ℕ, ◌+◌, ◌≤◌, List, [], ◌∷◌, map, length, refl, sym, ap, ◌∙◌, subst}
+use Rattle.std.proofs.Common.{◌≡◌, ℕ, ◌+◌, ◌≤◌, List, [], ◌∷◌, length, refl, sym, ap, ◌∙◌, subst}
 use Rattle.std.specs.List.{sum_by}
 use Rattle.std.proofs.lemmas.List.Sums.{sum_by-cons}
 use Rattle.std.proofs.lemmas.List.{length-map}
 use Rattle.dtmi_name.specs.Grammar.{Identifier}
 use Rattle.dtdl_terms.specs.declared.interface.Interface.{Interface}
 use Rattle.dtdl_terms.specs.declared.resolved.Resolved.{Resolved}
-use Rattle.model_life.specs.Models.{interfaces_of}
 use Rattle.model_life.specs.Sums.{text_bytes, model_bytes, AllTake, AreWithinLimits}
-use Rattle.model_life.specs.Machinery.Keeping.{models_of, shares, Users, IsKept}
-use Rattle.model_life.specs.declared.records.Record.{Record}
+use Rattle.model_life.specs.Machinery.Keeping.{models_of, Users, IsKept}
 use Rattle.model_life.proofs.Seen.{Records, seen, seen_all}
 use Rattle.model_life.proofs.Taking.{all_take}
 

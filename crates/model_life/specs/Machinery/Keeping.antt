@@ -1,5 +1,5 @@
 -- What is kept beside the set of interfaces: a record for each, who uses whom, and running sums.
-use Rattle.std.specs.Prelude.{◌≡◌, ℕ, ◌+◌, ◌-◌, ◌^◌, ◌≤◌, min, List, length, Bool, true, false, cond, Option, Some, None, IsSome, map}
+use Rattle.std.specs.Prelude.{◌≡◌, ℕ, ◌+◌, ◌-◌, ◌^◌, ◌≤◌, min, List, length, Bool, true, false, cond, Option, Some, None, map}
 use Rattle.std.specs.Option.{IsSomeAnd}
 use Rattle.std.specs.List.{AllByRecursion, sum_by}
 use Rattle.std.specs.Map.{lookup}
@@ -10,7 +10,6 @@ use Rattle.dtdl_terms.specs.Distinct.{HasDeclaration}
 use Rattle.dtdl_terms.specs.Sets.{InOrder, interface_at}
 use Rattle.dtdl_terms.specs.declared.interface.Interface.{Interface}
 use Rattle.dtdl_terms.specs.declared.resolved.Resolved.{Resolved}
-use Rattle.dtdl_terms.specs.declared.uploaded.Uploaded.{Uploaded}
 use Rattle.extend_resolve.specs.Breaches.{BreaksNoRule}
 use Rattle.model_resolve.specs.Resolving.{entry_at, ResolvesAll}
 use Rattle.model_life.specs.Models.{Model, model_of, uses}

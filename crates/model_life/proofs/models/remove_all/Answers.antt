@@ -1,4 +1,4 @@
-use Rattle.std.proofs.Common.{◌+◌, ◌||◌, take, cond, None, sym, ap, ◌∙◌}
+use Rattle.std.proofs.Common.{take, cond, None, sym, ap, ◌∙◌}
 use Rattle.dtmi_name.specs.Grammar.{id_eq}
 use Rattle.model_resolve.specs.Resolving.{entry_at}
 use Rattle.set_laws.specs.Changing.{is_one_of}

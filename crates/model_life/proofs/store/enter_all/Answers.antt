@@ -1,4 +1,4 @@
-use Rattle.std.proofs.Common.{◌≡◌, ◌∷◌, ◌++◌, [], map, false, List, sym, ap, ◌∙◌, subst, append_assoc}
+use Rattle.std.proofs.Common.{◌≡◌, ◌∷◌, ◌++◌, [], map, List, sym, ap, ◌∙◌, subst, append_assoc}
 use Rattle.dtdl_terms.specs.Sets.{InOrder, interface_at, with_interface}
 use Rattle.dtdl_terms.specs.declared.uploaded.Uploaded.{Uploaded}
 use Rattle.set_laws.specs.Changing.{is_one_of, AreApart}

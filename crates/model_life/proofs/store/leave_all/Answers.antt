@@ -1,4 +1,4 @@
-use Rattle.std.proofs.Common.{◌≡◌, ◌+◌, ◌||◌, take, cond, None, sym, ap, ◌∙◌, subst, arith}
+use Rattle.std.proofs.Common.{take, cond, None, sym, ap, ◌∙◌, subst, arith}
 use Rattle.dtmi_name.specs.Grammar.{id_eq}
 use Rattle.dtdl_terms.specs.Sets.{InOrder, interface_at}
 use Rattle.set_laws.specs.Changing.{without_interfaces, is_one_of}

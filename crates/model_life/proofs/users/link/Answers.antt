@@ -1,4 +1,4 @@
-use Rattle.std.proofs.Common.{◌≡◌, cond, ◌||◌, ◌&&◌, Some, sym, ap, ◌∙◌, subst}
+use Rattle.std.proofs.Common.{cond, ◌||◌, ◌&&◌, Some, sym, ap, ◌∙◌, subst}
 use Rattle.std.specs.List.{AllByRecursion, list_any}
 use Rattle.std.proofs.lemmas.Result.{on_ok_weaker}
 use Rattle.dtmi_name.specs.Grammar.{id_eq}

@@ -1,7 +1,6 @@
-use Rattle.std.proofs.Common.{◌≡◌, ◌+◌, ◌||◌, take, cond, None, Some, sym, ap, ◌∙◌}
+use Rattle.std.proofs.Common.{◌≡◌, ◌+◌, ◌||◌, take, cond, None, sym, ap, ◌∙◌}
 use Rattle.std.specs.Option.{option_copied}
 use Rattle.dtmi_name.specs.Grammar.{Identifier, id_eq}
-use Rattle.dtdl_terms.specs.Sets.{interface_at}
 use Rattle.dtdl_terms.specs.declared.interface.Interface.{Interface}
 use Rattle.model_resolve.proofs.Families.{stands}
 use Rattle.set_laws.specs.Changing.{is_one_of}

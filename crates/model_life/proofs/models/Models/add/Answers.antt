@@ -1,4 +1,4 @@
-use Rattle.std.proofs.Common.{◌≡◌, ◌+◌, ◌≤◌, length, subst}
+use Rattle.std.proofs.Common.{subst}
 use Rattle.extend_resolve.specs.Breaches.{IsSound}
 use Rattle.model_life.specs.Refusals.{RefusesUploads}
 use Rattle.model_life.specs.Machinery.Judging.{AreAbsent, RefusesIn}
@@ -25,8 +25,7 @@ returns-clause-end c =
     let absent : AreAbsent c.self.inside.set c.args.new = subst (AreAbsent c.self.inside.set) c.as_slice.ensures c.in-Ok.ensures.0 in
     let sound : IsSound c.self.inside.set c.args.new = subst (IsSound c.self.inside.set) c.as_slice.ensures c.in-Ok.ensures.1 in
     match_more (RefusesUploads c.args.self.now c.args.new) c.join.result
-    (λ within.
-    (
+    (λ within. (
       new_from c.args.new c.self.inside.set c.self.inside.records c.self.inside.users c.self.inside.table c.self.inside.bytes c.self.inside.resolved c.args.self.now c.self.view_is c.self.invariant c.args.new absent,
       sound_from c.args.new c.self.inside.set c.self.inside.records c.self.inside.users c.self.inside.table c.self.inside.bytes c.self.inside.resolved c.args.self.now c.self.view_is c.self.invariant sound,
       within,

@@ -1,6 +1,4 @@
-use Rattle.std.proofs.Common.{◌≡◌, [], ◌∷◌, None, true, false, sym, ap, ◌∙◌, subst, true≢false}
-use Rattle.std.specs.Prelude.{IsSome}
-use Rattle.std.specs.Option.{is_some}
+use Rattle.std.proofs.Common.{◌≡◌, [], ◌∷◌, None, sym, ap, ◌∙◌, subst}
 use Rattle.dtdl_terms.specs.Sets.{interface_at}
 use Rattle.set_laws.specs.Changing.{AreFree}
 use Rattle.model_life.specs.Models.{interfaces_of, first_user}

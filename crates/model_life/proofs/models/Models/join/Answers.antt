@@ -81,8 +81,7 @@ returns-then-bytes-gt-MOST_MODEL_BYTES-clause-end c =
     let view : models_of (with_uploads c.args.new c.self.inside.set) c.grow.new.records ≡ with_models c.args.new c.args.self.now = sym (ap (λ s. models_of s c.grow.new.records) c.in-Ok.ensures.ok) ∙ c.in-Ok.ensures.models ∙ ap (with_models c.args.new) c.self.view_is in
     let many : length (with_models c.args.new c.args.self.now) ≡ length c.self.inside.set + length c.args.new = length_joined c.args.new c.args.ids.now c.self.inside.set c.self.inside.records c.self.inside.users c.self.inside.table c.self.inside.bytes c.self.inside.resolved c.self.invariant c.requires.ids absent sound c.grow.new.records c.args.self.now view in
     let own : length c.self.inside.set ≡ length c.args.self.now = sym (length_seen c.self.inside.set c.self.inside.records) ∙ ap length c.self.view_is in
-    let few = c.requires.few in
-    (
+    let few = c.requires.few in (
       c.requires.new,
       c.requires.sound,
       (
@@ -200,8 +199,7 @@ returns-then-resolved-gt-MOST_RESOLVED_BYTES-clause-end c =
     let low = c.if-bytes-gt-MOST_MODEL_BYTES.false in
     let take : AllTake (interfaces_of (with_models c.args.new c.args.self.now)) (shares (with_uploads c.args.new c.self.inside.set) c.add.new.self) =
     subst (λ s. AllTake s (shares (with_uploads c.args.new c.self.inside.set) c.add.new.self)) (sym (seen_all (with_uploads c.args.new c.self.inside.set) c.grow.new.records) ∙ ap interfaces_of view) (all_take (with_uploads c.args.new c.self.inside.set) c.add.new.self (joined_ordered c.args.new c.args.ids.now c.self.inside.set c.self.inside.records c.self.inside.users c.self.inside.table c.self.inside.bytes c.self.inside.resolved c.self.invariant c.requires.ids absent sound) wider) in
-    let all = bytes_joined c.args.new c.args.ids.now c.self.inside.set c.self.inside.records c.self.inside.users c.self.inside.table c.self.inside.bytes c.self.inside.resolved c.self.invariant c.requires.ids absent sound c.grow.new.records c.grow.new.users c.args.self.now fits view in
-    (
+    let all = bytes_joined c.args.new c.args.ids.now c.self.inside.set c.self.inside.records c.self.inside.users c.self.inside.table c.self.inside.bytes c.self.inside.resolved c.self.invariant c.requires.ids absent sound c.grow.new.records c.grow.new.users c.args.self.now fits view in (
       c.requires.new,
       c.requires.sound,
       (

@@ -1,12 +1,9 @@
-use Rattle.std.proofs.Common.{◌≡◌, Some, None, refl, sym, ap, ◌∙◌, subst}
+use Rattle.std.proofs.Common.{refl, ap, ◌∙◌}
 use Rattle.std.specs.Prelude.{IsSome}
 use Rattle.std.specs.Option.{is_some}
-use Rattle.std.specs.Map.{lookup}
-use Rattle.std.proofs.lemmas.Slice.Eq.{bytes_eq-Decides}
-use Rattle.dtmi_name.specs.Grammar.{dtmi_text}
 use Rattle.dtdl_terms.specs.Sets.{interface_at}
 use Rattle.model_life.specs.Models.{with_mark}
-use Rattle.model_life.specs.Machinery.Keeping.{record_at, IsKept}
+use Rattle.model_life.specs.Machinery.Keeping.{IsKept}
 use Rattle.model_life.specs.declared.records.Record.{Record}
 use Rattle.model_life.proofs.Seen.{found_none, found_some, seen_none, seen_some, record_there, marked_at, marked_seen, marked_fits, record_at_text}
 use Rattle.model_life.proofs.models.Models.mark.Goals as goal

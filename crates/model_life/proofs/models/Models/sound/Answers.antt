@@ -1,4 +1,4 @@
-use Rattle.std.proofs.Common.{◌≡◌, sym, ap, ◌∙◌, subst}
+use Rattle.std.proofs.Common.{sym, ap, ◌∙◌, subst}
 use Rattle.std.specs.List.{AllByRecursion}
 use Rattle.dtdl_terms.specs.Distinct.{HasDeclaration}
 use Rattle.dtdl_terms.specs.Sets.{InOrder}

@@ -1,4 +1,4 @@
-use Rattle.std.proofs.Common.{◌≡◌, Some, None, refl, sym, ap, ◌∙◌, subst}
+use Rattle.std.proofs.Common.{◌≡◌, sym, ap, ◌∙◌}
 use Rattle.std.specs.Prelude.{slice_get}
 use Rattle.std.specs.Option.{option_copied}
 use Rattle.std.specs.List.Sorted.{IsStrictlySortedBy}
@@ -7,9 +7,8 @@ use Rattle.std.specs.BTreeMap.{is_at}
 use Rattle.ordered_table.specs.Rows.{row_of}
 use Rattle.ordered_table.proofs.Kept.{lookup-row, sorted-row}
 use Rattle.dtmi_name.specs.Grammar.{Identifier, dtmi_text, id_cmp}
-use Rattle.dtdl_terms.specs.Sets.{interface_at}
 use Rattle.model_life.specs.Models.{first_user}
-use Rattle.model_life.specs.Machinery.Keeping.{record_at, user_at}
+use Rattle.model_life.specs.Machinery.Keeping.{user_at}
 use Rattle.model_life.proofs.Seen.{text_there}
 use Rattle.model_life.proofs.Least.{none_absent, none_listed, first_listed, never_absent}
 use Rattle.model_life.proofs.models.Models.used_by.Goals as goal
