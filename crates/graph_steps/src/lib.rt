@@ -4,4 +4,4 @@
 
 mod laws;
 
-pub use laws::{documents_are_sound, empty_is_typed, one_answer};
+pub use laws::{documents_are_sound, empty_is_typed, one_answer, stays_typed};

@@ -1,7 +1,6 @@
 -- Models: interfaces with a mark each, as the list of them in the order of the printed bytes of their identifiers.
 use Rattle.std.specs.Prelude.{List, [], ◌∷◌, Bool, false, not, cond, ◌||◌, ◌&&◌, Option, map, slice_get}
 use Rattle.std.specs.Option.{option_map}
-use Rattle.std.specs.Ordering.{is_eq}
 use Rattle.std.specs.List.{filter, list_any}
 use Rattle.std.specs.Map.{lookup, values_of}
 use Rattle.std.specs.BTreeMap.{is_at, insert_entry}
@@ -9,7 +8,6 @@ use Rattle.dtmi_name.specs.Grammar.{Identifier, id_cmp, id_eq}
 use Rattle.dtdl_terms.specs.Sets.{is_past}
 use Rattle.dtdl_terms.specs.Terms.{KindTerm, telemetry, property, command, relationship, component}
 use Rattle.dtdl_terms.specs.TermViews.{kind_term}
-use Rattle.dtdl_terms.specs.declared.content.Content.{Content}
 use Rattle.dtdl_terms.specs.declared.interface.Interface.{Interface}
 use Rattle.dtdl_terms.specs.declared.uploaded.Uploaded.{Uploaded}
 use Rattle.set_laws.specs.Changing.{is_one_of}

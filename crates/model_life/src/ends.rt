@@ -1,6 +1,5 @@
 //! How the calls on models end.
 
-use dt_base::OutOfMemory;
 use dtdl_terms::{Limit, Spot};
 use extend_resolve::SetRule;
 
@@ -8,7 +7,9 @@ use extend_resolve::SetRule;
 #[derive(Debug, Drop)]
 pub enum AddEnd {
     /// There is a model with the identifier of the upload at `index`, counted from 0, and with that of none before it.
-    ModelExists { index: u64 },
+    ModelExists {
+        index: u64,
+    },
     /// The first breach of the rules on sets: which of the uploads breaks a rule, counted from 0, where, and which rule.
     ModelFault {
         index: u64,
@@ -16,15 +17,11 @@ pub enum AddEnd {
         rule: SetRule,
     },
     /// The first limit on models that the models would pass together with the new ones.
-    Full { limit: Limit },
+    Full {
+        limit: Limit,
+    },
     /// There was no memory.
     OutOfMemory,
-}
-
-impl From<OutOfMemory> for AddEnd {
-    fn from(_error: OutOfMemory) -> AddEnd {
-        AddEnd::OutOfMemory
-    }
 }
 
 /// Why a model is not marked.

@@ -126,7 +126,7 @@ lacks_none set sound i k there =
     (λ h. sound at.0 i rules.AbsentReference (spots.Parent k) at.1 h, λ h. sound at.0 i rules.AbsentReference (spots.ContentSchema k) at.1 h)
 
 -- ---- entries
-entry_changes : (s t : List Interface) (o : Option Interface) (e : Option Resolved) → ((i : Interface) (r : Resolved) → o ≡ Some i → IsResolved s i r → IsResolved t i r) → EntryOf s o e → EntryOf t o e
+pub entry_changes : (s t : List Interface) (o : Option Interface) (e : Option Resolved) → ((i : Interface) (r : Resolved) → o ≡ Some i → IsResolved s i r → IsResolved t i r) → EntryOf s o e → EntryOf t o e
 entry_changes s t None None f h = tt
 entry_changes s t None (Some r) f h = absurd h
 entry_changes s t (Some i) None f h = absurd h

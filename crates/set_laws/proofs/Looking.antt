@@ -17,6 +17,8 @@ use Rattle.ordered_table.proofs.Kept.{sorted-insert, sorted-remove}
 use Rattle.extend_resolve.specs.SetRules.{together}
 use Rattle.model_resolve.proofs.ByKey.{C, same_spelling, alike, lookup-insert}
 use Rattle.model_resolve.proofs.Changes.{ids_total, keys_keyed, left}
+use Rattle.model_resolve.proofs.Families.{listed}
+use Rattle.model_resolve.proofs.OneResolved.{one_ascending}
 use Rattle.set_laws.specs.Changing.{with_uploads, is_one_of, without_interfaces, HaveTheSame, AreApart}
 use Rattle.set_laws.proofs.Apart.{unlike, text}
 
@@ -77,7 +79,7 @@ interface_of u = u.interface
 abbrev pub AreAbsent : List Interface → List Uploaded → Type 0
 AreAbsent set us = AllByRecursion (λ u. interface_at u.interface.id set ≡ None) us
 
-absent_more : (i : Interface) (set : List Interface) (us : List Uploaded) → interface_at i.id set ≡ None → AreAbsent set us → AllByRecursion (λ t. text i ≢ t) (map text (map interface_of us)) → AreAbsent (with_interface i set) us
+pub absent_more : (i : Interface) (set : List Interface) (us : List Uploaded) → interface_at i.id set ≡ None → AreAbsent set us → AllByRecursion (λ t. text i ≢ t) (map text (map interface_of us)) → AreAbsent (with_interface i set) us
 absent_more i set [] absent all apart = tt
 absent_more i set (u ∷ us) absent all apart = (
   at_with i set absent u.interface.id ∙ ap (λ b. cond b (Some i) (interface_at u.interface.id set)) (unlike u.interface.id i.id (λ e. apart.0 (sym e))) ∙ all.0,
@@ -142,7 +144,7 @@ or_false false = refl
 pub one_is : (id p : Identifier) → is_one_of (id ∷ []) p ≡ id_eq p id
 one_is id p = or_false (id_eq p id)
 
-turned : (a b : Identifier) → id_eq a b ≡ id_eq b a
+pub turned : (a b : Identifier) → id_eq a b ≡ id_eq b a
 turned a b =
     elim (id_eq a b) as (λ t. id_eq a b ≡ t → t ≡ id_eq b a) [
       | true ↦ λ e. sym ((bytes_eq-Decides (dtmi_text b) (dtmi_text a)).1 (sym ((bytes_eq-Decides (dtmi_text a) (dtmi_text b)).0 e)))
@@ -163,3 +165,10 @@ pub ordered_without_one : (id : Identifier) (set : List Interface) → InOrder s
 ordered_without_one id set sorted =
     ordered-keyed (remove_entry (is_at (id_cmp id)) (keyed set)) (without_interface id set) (remove-keyed (is_at (id_cmp id)) set)
     (sorted-remove ids_total (is_at (id_cmp id)) (keyed set) (subst (IsStrictlySortedBy id_cmp) (keys_keyed set) sorted))
+
+-- ---- sets with the same look-ups
+pub same_set : (a b : List Interface) → InOrder a → InOrder b → HaveTheSame a b → a ≡ b
+same_set a b first second same =
+    one_ascending (λ (i : Interface). i.id) dtmi_text a b first second
+    (λ i h. (listed b second i).1 (sym (same i.id) ∙ (listed a first i).0 h))
+    (λ i h. (listed a first i).1 (same i.id ∙ (listed b second i).0 h))

@@ -1,24 +1,22 @@
-use Rattle.std.proofs.Common.{◌≡◌, ℕ, ◌<◌, List, [], refl, sym, subst, arith, length}
-use Rattle.std.specs.List.Sorted.{IsStrictlySortedBy}
+use Rattle.std.proofs.Common.{sym, ap, ◌∙◌, subst}
+use Rattle.std.specs.List.{AllByRecursion}
+use Rattle.dtdl_terms.specs.Distinct.{HasDeclaration}
 use Rattle.dtdl_terms.specs.Sets.{InOrder}
-use Rattle.dtdl_terms.specs.declared.interface.Interface.{Interface}
-use Rattle.model_life.specs.Models.{Model, interfaces_of}
+use Rattle.extend_resolve.specs.Breaches.{BreaksNoRule}
+use Rattle.model_life.specs.Models.{interfaces_of}
 use Rattle.model_life.specs.Sums.{AreWithinLimits}
+use Rattle.model_life.proofs.Seen.{seen_all}
+use Rattle.model_life.proofs.Whole.{within_limits}
 use Rattle.model_life.proofs.models.Models.sound.Goals as goal
 
-none_ordered : InOrder []
-unfolding IsStrictlySortedBy
-none_ordered = tt
+pub returns-clause-rules : goal.returns-clause-rules
+returns-clause-rules c = subst BreaksNoRule (sym (seen_all c.self.inside.set c.self.inside.records) ∙ ap interfaces_of c.self.view_is) c.self.invariant.rules
 
-none_within : AreWithinLimits []
-none_within = record {
-  models = omega arith;
-  bytes = omega arith;
-  resolved = (0, record { bytes_for = λ i. 0; each = λ i has. absurd (omega (arith, has.1)); sum = refl }, omega arith);
-}
+pub returns-clause-declared : goal.returns-clause-declared
+returns-clause-declared c = subst (AllByRecursion HasDeclaration) (sym (seen_all c.self.inside.set c.self.inside.records) ∙ ap interfaces_of c.self.view_is) c.self.invariant.declared
 
 pub returns-clause-ordered : goal.returns-clause-ordered
-returns-clause-ordered c = subst (λ (ms : List Model). InOrder (interfaces_of ms)) c.self.view_is none_ordered
+returns-clause-ordered c = subst InOrder (sym (seen_all c.self.inside.set c.self.inside.records) ∙ ap interfaces_of c.self.view_is) c.self.invariant.ordered
 
 pub returns-clause-limits : goal.returns-clause-limits
-returns-clause-limits c = subst AreWithinLimits c.self.view_is none_within
+returns-clause-limits c = subst AreWithinLimits c.self.view_is (within_limits c.self.inside.set c.self.inside.records c.self.inside.users c.self.inside.table c.self.inside.bytes c.self.inside.resolved c.self.invariant)
