@@ -101,7 +101,7 @@ contents_typed [] (c ∷ cs) g = absurd g
 contents_typed (v ∷ vs) [] g = absurd g
 contents_typed (v ∷ vs) (c ∷ cs) g = (content_typed position.Content (content_term c) v g.0.1, contents_typed vs cs g.1)
 
-interface_typed : (ms : Members Number) (i : Interface) → DeclaresInterface ms i → IsTyped i
+pub interface_typed : (ms : Members Number) (i : Interface) → DeclaresInterface ms i → IsTyped i
 interface_typed ms i g = contents_typed (list_of g.contents.0) i.contents g.contents.2
 
 listed_typed : (whole : Json) (nth n : ℕ) (vs : List Json) (us : List Uploaded) → AllZip (IsUploadedAt whole nth) (enumerate_from n vs) us → AllByRecursion (λ u. IsTyped u.interface) us
