@@ -95,24 +95,25 @@ module _ (x : List ℕ) (roles : List ℕ → Option Role) where
       let rest = under_keys ks ms distinct in omega arith
 
 -- ---- lists in order
-put_length : (m : List ℕ × Json) (ms : Pairs) → length (put_by pair_name m ms) ≡ suc (length ms)
-put_length m [] = refl
-put_length m (n ∷ ns) = by (is_before (pair_name n) (pair_name m)) (put_length m ns)
-  where
-    by : (b : Bool) → length (put_by pair_name m ns) ≡ suc (length ns) → length (if b then n ∷ put_by pair_name m ns else m ∷ n ∷ ns) ≡ suc (suc (length ns))
-    by true rest = omega arith
-    by false rest = refl
+module _ {A : Type 0} (key : A → List ℕ) where
+  put_length : (x : A) (xs : List A) → length (put_by key x xs) ≡ suc (length xs)
+  put_length x [] = refl
+  put_length x (y ∷ ys) = by (is_before (key y) (key x)) (put_length x ys)
+    where
+      by : (b : Bool) → length (put_by key x ys) ≡ suc (length ys) → length (if b then y ∷ put_by key x ys else x ∷ y ∷ ys) ≡ suc (suc (length ys))
+      by true rest = omega arith
+      by false rest = refl
+
+  pub length_sorted : (xs : List A) → length (sorted_by key xs) ≡ length xs
+  length_sorted [] = refl
+  length_sorted (x ∷ xs) = let rest = length_sorted xs in let put = put_length x (sorted_by key xs) in omega arith
 
 elements_length : (ns : Pairs) → length (list_of (elements_of (map pair_value ns))) ≡ length ns
 elements_length [] = refl
 elements_length (n ∷ ns) = let rest = elements_length ns in omega arith
 
-in_order : (ns : Pairs) → length (sorted_by pair_name ns) ≡ length ns
-in_order [] = refl
-in_order (n ∷ ns) = let rest = in_order ns in let put = put_length n (sorted_by pair_name ns) in omega arith
-
 pub sorted_length : (ms : Pairs) → length (list_of (elements_of (map pair_value (sorted_by pair_name ms)))) ≡ length ms
-sorted_length ms = elements_length (sorted_by pair_name ms) ∙ in_order ms
+sorted_length ms = elements_length (sorted_by pair_name ms) ∙ length_sorted pair_name ms
 
 module _ (interface : Members Number) where
   -- a part of a canonical object beside what stands under its key in the value that declares the same

@@ -48,7 +48,7 @@ use Rattle.canon_faults.proofs.Schemas.{schema_good}
 use Rattle.canon_faults.proofs.Contents.{content_good, content_named_by, optional_list}
 
 -- ---- parents
-parents_own : (o : Option Json) (ids : List Identifier) → HasParents o ids → AllByRecursion (λ id. OwnDtmiText (dtmi_text id) id) ids
+pub parents_own : (o : Option Json) (ids : List Identifier) → HasParents o ids → AllByRecursion (λ id. OwnDtmiText (dtmi_text id) id) ids
 parents_own None ids has = subst (AllByRecursion (λ id. OwnDtmiText (dtmi_text id) id)) (sym has) tt
 parents_own (Some v) ids (inl has) = subst (AllByRecursion (λ id. OwnDtmiText (dtmi_text id) id)) (sym has.1) (has.2.1, tt)
 parents_own (Some v) ids (inr has) = each (list_of has.0) ids has.2

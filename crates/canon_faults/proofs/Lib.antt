@@ -16,3 +16,7 @@ pub mod Interfaces
 pub mod NormalForms
 pub mod Uploads
 pub mod Nowhere
+pub mod Alike
+pub mod Judged
+pub mod Identified
+pub mod DeclaredAgain
