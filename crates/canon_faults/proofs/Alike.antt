@@ -12,6 +12,7 @@ use Rattle.dtdl_terms.specs.Distinct.{AreDistinct, HasDeclaration, content_name}
 use Rattle.dtdl_terms.specs.Equality.{AnyByRecursion, DeclareTheSame, SameContent, SameElements, SameKind}
 use Rattle.dtdl_terms.specs.declared.content.Content.{Content}
 use Rattle.dtdl_terms.specs.declared.interface.Interface.{Interface}
+use Rattle.dtdl_terms.specs.declared.uploaded.Uploaded.{Uploaded}
 use Rattle.extend_resolve.specs.Chains.{Declares, IsAncestor, IsChain, IsParent, LeadsBack, Reaches, ReachesCycle, chain_end}
 use Rattle.extend_resolve.specs.SetRules.{IsComponentOf}
 use Rattle.extend_resolve.proofs.Within.{found_placed}
@@ -151,6 +152,9 @@ alike i j d e g =
     }
 
 -- ---- sets
+abbrev pub interfaces : List Uploaded → List Interface
+interfaces us = map (λ u. u.interface) us
+
 abbrev pub AreApart : List Interface → Type 0
 AreApart is = AreDistinct (map (λ i. dtmi_text i.id) is)
 

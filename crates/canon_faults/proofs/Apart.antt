@@ -10,7 +10,7 @@ use Rattle.dtdl_terms.specs.Distinct.{AreDistinct}
 use Rattle.canon_text.specs.Sorting.{is_before, put_by, sorted_by}
 use Rattle.canon_text.specs.Machinery.Pairs.{pair_name, pair_value}
 use Rattle.canon_text.proofs.Told.{all_put, all_sorted}
-use Rattle.canon_faults.proofs.Good.{Pairs}
+use Rattle.canon_faults.proofs.Good.{Pairs, list_again}
 
 -- ---- pairs of elements
 abbrev pub Pairwise : {A : Type 0} → (A → A → Type 0) → List A → Type 0
@@ -76,16 +76,12 @@ module _ {X : Type 0} (same : X → X → Bool) (exact : (x y : X) → same x y 
     looked [] p = tt
     looked (m ∷ ms) p = (each_mapped (pair_value m) ms p.0, looked ms p.1)
 
-    listed : (vs : List Json) → list_of (elements_of vs) ≡ vs
-    listed [] = refl
-    listed (v ∷ vs) = ap (λ (ws : List Json). v ∷ ws) (listed vs)
-
     pub nothing_repeats : (ms : Pairs) (i : ℕ) → Pairwise PairsDiffer ms
         → repeats same (map look (list_of (elements_of (map pair_value (sorted_by pair_name ms))))) i ≡ true → ⊥
     nothing_repeats ms i p is =
         no_repeat (map look (map pair_value (sorted_by pair_name ms))) i
         (looked (sorted_by pair_name ms) (pairwise_sorted pair_name PairsDiffer (λ m n differ x y e f same_one. differ y x f e (sym same_one)) ms p))
-        (sym (ap (λ (vs : List Json). repeats same (map look vs) i) (listed (map pair_value (sorted_by pair_name ms)))) ∙ is)
+        (sym (ap (λ (vs : List Json). repeats same (map look vs) i) (list_again (map pair_value (sorted_by pair_name ms)))) ∙ is)
 
 -- ---- by names
 -- each value has the name of its pair

@@ -64,8 +64,7 @@ module _ (x : List ℕ) where
       → ids_count x (roles k) v ≤ members_count x roles ms
   member_counts roles no_members i k v at = absurd cc
   member_counts roles (member l w ms) zero k v at =
-      let pair : (l, w) ≡ (k, v) = cc in
-      let counts : ids_count x (roles l) w ≡ ids_count x (roles k) v = ap (λ (m : List ℕ × Json). ids_count x (roles m.0) m.1) pair in omega arith
+      let counts : ids_count x (roles l) w ≡ ids_count x (roles k) v = ap (λ (m : List ℕ × Json). ids_count x (roles m.0) m.1) (one_pair (l, w) (k, v) at) in omega arith
   member_counts roles (member l w ms) (suc i) k v at = let later = member_counts roles ms i k v at in omega arith
 
   members_counts : (roles : List ℕ → Option Role) (ms : Members Number) (i j : ℕ) (k l : List ℕ) (v w : Json) → i < j → member_at ms i ≡ Some (k, v)
@@ -73,8 +72,7 @@ module _ (x : List ℕ) where
   members_counts roles no_members i j k l v w less first second = absurd cc
   members_counts roles (member m u ms) i zero k l v w less first second = absurd (omega arith)
   members_counts roles (member m u ms) zero (suc j) k l v w less first second =
-      let pair : (m, u) ≡ (k, v) = cc in
-      let counts : ids_count x (roles m) u ≡ ids_count x (roles k) v = ap (λ (n : List ℕ × Json). ids_count x (roles n.0) n.1) pair in
+      let counts : ids_count x (roles m) u ≡ ids_count x (roles k) v = ap (λ (n : List ℕ × Json). ids_count x (roles n.0) n.1) (one_pair (m, u) (k, v) first) in
       let later = member_counts roles ms j l w second in omega arith
   members_counts roles (member m u ms) (suc i) (suc j) k l v w less first second =
       let later = members_counts roles ms i j k l v w (omega arith) first second in omega arith

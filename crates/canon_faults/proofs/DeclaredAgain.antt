@@ -17,16 +17,13 @@ use Rattle.canon_text.proofs.Told.{all_mapped, all_unmapped, all_with}
 use Rattle.canon_laws.specs.Typed.{IsTyped}
 use Rattle.canon_laws.proofs.Documents.{set_pairs, set_same}
 use Rattle.canon_faults.specs.Declared.{IsSoundlyDeclared}
-use Rattle.canon_faults.proofs.Alike.{AreApart}
+use Rattle.canon_faults.proofs.Alike.{AreApart, interfaces}
 use Rattle.canon_faults.proofs.Apart.{Pairwise, pairwise_sorted}
 use Rattle.canon_faults.proofs.Good.{Pairs}
 use Rattle.canon_faults.proofs.Identified.{interface_own, uploads_own}
 use Rattle.canon_faults.proofs.NormalForms.{spelled_distinct}
 use Rattle.canon_faults.proofs.Nowhere.{no_breach}
 use Rattle.canon_faults.proofs.Uploads.{typed_so}
-
-abbrev interfaces : List Uploaded → List Interface
-interfaces us = map (λ u. u.interface) us
 
 -- ---- names in order
 pairwise_of : (ms : Pairs) → AreDistinct (map pair_name ms) → Pairwise (λ m n. pair_name m ≢ pair_name n) ms

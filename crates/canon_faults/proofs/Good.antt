@@ -95,6 +95,10 @@ module _ (x : List ℕ) (roles : List ℕ → Option Role) where
       let rest = under_keys ks ms distinct in omega arith
 
 -- ---- lists in order
+pub list_again : (vs : List Json) → list_of (elements_of vs) ≡ vs
+list_again [] = refl
+list_again (v ∷ vs) = ap (λ (ws : List Json). v ∷ ws) (list_again vs)
+
 module _ {A : Type 0} (key : A → List ℕ) where
   put_length : (x : A) (xs : List A) → length (put_by key x xs) ≡ suc (length xs)
   put_length x [] = refl

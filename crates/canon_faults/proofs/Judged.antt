@@ -20,10 +20,7 @@ use Rattle.model_read.proofs.Pairs.{mapped_back}
 use Rattle.canon_text.proofs.Elements.{any_both}
 use Rattle.canon_text.proofs.Told.{any_mapped, any_with, at_one}
 use Rattle.canon_faults.proofs.Among.{any_is, any_of_contains, contains_of_any}
-use Rattle.canon_faults.proofs.Alike.{Alike, AreApart, Finds, alike, ancestor_alike, any_placed, chain_alike, contains_one, cycle_alike, finds, leads_back_alike, moved, placed_any, reaches_alike, swapped}
-
-abbrev interfaces : List Uploaded → List Interface
-interfaces us = map (λ u. u.interface) us
+use Rattle.canon_faults.proofs.Alike.{Alike, AreApart, Finds, alike, ancestor_alike, any_placed, chain_alike, contains_one, cycle_alike, finds, leads_back_alike, moved, placed_any, reaches_alike, swapped, interfaces}
 
 -- ---- positions
 distinct_at : {A : Type 0} (xs : List A) (k l : ℕ) (x : A) → AreDistinct xs → k < l → slice_get xs k ≡ Some x → slice_get xs l ≡ Some x → ⊥
@@ -181,18 +178,38 @@ module _ (us vs : List Uploaded) (same : SameElements DeclareTheSame (interfaces
       each_pair (y ∷ ys) d all =
           (any_both HasDeclaration (λ i. DeclareTheSame i y) (λ i. Alike y i) (λ i e g. swapped i y (alike i y e d.0 g)) (interfaces us) declared all.0, each_pair ys d.1 all.1)
 
+  -- an interface of the second set, beside one of the first
+  matched : (v : Uploaded) → AnyByRecursion (λ j. j ≡ v.interface) (interfaces vs)
+      → (k : ℕ) × (u : Uploaded) × (slice_get us k ≡ Some u) × Alike u.interface v.interface
+  matched v among =
+      let some = moved (λ j i. Alike j i) (λ j. j ≡ v.interface) (λ i. Alike v.interface i) (interfaces vs) (interfaces us)
+      (λ j i is like. subst (λ (z : Interface). Alike z i) is like) out_of among in
+      let (i, inside, back_like) = any_is (λ i. Alike v.interface i) (interfaces us) some in
+      let (k, i_at) = any_placed (interfaces us) i inside in
+      let (u, u_at, u_is) = mapped_back (λ (x : Uploaded). x.interface) us k i i_at in
+      (k, u, u_at, subst (λ (z : Interface). Alike z v.interface) (sym u_is) (swapped v.interface i back_like))
+
+  breaks_none : IsSound [] us → (k : ℕ) (u : Uploaded) → slice_get us k ≡ Some u → (rule : SetRule) (spot : Spot)
+      → Breaks (interfaces us) (interfaces (take k us)) u.interface rule spot → ⊥
+  breaks_none sound k u at rule spot breaks = sound (record { index = k; rule = rule; spot = spot }) (u, at, breaks)
+
+  free_of : (l : ℕ) (v : Uploaded) → slice_get vs l ≡ Some v → RepeatsId (interfaces (take l vs)) v.interface → ⊥
+  free_of l v at (e, inside, one_id) = none_repeats vs l v distinct at
+      (any_with (λ f. f ≡ e) (λ f. HaveOneId f v.interface) (λ f is. subst (λ (z : Interface). HaveOneId z v.interface) (sym is) one_id)
+      (interfaces (take l vs)) (any_of_contains (interfaces (take l vs)) e inside))
+
+  among_them : (l : ℕ) (v : Uploaded) → slice_get vs l ≡ Some v → AnyByRecursion (λ j. j ≡ v.interface) (interfaces vs)
+  among_them l v at = any_mapped (λ (u : Uploaded). u.interface) (λ j. j ≡ v.interface) vs
+      (any_with (λ u. u ≡ v) (λ u. u.interface ≡ v.interface) (λ u e. ap (λ (x : Uploaded). x.interface) e) vs (placed_any vs l v at))
+
+  distinct_parents : (v : Uploaded) → AnyByRecursion (λ j. j ≡ v.interface) (interfaces vs) → AreDistinct v.interface.parents
+  distinct_parents v among = at_one HasDeclaration (λ j. j ≡ v.interface) (AreDistinct v.interface.parents) (interfaces vs)
+      (λ j d is. subst (λ (z : Interface). AreDistinct z.parents) is d.parents) declares among
+
   pub sound_alike : IsSound [] us → IsSound [] vs
   sound_alike sound b (v, at, broken) =
-      let j_among = any_mapped (λ (u : Uploaded). u.interface) (λ i. i ≡ v.interface) vs (any_with (λ u. u ≡ v) (λ u. u.interface ≡ v.interface) (λ u e. ap (λ (x : Uploaded). x.interface) e) vs (placed_any vs b.index v at)) in
-      let some = moved (λ j i. Alike j i) (λ j. j ≡ v.interface) (λ i. Alike v.interface i) (interfaces vs) (interfaces us) (λ j i is r. subst (λ (z : Interface). Alike z i) is r) out_of j_among in
-      let (i, among, back_like) = any_is (λ i. Alike v.interface i) (interfaces us) some in
-      let (k, i_at) = any_placed (interfaces us) i among in
-      let (u, u_at, u_is) = mapped_back (λ (x : Uploaded). x.interface) us k i i_at in
-      let parents = at_one HasDeclaration (λ j. j ≡ v.interface) (AreDistinct v.interface.parents) (interfaces vs) (λ j d is. subst (λ (z : Interface). AreDistinct z.parents) is d.parents) declares j_among in
+      let among = among_them b.index v at in
+      let (k, u, u_at, like) = matched v among in
       judged (interfaces us) (interfaces vs) (finds (interfaces us) (interfaces vs) distinct into) (finds (interfaces vs) (interfaces us) apart out_of)
-      i v.interface (swapped v.interface i back_like) (interfaces (take k us))
-      (λ rule spot breaks. sound (record { index = k; rule = rule; spot = spot }) (u, u_at, subst (λ (x : Interface). Breaks (interfaces us) (interfaces (take k us)) x rule spot) (sym u_is) breaks))
-      parents (interfaces (take b.index vs))
-      (λ repeats. none_repeats vs b.index v distinct at (any_with (λ e. e ≡ repeats.0) (λ e. HaveOneId e v.interface) (λ e is. subst (λ (z : Interface). HaveOneId z v.interface) (sym is) repeats.2)
-      (interfaces (take b.index vs)) (any_of_contains (interfaces (take b.index vs)) repeats.0 repeats.1)))
+      u.interface v.interface like (interfaces (take k us)) (breaks_none sound k u u_at) (distinct_parents v among) (interfaces (take b.index vs)) (free_of b.index v at)
       b.rule b.spot broken

@@ -4,7 +4,7 @@ use Rattle.std.specs.Prelude.{codes, Contains}
 use Rattle.std.specs.List.{AllByRecursion}
 use Rattle.dtmi_name.specs.Grammar.{Identifier, OwnDtmiText, dtmi_text}
 use Rattle.json_decimal.specs.Number.{Number}
-use Rattle.json_tree.specs.Values.{Json, text, object, Elements, elements_of, Members}
+use Rattle.json_tree.specs.Values.{Json, text, object, Elements, Members}
 use Rattle.dtdl_terms.specs.Terms.{SchemaTerm, primitive, named, array_of, enumeration, map_of, object_of}
 use Rattle.dtdl_terms.specs.TermViews.{schema_term}
 use Rattle.dtdl_terms.specs.Equality.{AnyByRecursion}
@@ -29,7 +29,7 @@ use Rattle.canon_text.specs.Canonical.{schema_value, schema_pair}
 use Rattle.canon_text.specs.Machinery.Pairs.{pair_name, pair_value}
 use Rattle.canon_text.proofs.Told.{any_with, at_one, any_mapped, any_unmapped, any_sorted, sorted_any}
 use Rattle.canon_faults.proofs.Among.{find_passes, find_some, any_is, any_of_contains, contains_of_any, zip_any, any_zip, one_known}
-use Rattle.canon_faults.proofs.Good.{Pairs}
+use Rattle.canon_faults.proofs.Good.{Pairs, list_again}
 use Rattle.canon_faults.proofs.Named.{IsNamed, canonical_id, canonical_inner, canonical_kind, declared_id, declared_inner, declared_kind, has_by, inner_schemas, kind_of_schema, named_by}
 
 -- ---- identifiers
@@ -61,10 +61,6 @@ same_text (object_of c fs) v bytes g is = absurd cc
 entries_of_list : (o : Option Json) (vs : Elements Number) → AreEntriesOf o vs → entries_under o ≡ list_of vs
 entries_of_list None vs g = ap list_of (sym g)
 entries_of_list (Some v) vs g = ap (λ (w : Json). entries_under (Some w)) g
-
-list_again : (vs : List Json) → list_of (elements_of vs) ≡ vs
-list_again [] = refl
-list_again (v ∷ vs) = ap (λ (ws : List Json). v ∷ ws) (list_again vs)
 
 canonical_entries : (ps : Pairs) → entries_under (unless_empty list_in_order ps) ≡ map pair_value (sorted_by pair_name ps)
 canonical_entries [] = refl

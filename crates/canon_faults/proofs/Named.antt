@@ -6,7 +6,7 @@ use Rattle.std.specs.List.{AllByRecursion}
 use Rattle.std.proofs.lemmas.Slice.Eq.{bytes_eq-Decides}
 use Rattle.dtmi_name.specs.Grammar.{Identifier, dtmi_text}
 use Rattle.json_decimal.specs.Number.{Number}
-use Rattle.json_tree.specs.Values.{Json, text, Elements, no_elements, element, elements_of, Members, members_of}
+use Rattle.json_tree.specs.Values.{Json, text, Elements, no_elements, element, Members, members_of}
 use Rattle.dtdl_terms.specs.Terms.{SchemaTerm, primitive, named, array_of, enumeration, map_of, object_of, PayloadTerm, payload, PayloadTerms, no_payloads, more_payloads}
 use Rattle.dtdl_terms.specs.Equality.{AnyByRecursion}
 use Rattle.dtdl_terms.specs.Distinct.{schema_id}
@@ -28,7 +28,7 @@ use Rattle.canon_text.specs.Machinery.Pairs.{pair_name, pair_value}
 use Rattle.canon_text.proofs.Told.{all_with, any_unmapped, sorted_any}
 use Rattle.canon_laws.proofs.Tables.{at, first_some, found, id_told}
 use Rattle.canon_faults.proofs.Among.{answer_of, has_answer}
-use Rattle.canon_faults.proofs.Good.{Parts}
+use Rattle.canon_faults.proofs.Good.{Parts, list_again}
 
 -- ---- complex schemas by the tables of their members
 abbrev pub table : List ℕ → Common → Parts → Parts
@@ -121,13 +121,6 @@ payload_schema_at : (p : PayloadTerm) → value_in (codes "schema") (payload_val
 payload_schema_at (payload n c s) =
     let ps : Parts = element_parts None c ++ (codes "name", Some (text n)) ∷ (codes "schema", Some (schema_value s)) ∷ [] in
     under (codes "schema") ps (Some (schema_value s)) refl
-
-list_again : (vs : List Json) → list_of (elements_of vs) ≡ vs
-list_again [] = refl
-list_again (v ∷ vs) = ap (λ (ws : List Json). v ∷ ws) (list_again vs)
-
-same_inside : (v w p : Json) → Some v ≡ Some w → Some v ≡ Some p → w ≡ p
-same_inside v w p e f = cc
 
 field_schema : (p : Json) (fs : PayloadTerms) → AnyByRecursion (λ m. value_in (codes "schema") (pair_value m) ≡ Some p) (payload_pairs fs)
     → AnyByRecursion (λ t. schema_value t ≡ p) (schemas_of_payloads fs)
