@@ -11,6 +11,6 @@ mod refusal;
 mod run;
 mod status;
 
-pub use laws::{declared_set, equal_texts, one_answer, one_input};
+pub use laws::{declared_set, equal_texts, one_answer, one_input, prints_itself};
 pub use run::run_plain;
 pub use status::Status;
