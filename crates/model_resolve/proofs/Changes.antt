@@ -62,28 +62,28 @@ resolved_by s t i r ancestors contents parts sources inside l = record {
 
 -- ---- a smaller set and a larger one
 module _ (small large : List Interface) (within : IsWithin small large) (whole : LacksNone small) where
-  known : (p : Identifier) → (interface_at p small ≡ None → ⊥) → (j : Interface) → interface_at p large ≡ Some j → interface_at p small ≡ Some j
+  pub known : (p : Identifier) → (interface_at p small ≡ None → ⊥) → (j : Interface) → interface_at p large ≡ Some j → interface_at p small ≡ Some j
   known p some j found = by (interface_at p small) refl
     where
       by : (o : Option Interface) → interface_at p small ≡ o → interface_at p small ≡ Some j
       by None e = absurd (some e)
       by (Some q) e = e ∙ ap Some (same_Some q j (sym (within p q e) ∙ found))
 
-  parent_down : (i j : Interface) → IsThere small i → IsParent large i j → IsParent small i j
+  pub parent_down : (i j : Interface) → IsThere small i → IsParent large i j → IsParent small i j
   parent_down i j there (p, (k, low, is), found) =
       (p, (k, low, is), known p (λ none. (whole i k there).0 (p, get_placed i.parents p k low is, none)) j found)
 
-  chain_up : (i : Interface) (js : List Interface) → IsChain small i js → IsChain large i js
+  pub chain_up : (i : Interface) (js : List Interface) → IsChain small i js → IsChain large i js
   chain_up i [] chain = tt
   chain_up i (j ∷ js) ((p, named, found), chain) = ((p, named, within p j found), chain_up j js chain)
 
-  chain_down : (i : Interface) (js : List Interface) → IsThere small i → IsChain large i js → IsChain small i js
+  pub chain_down : (i : Interface) (js : List Interface) → IsThere small i → IsChain large i js → IsChain small i js
   chain_down i [] there chain = tt
   chain_down i (j ∷ js) there (step, chain) =
       let own : IsParent small i j = parent_down i j there step in
       (own, chain_down j js (stands small own.0 j own.2) chain)
 
-  same_ancestors : (i a : Interface) → IsThere small i → IsAncestor small i a ↔ IsAncestor large i a
+  pub same_ancestors : (i a : Interface) → IsThere small i → IsAncestor small i a ↔ IsAncestor large i a
   same_ancestors i a there = (λ up. (up.0, chain_up i up.0 up.1, up.2), λ up. (up.0, chain_down i up.0 there up.1, up.2))
 
   same_contents : (i : Interface) (r : ResolvedContent) → IsThere small i → Has small i r ↔ Has large i r
@@ -99,7 +99,7 @@ module _ (small large : List Interface) (within : IsWithin small large) (whole :
   same_parts : (i q : Interface) → IsThere small i → HasPart small i q ↔ HasPart large i q
   same_parts i q there = (λ h. (h.0, h.1, (same_contents i h.0 there).0 h.2, h.3, within h.1 q h.4), part_down i q there)
 
-  part_stands : (i q : Interface) → HasPart small i q → IsThere small q
+  pub part_stands : (i q : Interface) → HasPart small i q → IsThere small q
   part_stands i q h = stands small h.1 q h.4
 
   source_up : (i a : Interface) → IsThere small i → IsSource small i a → IsSource large i a
@@ -126,7 +126,7 @@ lacks_none set sound i k there =
     (λ h. sound at.0 i rules.AbsentReference (spots.Parent k) at.1 h, λ h. sound at.0 i rules.AbsentReference (spots.ContentSchema k) at.1 h)
 
 -- ---- entries
-entry_changes : (s t : List Interface) (o : Option Interface) (e : Option Resolved) → ((i : Interface) (r : Resolved) → o ≡ Some i → IsResolved s i r → IsResolved t i r) → EntryOf s o e → EntryOf t o e
+pub entry_changes : (s t : List Interface) (o : Option Interface) (e : Option Resolved) → ((i : Interface) (r : Resolved) → o ≡ Some i → IsResolved s i r → IsResolved t i r) → EntryOf s o e → EntryOf t o e
 entry_changes s t None None f h = tt
 entry_changes s t None (Some r) f h = absurd h
 entry_changes s t (Some i) None f h = absurd h
@@ -137,7 +137,7 @@ no_entry set None None is h = refl
 no_entry set None (Some r) is h = absurd h
 no_entry set (Some i) e is h = absurd (none-some i (sym is))
 
-all_map : {X : Type 0} (P Q : X → Type 0) (xs : List X) → ((x : X) → P x → Q x) → AllByRecursion P xs → AllByRecursion Q xs
+pub all_map : {X : Type 0} (P Q : X → Type 0) (xs : List X) → ((x : X) → P x → Q x) → AllByRecursion P xs → AllByRecursion Q xs
 all_map P Q [] f all = tt
 all_map P Q (x ∷ xs) f all = (f x all.0, all_map P Q xs f all.1)
 
@@ -153,20 +153,20 @@ with_more old new ids table sound within fresh others all = record {
 }
 
 -- ---- an interface that goes
-ids_total : IsTotalOrder id_cmp
+pub ids_total : IsTotalOrder id_cmp
 ids_total = on_total dtmi_text nat_list_cmp_total
 
 same_test : (id x y : Identifier) → is_at (id_cmp id) x ≡ true → is_at (id_cmp id) y ≡ eq_by_cmp id_cmp x y
 same_test id x y h = ap (λ t. is_eq (C t (dtmi_text y))) (same_spelling (dtmi_text id) (dtmi_text x) h)
 
-taken_out : {V : Type 0} (id q : Identifier) (es : List (Identifier × V)) → IsStrictlySortedBy id_cmp (keys_of es) → lookup (is_at (id_cmp q)) (remove_entry (is_at (id_cmp id)) es) ≡ cond (is_eq (id_cmp id q)) None (lookup (is_at (id_cmp q)) es)
+pub taken_out : {V : Type 0} (id q : Identifier) (es : List (Identifier × V)) → IsStrictlySortedBy id_cmp (keys_of es) → lookup (is_at (id_cmp q)) (remove_entry (is_at (id_cmp id)) es) ≡ cond (is_eq (id_cmp id q)) None (lookup (is_at (id_cmp q)) es)
 taken_out id q es sorted = lookup-remove_entry (eq_by_cmp_equiv ids_total) (is_at (id_cmp id)) (same_test id) q es (IsDistinct-from_sorted id_cmp (keys_of es) sorted)
 
-keys_keyed : (is : List Interface) → map (λ (i : Interface). i.id) is ≡ keys_of (keyed is)
+pub keys_keyed : (is : List Interface) → map (λ (i : Interface). i.id) is ≡ keys_of (keyed is)
 keys_keyed [] = refl
 keys_keyed (i ∷ is) = ap (λ ids. i.id ∷ ids) (keys_keyed is)
 
-left : (id q : Identifier) (set : List Interface) → InOrder set → interface_at q (without_interface id set) ≡ cond (is_eq (id_cmp id q)) None (interface_at q set)
+pub left : (id q : Identifier) (set : List Interface) → InOrder set → interface_at q (without_interface id set) ≡ cond (is_eq (id_cmp id q)) None (interface_at q set)
 left id q set sorted =
     ap (lookup (is_at (id_cmp q))) (sym (remove-keyed (is_at (id_cmp id)) set)) ∙ taken_out id q (keyed set) (subst (IsStrictlySortedBy id_cmp) (keys_keyed set) sorted)
 

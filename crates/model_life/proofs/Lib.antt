@@ -1,0 +1,12 @@
+pub mod Using
+pub mod Linking
+pub mod Summing
+pub mod Recorded
+pub mod Seen
+pub mod Taking
+pub mod Whole
+pub mod Growing
+pub mod Leaving
+pub mod Joining
+pub mod Least
+pub mod Refused

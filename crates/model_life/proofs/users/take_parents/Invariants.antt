@@ -1,0 +1,8 @@
+use Rattle.std.proofs.Common.{◌≡◌, cond, ◌&&◌, take, None}
+use Rattle.std.specs.List.{list_any}
+use Rattle.dtmi_name.specs.Grammar.{Identifier, id_eq}
+use Rattle.model_life.specs.Machinery.Keeping.{user_at}
+use Rattle.model_life.proofs.users.take_parents.Given as goal
+
+abbrev pub invariant-parents : goal.invariant-parents
+invariant-parents l = (t u : Identifier) → user_at t u l.users ≡ cond (list_any (id_eq t) (take l.parent-index l.parents) && id_eq u l.user) None (user_at t u l.fn.users)

@@ -1,0 +1,8 @@
+use Rattle.std.proofs.Common.{◌≡◌, take, cond, None}
+use Rattle.dtmi_name.specs.Grammar.{Identifier}
+use Rattle.set_laws.specs.Changing.{is_one_of}
+use Rattle.model_life.specs.Machinery.Keeping.{user_at}
+use Rattle.model_life.proofs.users.unlink_all.Given as goal
+
+abbrev pub invariant-ids : goal.invariant-ids
+invariant-ids l = (used user : Identifier) → user_at used user l.users ≡ cond (is_one_of (take l.id-index l.ids) user) None (user_at used user l.fn.users)

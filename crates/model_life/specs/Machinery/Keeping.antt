@@ -1,0 +1,117 @@
+-- What is kept beside the set of interfaces: a record for each, who uses whom, and running sums.
+use Rattle.std.specs.Prelude.{◌≡◌, ℕ, ◌+◌, ◌-◌, ◌^◌, ◌≤◌, min, List, length, Bool, true, false, cond, Option, Some, None, map}
+use Rattle.std.specs.Option.{IsSomeAnd}
+use Rattle.std.specs.List.{AllByRecursion, sum_by}
+use Rattle.std.specs.Map.{lookup}
+use Rattle.std.specs.BTreeMap.{is_at}
+use Rattle.ordered_table.specs.Rows.{pair_cmp}
+use Rattle.dtmi_name.specs.Grammar.{Identifier, dtmi_text, id_cmp}
+use Rattle.dtdl_terms.specs.Distinct.{HasDeclaration}
+use Rattle.dtdl_terms.specs.Sets.{InOrder, interface_at}
+use Rattle.dtdl_terms.specs.declared.interface.Interface.{Interface}
+use Rattle.dtdl_terms.specs.declared.resolved.Resolved.{Resolved}
+use Rattle.extend_resolve.specs.Breaches.{BreaksNoRule}
+use Rattle.model_resolve.specs.Resolving.{entry_at, ResolvesAll}
+use Rattle.model_life.specs.Models.{Model, model_of, uses}
+use Rattle.model_life.specs.Sums.{text_bytes, bytes_of}
+use Rattle.model_life.specs.declared.records.Record.{Record}
+
+-- ---- records
+abbrev pub record_at : Identifier → List (Identifier × Record) → Option Record
+record_at id es = lookup (is_at (id_cmp id)) es
+
+abbrev pub is_marked : Option Record → Bool
+is_marked None = false
+is_marked (Some r) = r.decommissioned
+
+-- the models: each interface with the mark of its record
+abbrev pub mark_at : Identifier → List (Identifier × Record) → Bool
+mark_at id es = is_marked (record_at id es)
+
+abbrev pub models_of : List Interface → List (Identifier × Record) → List Model
+models_of set es = map (λ i. model_of i (mark_at i.id es)) set
+
+-- the record of an interface that comes
+abbrev pub fresh : Interface → Record
+fresh i = record { text = dtmi_text i.id; decommissioned = false; bytes = text_bytes i }
+
+pub record IsRecord (i : Interface) (r : Record) : Type 0 where
+  pub text : r.text ≡ dtmi_text i.id
+  pub bytes : r.bytes ≡ text_bytes i
+
+abbrev pub RecordOf : Option Interface → Option Record → Type 0
+RecordOf None None = Unit {0}
+RecordOf None (Some r) = ⊥
+RecordOf (Some i) None = ⊥
+RecordOf (Some i) (Some r) = IsRecord i r
+
+-- the text that is kept of an identifier
+abbrev pub HasText : List (Identifier × Record) → Identifier → Type 0
+HasText es id = IsSomeAnd (record_at id es) (λ r. r.text ≡ dtmi_text id)
+
+-- ---- who uses whom
+abbrev pub Users : Type 0
+Users = List ((List ℕ × Identifier) × Unit {0})
+
+abbrev pub user_at : Identifier → Identifier → Users → Option (Unit {0})
+user_at used user us = lookup (is_at (pair_cmp id_cmp (dtmi_text used, user))) us
+
+abbrev pub use_of : Identifier → Option Interface → Option (Unit {0})
+use_of used None = None
+use_of used (Some i) = cond (uses used i) (Some tt) None
+
+-- Each identifier that an interface of the set uses has its text.
+abbrev pub HaveTexts : List Interface → List (Identifier × Record) → Type 0
+HaveTexts set es = (i : Interface) (t : Identifier) → interface_at i.id set ≡ Some i → uses t i ≡ true → HasText es t
+
+-- No more is there than interfaces of the set use.
+abbrev pub UsersAreWithin : List Interface → Users → Type 0
+UsersAreWithin set us = (used user : Identifier) → use_of used (interface_at user set) ≡ None → user_at used user us ≡ None
+
+-- ---- what agrees with the set
+pub record Fits (set : List Interface) (es : List (Identifier × Record)) (us : Users) : Type 0 where
+  pub records : (id : Identifier) → RecordOf (interface_at id set) (record_at id es)
+  pub users : (used user : Identifier) → user_at used user us ≡ use_of used (interface_at user set)
+
+-- ---- sums
+-- a sum as a number of 64 bits holds it
+abbrev pub capped : ℕ → ℕ
+capped n = min n (2 ^ 64 - 1)
+
+abbrev pub bytes_at : Option Record → ℕ
+bytes_at None = 0
+bytes_at (Some r) = r.bytes
+
+abbrev pub recorded : List (Identifier × Record) → List Identifier → ℕ
+recorded es ids = sum_by (λ id. bytes_at (record_at id es)) ids
+
+-- what the line of an interface takes, and what it takes with the lines of its parts
+abbrev pub line_in : (List Identifier → ℕ) → Option Resolved → ℕ
+line_in bytes None = 0
+line_in bytes (Some r) = bytes r.ancestors
+
+abbrev pub line_at : (List Identifier → ℕ) → List (Identifier × Resolved) → Identifier → ℕ
+line_at bytes table id = line_in bytes (entry_at id table)
+
+abbrev pub share_in : (List Identifier → ℕ) → List (Identifier × Resolved) → Option Resolved → ℕ
+share_in bytes table None = 0
+share_in bytes table (Some r) = bytes r.ancestors + sum_by (λ part. line_at bytes table part.of) r.parts
+
+abbrev pub share_at : (List Identifier → ℕ) → List (Identifier × Resolved) → Identifier → ℕ
+share_at bytes table id = share_in bytes table (entry_at id table)
+
+abbrev pub shares : List Interface → List (Identifier × Resolved) → ℕ
+shares set table = sum_by (λ i. share_at (bytes_of set) table i.id) set
+
+-- ---- what models keep
+pub record IsKept (set : List Interface) (es : List (Identifier × Record)) (us : Users) (table : List (Identifier × Resolved)) (bytes resolved : ℕ) : Type 0 where
+  pub rules : BreaksNoRule set
+  pub ordered : InOrder set
+  pub declared : AllByRecursion HasDeclaration set
+  pub fits : Fits set es us
+  pub entries : ResolvesAll set table
+  pub sum : bytes ≡ sum_by text_bytes set
+  pub total : resolved ≡ shares set table
+  pub few : length set ≤ 10000
+  pub small : bytes ≤ 67108864
+  pub bounded : resolved ≤ 268435456

@@ -1,0 +1,4 @@
+pub mod Apart
+pub mod Looking
+pub mod Standing
+pub mod Sound
