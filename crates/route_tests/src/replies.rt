@@ -147,6 +147,12 @@ fn refusals_of_states(rt: HostRuntime) -> Result<(), Fail> {
         end.as_str(),
         "409  {\"error\":{\"code\":\"TwinInUse\",\"id\":\"m1\",\"source\":\"r1\"}}"
     );
+    Ok(())
+}
+
+#[test]
+fn refusals_of_limits(rt: HostRuntime) -> Result<(), Fail> {
+    let alloc = rt.alloc();
     let most = refused(alloc, &Refusal::Multiplicity { max: 1 })?;
     assert_eq!(rt;
         most.as_str(),
