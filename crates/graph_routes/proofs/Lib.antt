@@ -1,0 +1,11 @@
+pub mod Walks
+pub mod Sought
+pub mod Hits
+pub mod Stands
+pub mod Taken
+pub mod OneMatch
+pub mod OnePrepared
+pub mod DistinctKeys
+pub mod Ordinals
+pub mod SoundModels
+pub mod SoundAsks

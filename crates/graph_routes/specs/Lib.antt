@@ -1,0 +1,9 @@
+pub mod Paths
+pub mod Methods
+pub mod Parts
+pub mod Bodies
+pub mod Prepared
+pub mod Errors
+pub mod Responses
+pub mod Soundness
+pub mod Machinery

@@ -1,0 +1,3 @@
+-- What the private clauses speak of. No public contract names these words.
+pub mod Rows
+pub mod Groups

@@ -1,0 +1,31 @@
+//! What the definitions of prepared requests say, whatever is asked.
+
+ghost use Rattle.std.specs.Prelude.{◌≡◌};
+ghost use Rattle.http_ends.specs.declared.request.Request.{Request};
+ghost use Rattle.graph_routes.specs.Prepared.{IsPrepared};
+ghost use Rattle.graph_routes.specs.Responses.{ListsMethods};
+ghost use Rattle.graph_routes.specs.Soundness.{IsSoundAsk};
+ghost use Rattle.graph_routes.specs.declared.prepared.Prepared.{Prepared};
+ghost use Rattle.graph_routes.specs.declared.prepared.Prepared.TheVariants as made;
+ghost use Rattle.graph_asks.specs.declared.ask.Ask.{Ask};
+ghost use Rattle.graph_asks.specs.declared.refusal.Refusal.{Refusal};
+
+use canon_laws::have_types;
+use json_decimal::one_number;
+use twin_patch::one_answer;
+
+/// A request makes at most one ask, or its bytes decide at most one refusal, and never both.
+pub fn one_prepared()
+    ensures { (request : Request) (p q : Prepared) → IsPrepared request p → IsPrepared request q → p ≡ q }
+{
+    one_number();
+    one_answer();
+}
+
+/// What is made of a request can be used: an ask is sound, and a refusal can be written as a reply.
+pub fn prepared_is_right()
+    ensures sound { (request : Request) (ask : Ask) → IsPrepared request (made.Ask ask) → IsSoundAsk ask }
+    ensures written { (request : Request) (refusal : Refusal) → IsPrepared request (made.Own refusal) → ListsMethods refusal }
+{
+    have_types();
+}

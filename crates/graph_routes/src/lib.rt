@@ -1,0 +1,20 @@
+//! Which ask of the graph an HTTP request makes, or which refusal its own bytes decide, and the responses of replies.
+#![tactic(auto)]
+
+mod asks;
+mod bodies;
+mod errors;
+mod laws;
+mod method;
+mod parts;
+mod prepared;
+mod responses;
+mod route;
+mod router;
+
+pub use laws::{one_prepared, prepared_is_right};
+pub use method::Method;
+pub use prepared::Prepared;
+pub use responses::{response_of, response_of_refusal};
+pub use route::Route;
+pub use router::Routes;

@@ -1,0 +1,151 @@
+//! The router of the paths, and what is made of requests.
+
+ghost use Rattle.std.specs.Prelude.{◌≡◌, [], ◌∷◌, ℕ, List, IfOk, OnOk, Ok, MatchOption};
+ghost use Rattle.std.specs.Str.{IsUtf8};
+ghost use Rattle.matchit.specs.Params.{walk};
+ghost use Rattle.matchit.specs.Route.{parse_route};
+ghost use Rattle.matchit.specs.Router.{InsertsRead};
+ghost use Rattle.graph_routes.specs.Paths.{Matches};
+ghost use Rattle.graph_routes.specs.Prepared.{AsksOf, IsPrepared};
+ghost use Rattle.graph_routes.specs.declared.route.Route.{Route};
+
+use crate::asks::asked;
+use crate::method::{allow_text, has_method, method_named};
+use crate::prepared::Prepared;
+use crate::route::Route;
+use dt_base::{OutOfMemory, Text};
+use graph_asks::Refusal;
+use http_ends::Request;
+use matchit::{Params, Router};
+use std::alloc::Global;
+use std::marker::Model;
+
+/// The router of all paths.
+#[derive(Drop)]
+pub struct Routes {
+    alloc: Global,
+    router: Router<Route>,
+}
+
+impl Model for Routes {
+    ghost use Rattle.std.specs.Prelude.{◌≡◌};
+    ghost use Rattle.matchit.specs.Rows.{RowsOf};
+    ghost use Rattle.matchit.specs.Router.{RouteOf};
+    ghost use Rattle.graph_routes.specs.declared.route.Route.{Route};
+    ghost use Rattle.graph_routes.specs.Machinery.Rows.{table};
+
+    ghost Value = { RowsOf (RouteOf Route) };
+
+    ghost view = { λ r. r.router };
+
+    ghost invariant = { λ r. r.router ≡ table };
+}
+
+/// A path of the table that was found, with the text for its first part.
+#[derive(Clone, Copy)]
+struct Found<'p> {
+    route: Route,
+    part: &'p str,
+}
+
+/// Adds a path to a router.
+fn add(router: &mut Router<Route>, path: &str, route: Route) -> Result<(), OutOfMemory>
+    ensures { OnOk result (InsertsRead (parse_route path.now) route router.old router.new (Ok tt)) }
+{
+    match router.insert(path, route) {
+        Ok(()) => Ok(()),
+        Err(_) => Err(OutOfMemory),
+    }
+}
+
+/// The text for the first part of a path.
+fn first_part<'p>(params: &Params<'_, 'p>) -> &'p str
+    ensures { (p : List ℕ × List ℕ) (rest : List (List ℕ × List ℕ))
+        → walk params.now.pattern.now params.now.text.now params.now.path.now params.now.names.now 0 0 ≡ p ∷ rest → IsUtf8 p.1 → result.now ≡ p.1 }
+{
+    match params.iter().next() {
+        Some((_, part)) => part,
+        None => "",
+    }
+}
+
+/// What is asked of a path of the table.
+fn asked_of(alloc: Global, found: Found<'_>, request: &Request) -> Result<Prepared, OutOfMemory>
+    ensures { IfOk result (λ answer. (parts : List (List ℕ)) → (found.entry.route ≡ Route.Model → parts ≡ found.entry.part.now ∷ []) → AsksOf found.entry.route parts request.now answer) }
+{
+    match method_named(request.method.as_str()) {
+        Some(method) if has_method(found.route, method) => {
+            asked(
+                alloc,
+                found.route,
+                method,
+                found.part,
+                request.body.as_slice(),
+            )
+        }
+        _ => Ok(Prepared::Own(Refusal::BadMethod {
+            allow: Text::from_str(alloc, allow_text(found.route))?,
+        })),
+    }
+}
+
+impl Routes {
+    /// The router of all paths. It fails only for want of memory.
+    pub fn new(alloc: Global) -> Result<Routes, OutOfMemory> {
+        let mut router = Router::new(alloc);
+        add(&mut router, "/models", Route::Models)?;
+        add(&mut router, "/models/{id}", Route::Model)?;
+        add(&mut router, "/canon", Route::Canon)?;
+        add(&mut router, "/digitaltwins/{id}", Route::Twin)?;
+        add(
+            &mut router,
+            "/digitaltwins/{id}/components/{name}",
+            Route::Component,
+        )?;
+        add(
+            &mut router,
+            "/digitaltwins/{id}/relationships",
+            Route::Relationships,
+        )?;
+        add(
+            &mut router,
+            "/digitaltwins/{id}/relationships/{rid}",
+            Route::Relationship,
+        )?;
+        add(
+            &mut router,
+            "/digitaltwins/{id}/incomingrelationships",
+            Route::IncomingRelationships,
+        )?;
+        add(&mut router, "/query", Route::Query)?;
+        Ok(Routes { alloc, router })
+    }
+
+    /// The path of the table that a path is.
+    fn find<'p>(&self, path: &'p str) -> Option<Found<'p>>
+        ensures { MatchOption result ((r : Route) (parts : List (List ℕ)) → Matches r parts path.now → ⊥)
+            (λ f. (parts : List (List ℕ)) × Matches f.route parts path.now × (f.route ≡ Route.Model → parts ≡ f.part.now ∷ [])) }
+    {
+        match self.router.at(path) {
+            Ok(found) => Some(Found {
+                route: *found.value,
+                part: first_part(&found.params),
+            }),
+            Err(_) => None,
+        }
+    }
+
+    /// The ask that a request makes, or the refusal that its own bytes decide: the path is none of the table, the path
+    /// does not have the method, what is asked for is not built, the path's part is no identifier, the body is no JSON
+    /// text, it lists more than 250 models, a model breaks a local rule, or the body is no patch; of several the first in
+    /// this order. Fails only for want of memory.
+    #[tactic(auto, unfolding(crate::specs::Prepared::IsPrepared))]
+    pub fn ask_of(&self, request: &Request) -> Result<Prepared, OutOfMemory>
+        ensures { IfOk result (IsPrepared request.now) }
+    {
+        match self.find(request.path.as_str()) {
+            Some(found) => asked_of(self.alloc, found, request),
+            None => Ok(Prepared::Own(Refusal::NoRoute)),
+        }
+    }
+}
