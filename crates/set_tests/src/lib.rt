@@ -1,6 +1,9 @@
-//! The calls of `extend_resolve` and `model_resolve` on a set of one interface, of which a proof knows that it breaks no rule.
+//! The calls of `extend_resolve` and `model_resolve` on a set of one interface, of which a proof knows that it breaks no rule,
+//! and those of `model_life` on models that come and go.
 //! They stand here, since a crate with tests of its own is proved twice.
 #![tactic(auto)]
 
+#[cfg(test)]
+mod life;
 #[cfg(test)]
 mod lone;
