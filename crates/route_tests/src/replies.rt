@@ -1,6 +1,6 @@
 //! Replies and refusals with what they tell, and their responses.
 
-use dt_base::{List, Text};
+use dt_base::{List, OutOfMemory, Text};
 use dtdl_terms::Limit;
 use graph_asks::{At, Refusal, Reply};
 use graph_routes::{response_of, response_of_refusal};
@@ -20,163 +20,121 @@ fn told(alloc: Global, response: &Response) -> Result<String, Fail> {
     Ok(format!(in alloc; "{status} {allow} {body}")?)
 }
 
-fn refused(alloc: Global, refusal: &Refusal) -> Result<String, Fail> {
+/// Whether a refusal has this response.
+fn refuses(alloc: Global, refusal: &Refusal, expected: &str) -> Result<bool, Fail> {
     let response = response_of_refusal(alloc, refusal)?;
-    told(alloc, &response)
+    let text = told(alloc, &response)?;
+    Ok(text.as_str() == expected)
 }
 
-fn replied(alloc: Global, reply: &Reply) -> Result<String, Fail> {
+/// Whether a reply has this response.
+fn replies(alloc: Global, reply: &Reply, expected: &str) -> Result<bool, Fail> {
     let response = response_of(alloc, reply)?;
-    told(alloc, &response)
+    let text = told(alloc, &response)?;
+    Ok(text.as_str() == expected)
 }
 
-#[test]
-fn replies(rt: HostRuntime) -> Result<(), Fail> {
-    let alloc = rt.alloc();
-    let body = replied(alloc, &Reply::Body(Tree::Bool(true)))?;
-    assert_eq!(rt; body.as_str(), "200  true");
-    let created = replied(alloc, &Reply::Created(Tree::List(List::new(alloc))))?;
-    assert_eq!(rt; created.as_str(), "201  []");
-    let canon = replied(
-        alloc,
-        &Reply::Canon(List::from_vec(Vec::from_slice(alloc, b"[]\n")?)),
-    )?;
-    assert_eq!(rt; canon.as_str(), "200  []\n");
-    let done = replied(alloc, &Reply::Done)?;
-    assert_eq!(rt; done.as_str(), "204  ");
+fn value_member(alloc: Global) -> Result<Tree, OutOfMemory> {
     let mut members = List::new(alloc);
     members.push(Member {
         key: Text::from_str(alloc, "value")?,
         value: Tree::List(List::new(alloc)),
     })?;
-    let object = replied(alloc, &Reply::Body(Tree::Members(members)))?;
-    assert_eq!(rt; object.as_str(), "200  {\"value\":[]}");
-    let refusal = replied(
-        alloc,
-        &Reply::Refused(Refusal::ModelExists {
-            id: Text::from_str(alloc, "dtmi:demo:Space;1")?,
-        }),
-    )?;
-    assert_eq!(rt;
-        refusal.as_str(),
-        "409  {\"error\":{\"code\":\"ModelExists\",\"id\":\"dtmi:demo:Space;1\"}}"
-    );
+    Ok(Tree::Members(members))
+}
+
+#[test]
+fn trees(rt: HostRuntime) -> Result<(), Fail> {
+    let alloc = rt.alloc();
+    let tree = value_member(alloc)?;
+    assert!(rt; replies(alloc, &Reply::Body(tree), "200  {\"value\":[]}")?);
+    let tree = Tree::List(List::new(alloc));
+    assert!(rt; replies(alloc, &Reply::Created(tree), "201  []")?);
+    assert!(rt; replies(alloc, &Reply::Done, "204  ")?);
+    Ok(())
+}
+
+#[test]
+fn canonical_text(rt: HostRuntime) -> Result<(), Fail> {
+    let alloc = rt.alloc();
+    let text = List::from_vec(Vec::from_slice(alloc, b"[]\n")?);
+    assert!(rt; replies(alloc, &Reply::Canon(text), "200  []\n")?);
+    Ok(())
+}
+
+#[test]
+fn refused_reply(rt: HostRuntime) -> Result<(), Fail> {
+    let alloc = rt.alloc();
+    let id = Text::from_str(alloc, "dtmi:demo:Space;1")?;
+    let reply = Reply::Refused(Refusal::ModelExists { id });
+    let expected = "409  {\"error\":{\"code\":\"ModelExists\",\"id\":\"dtmi:demo:Space;1\"}}";
+    assert!(rt; replies(alloc, &reply, expected)?);
     Ok(())
 }
 
 #[test]
 fn refusals_of_messages(rt: HostRuntime) -> Result<(), Fail> {
     let alloc = rt.alloc();
-    let head = refused(alloc, &Refusal::BadHead)?;
-    assert_eq!(rt; head.as_str(), "400  {\"error\":{\"code\":\"BadHead\"}}");
-    let cut = refused(alloc, &Refusal::CutOff)?;
-    assert_eq!(rt; cut.as_str(), "400  {\"error\":{\"code\":\"CutOff\"}}");
-    let coding = refused(alloc, &Refusal::TransferCoding)?;
-    assert_eq!(rt;
-        coding.as_str(),
-        "501  {\"error\":{\"code\":\"TransferCoding\"}}"
-    );
-    let long = refused(alloc, &Refusal::BodyTooLong { limit: 4194304 })?;
-    assert_eq!(rt;
-        long.as_str(),
-        "413  {\"error\":{\"code\":\"BodyTooLong\",\"limit\":4194304}}"
-    );
+    let head = "400  {\"error\":{\"code\":\"BadHead\"}}";
+    assert!(rt; refuses(alloc, &Refusal::BadHead, head)?);
+    let coding = "501  {\"error\":{\"code\":\"TransferCoding\"}}";
+    assert!(rt; refuses(alloc, &Refusal::TransferCoding, coding)?);
+    let long = "413  {\"error\":{\"code\":\"BodyTooLong\",\"limit\":4194304}}";
+    assert!(rt; refuses(alloc, &Refusal::BodyTooLong { limit: 4194304 }, long)?);
     Ok(())
 }
 
 #[test]
-fn refusals_of_bodies(rt: HostRuntime) -> Result<(), Fail> {
+fn fault_of_a_body(rt: HostRuntime) -> Result<(), Fail> {
     let alloc = rt.alloc();
-    let value = refused(
-        alloc,
-        &Refusal::BodyFault {
-            at: At::Pointer(Text::from_str(alloc, "/n")?),
-            fault: Text::from_str(alloc, "BadValue")?,
-        },
-    )?;
-    assert_eq!(rt;
-        value.as_str(),
-        "400  {\"error\":{\"at\":\"/n\",\"code\":\"BodyFault\",\"fault\":\"BadValue\"}}"
-    );
-    let query = refused(
-        alloc,
-        &Refusal::QueryFault {
-            fault: Text::from_str(alloc, "UnknownAlias")?,
-            at: Some(At::Number(35)),
-        },
-    )?;
-    assert_eq!(rt;
-        query.as_str(),
-        "400  {\"error\":{\"at\":35,\"code\":\"QueryFault\",\"fault\":\"UnknownAlias\"}}"
-    );
-    let joins = refused(
-        alloc,
-        &Refusal::QueryFault {
-            fault: Text::from_str(alloc, "TooManyJoins")?,
-            at: None,
-        },
-    )?;
-    assert_eq!(rt;
-        joins.as_str(),
-        "400  {\"error\":{\"code\":\"QueryFault\",\"fault\":\"TooManyJoins\"}}"
-    );
+    let at = At::Pointer(Text::from_str(alloc, "/n")?);
+    let fault = Text::from_str(alloc, "BadValue")?;
+    let refusal = Refusal::BodyFault { at, fault };
+    let expected = "400  {\"error\":{\"at\":\"/n\",\"code\":\"BodyFault\",\"fault\":\"BadValue\"}}";
+    assert!(rt; refuses(alloc, &refusal, expected)?);
     Ok(())
 }
 
 #[test]
-fn refusals_of_states(rt: HostRuntime) -> Result<(), Fail> {
+fn fault_of_a_query(rt: HostRuntime) -> Result<(), Fail> {
     let alloc = rt.alloc();
-    let in_use = refused(
-        alloc,
-        &Refusal::ModelInUse {
-            by: Text::from_str(alloc, "dtmi:demo:Room;1")?,
-        },
-    )?;
-    assert_eq!(rt;
-        in_use.as_str(),
-        "409  {\"error\":{\"by\":\"dtmi:demo:Room;1\",\"code\":\"ModelInUse\"}}"
-    );
-    let end = refused(
-        alloc,
-        &Refusal::TwinInUse {
-            id: Text::from_str(alloc, "m1")?,
-            source: Text::from_str(alloc, "r1")?,
-        },
-    )?;
-    assert_eq!(rt;
-        end.as_str(),
-        "409  {\"error\":{\"code\":\"TwinInUse\",\"id\":\"m1\",\"source\":\"r1\"}}"
-    );
+    let fault = Text::from_str(alloc, "UnknownAlias")?;
+    let refusal = Refusal::QueryFault {
+        fault,
+        at: Some(At::Number(35)),
+    };
+    let expected =
+        "400  {\"error\":{\"at\":35,\"code\":\"QueryFault\",\"fault\":\"UnknownAlias\"}}";
+    assert!(rt; refuses(alloc, &refusal, expected)?);
     Ok(())
 }
 
 #[test]
-fn refusals_of_limits(rt: HostRuntime) -> Result<(), Fail> {
+fn model_in_use(rt: HostRuntime) -> Result<(), Fail> {
     let alloc = rt.alloc();
-    let most = refused(alloc, &Refusal::Multiplicity { max: 1 })?;
-    assert_eq!(rt;
-        most.as_str(),
-        "409  {\"error\":{\"code\":\"Multiplicity\",\"max\":1}}"
-    );
-    let full = refused(
-        alloc,
-        &Refusal::Full {
-            limit: Limit::ModelBytes,
-        },
-    )?;
-    assert_eq!(rt;
-        full.as_str(),
-        "507  {\"error\":{\"code\":\"Full\",\"limit\":\"modelBytes\"}}"
-    );
-    let frozen = refused(
-        alloc,
-        &Refusal::Frozen {
-            model: Text::from_str(alloc, "dtmi:demo:Sensor;1")?,
-        },
-    )?;
-    assert_eq!(rt;
-        frozen.as_str(),
-        "409  {\"error\":{\"code\":\"Frozen\",\"model\":\"dtmi:demo:Sensor;1\"}}"
-    );
+    let by = Text::from_str(alloc, "dtmi:demo:Room;1")?;
+    let expected = "409  {\"error\":{\"by\":\"dtmi:demo:Room;1\",\"code\":\"ModelInUse\"}}";
+    assert!(rt; refuses(alloc, &Refusal::ModelInUse { by }, expected)?);
+    Ok(())
+}
+
+#[test]
+fn twin_in_use(rt: HostRuntime) -> Result<(), Fail> {
+    let alloc = rt.alloc();
+    let id = Text::from_str(alloc, "m1")?;
+    let source = Text::from_str(alloc, "r1")?;
+    let expected = "409  {\"error\":{\"code\":\"TwinInUse\",\"id\":\"m1\",\"source\":\"r1\"}}";
+    assert!(rt; refuses(alloc, &Refusal::TwinInUse { id, source }, expected)?);
+    Ok(())
+}
+
+#[test]
+fn limits(rt: HostRuntime) -> Result<(), Fail> {
+    let alloc = rt.alloc();
+    let most = "409  {\"error\":{\"code\":\"Multiplicity\",\"max\":1}}";
+    assert!(rt; refuses(alloc, &Refusal::Multiplicity { max: 1 }, most)?);
+    let limit = Limit::ModelBytes;
+    let full = "507  {\"error\":{\"code\":\"Full\",\"limit\":\"modelBytes\"}}";
+    assert!(rt; refuses(alloc, &Refusal::Full { limit }, full)?);
     Ok(())
 }

@@ -754,7 +754,29 @@ fn told_ask(alloc: Global, ask: &Ask) -> Result<String, Fail> {
     }
 }
 
-/// What is made of a request.
+/// The request of a method, a path and a body.
+fn request_of(alloc: Global, method: &str, path: &str, body: &str) -> Result<Request, Fail> {
+    Ok(Request {
+        method: Text::from_str(alloc, method)?,
+        path: Text::from_str(alloc, path)?,
+        query: Text::from_str(alloc, "")?,
+        body: List::from_vec(Vec::from_slice(alloc, body.as_bytes())?),
+        close: false,
+    })
+}
+
+/// What is made of a request, in words.
+fn told_prepared(alloc: Global, prepared: &Prepared) -> Result<String, Fail> {
+    match prepared {
+        Prepared::Ask(ask) => told_ask(alloc, ask),
+        Prepared::Own(refusal) => {
+            let response = response_of_refusal(alloc, refusal)?;
+            told_response(alloc, &response)
+        }
+    }
+}
+
+/// What is made of the request of a method, a path and a body.
 fn told(
     alloc: Global,
     routes: &Routes,
@@ -762,20 +784,9 @@ fn told(
     path: &str,
     body: &str,
 ) -> Result<String, Fail> {
-    let request = Request {
-        method: Text::from_str(alloc, method)?,
-        path: Text::from_str(alloc, path)?,
-        query: Text::from_str(alloc, "")?,
-        body: List::from_vec(Vec::from_slice(alloc, body.as_bytes())?),
-        close: false,
-    };
-    match routes.ask_of(&request)? {
-        Prepared::Ask(ask) => told_ask(alloc, &ask),
-        Prepared::Own(refusal) => {
-            let response = response_of_refusal(alloc, &refusal)?;
-            told_response(alloc, &response)
-        }
-    }
+    let request = request_of(alloc, method, path, body)?;
+    let prepared = routes.ask_of(&request)?;
+    told_prepared(alloc, &prepared)
 }
 
 #[test]
