@@ -1,0 +1,25 @@
+//! Refusals that several asks have.
+
+ghost use Rattle.std.specs.Prelude.{◌≡◌, IfOk};
+ghost use Rattle.dtmi_name.specs.Grammar.{dtmi_text};
+
+use dt_base::{OutOfMemory, Text};
+use dtmi_name::Dtmi;
+use graph_asks::{Refusal, Reply};
+use std::alloc::Global;
+
+/// The text of an identifier.
+pub(crate) fn id_text(alloc: Global, id: &Dtmi) -> Result<Text, OutOfMemory>
+    ensures { IfOk result (λ text. text ≡ dtmi_text id.now) }
+{
+    Text::from_str(alloc, id.as_str())
+}
+
+/// There is no model with this identifier.
+pub(crate) fn model_not_found(alloc: Global, id: &Dtmi) -> Result<Reply, OutOfMemory>
+    ensures { IfOk result (λ reply. reply ≡ Reply.Refused (Refusal.ModelNotFound (dtmi_text id.now))) }
+{
+    Ok(Reply::Refused(Refusal::ModelNotFound {
+        id: id_text(alloc, id)?,
+    }))
+}

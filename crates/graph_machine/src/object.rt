@@ -1,0 +1,49 @@
+//! The machine as an object that answers one ask at a time.
+
+ghost use Rattle.std.specs.Prelude.{◌≡◌, IfOk, IsOk, OnErr};
+ghost use Rattle.graph_asks.specs.Answers.{done};
+ghost use Rattle.graph_steps.specs.Soundness.{IsSound};
+ghost use Rattle.graph_steps.specs.Steps.{Allows, Answers, follows};
+ghost use Rattle.graph_steps.specs.States.{State};
+ghost use Rattle.graph_machine.specs.Built.{IsBuilt, NeedsNoMemory};
+ghost use Rattle.graph_machine.specs.Held.{state_of};
+
+use crate::machine::Machine;
+use dt_base::{Object, OutOfMemory};
+use graph_asks::{Ask, Reply};
+
+impl Object for Machine {
+    type Ask = Ask;
+
+    type Reply = Reply;
+
+    ghost State = { State };
+
+    ghost state = { state_of };
+
+    ghost sound = { λ ask. IsSound ask × IsBuilt ask };
+
+    ghost allowed = { Allows };
+
+    ghost follows = { follows };
+
+    /// Answers an ask. The answer and the state that follows are those of the step of the graph. `Err` is want of memory,
+    /// and nothing changes; a mark and a drop that are done take no memory.
+    fn step(&mut self, ask: &Ask) -> Result<Reply, OutOfMemory>
+        requires sound { IsSound ask.now × IsBuilt ask.now }
+        ensures allowed { IfOk result (Allows (state_of self.old) ask.now) }
+        ensures follows { IfOk result (λ reply. state_of self.new ≡ follows (state_of self.old) ask.now reply) }
+        ensures unchanged { OnErr result (state_of self.new ≡ state_of self.old) }
+        ensures free { NeedsNoMemory ask.now → Answers (state_of self.old) ask.now done → IsOk result }
+    {
+        match ask {
+            Ask::PutModels { models } => self.put_models(models.as_slice()),
+            Ask::GetModel { id } => self.get_model(id),
+            Ask::ListModels => self.list_models(),
+            Ask::Mark { id, on } => self.mark(id, *on),
+            Ask::DropModel { id } => self.drop_model(id),
+            Ask::Canon => self.canon(),
+            _ => unreachable!(),
+        }
+    }
+}
