@@ -7,11 +7,11 @@ use Rattle.std.proofs.Math.Seq.{take-nil}
 use Rattle.std.specs.declared.alloc.Global.{Global}
 use Rattle.std.specs.Io.KnownBytes.{Appends}
 use Rattle.dt_base.specs.Faults.{Rose}
-use Rattle.dtdl_cmd.specs.Words.{AreCommand, IsCommand, command_word}
+use Rattle.dtdl_cmd.specs.Words.{AreCommand, AreReplay, IsCommand, command_word}
 use Rattle.dtdl_cmd.specs.Documents.{AreFound, HasUnder, ShelfChange, StreamChange}
 use Rattle.dtdl_cmd.specs.Lines.{usage_line}
 use Rattle.dtdl_cmd.specs.Answers.{AnswersFound}
-use Rattle.dtdl_cmd.specs.Runs.{AnswersInput, BreaksOff, Ends}
+use Rattle.dtdl_cmd.specs.Runs.{AnswersInput, BreaksOff, EndsAnswer}
 use Rattle.dtdl_cmd.specs.declared.command.Command.{Command}
 use Rattle.dtdl_cmd.specs.declared.status.Status.{Status}
 use Rattle.dtdl_cmd.specs.declared.status.Status.TheVariants as status
@@ -21,17 +21,17 @@ pub said : (words : List (String Global)) (input : StreamChange) (shelf : ShelfC
     → ((result ≡ s) × Appends output.before output.after line)
     ⊎ ((result ≡ status.WriteFault) × Rose output.faults_before output.faults_after
     × ((written : ℕ) × (written < length line) × Appends output.before output.after (take written line)))
-    → Ends words input shelf output result
-said words input shelf output s result line answers (inl h) = subst (λ (r : Status). Ends words input shelf output r) (sym h.0) (inl (line, answers, h.1))
+    → EndsAnswer words input shelf output result
+said words input shelf output s result line answers (inl h) = subst (λ (r : Status). EndsAnswer words input shelf output r) (sym h.0) (inl (line, answers, h.1))
 said words input shelf output s result line answers (inr h) =
     let broken : BreaksOff words input shelf output = record { answered = s; line = line; written = h.2.0; proper = h.2.1; answers = answers; appended = h.2.2 } in
     inr (inl (h.0, h.1, broken))
 
-pub no_command : (words : List (String Global)) (input : StreamChange) (shelf : ShelfChange) → ((command : Command) (names : List (List ℕ)) → IsCommand words command names → ⊥)
+pub no_command : (words : List (String Global)) (input : StreamChange) (shelf : ShelfChange) → ((command : Command) (names : List (List ℕ)) → IsCommand words command names → ⊥) → (AreReplay words → ⊥)
     → AnswersInput words input shelf status.Usage usage_line
-no_command words input shelf none =
+no_command words input shelf none other =
     let not : AreCommand words → ⊥ = λ h. none h.0 h.1 h.2 in
-    record { found = []; held = λ command names is. absurd (none command names is); answers = inl (refl, not, refl) }
+    record { found = []; held = λ command names is. absurd (none command names is); answers = inl (refl, (not, other), refl) }
 
 same_names : (w v : List ℕ) (names more : List (List ℕ)) → w ∷ names ≡ v ∷ more → names ≡ more
 same_names w v names more e = cc

@@ -10,3 +10,4 @@ pub mod Names
 pub mod Judged
 pub mod DeclaredSets
 pub mod PrintsItself
+pub mod OneReplay

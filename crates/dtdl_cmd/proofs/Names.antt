@@ -1,6 +1,6 @@
 -- Words that are names, so far.
 use Rattle.std.proofs.Common.{◌≡◌, ℕ, zero, suc, ◌+◌, ◌<◌, List, [], ◌∷◌, ◌++◌, false, String, length, take, map, get_or, sym, ap, subst, ◌∙◌, arith}
-use Rattle.std.specs.Prelude.{string_bytes, IsTrue}
+use Rattle.std.specs.Prelude.{string_bytes, IsTrue, ◌↔◌}
 use Rattle.std.specs.List.{AllByRecursion}
 use Rattle.std.proofs.lemmas.List.{take_more, map-append}
 use Rattle.std.specs.declared.alloc.Global.{Global}
@@ -22,3 +22,15 @@ name_at (w ∷ ws) (suc k) word within is all =
 
 pub not_true : IsTrue false → ⊥
 not_true e = absurd cc
+
+same_head : (a b : List ℕ) → a ∷ [] ≡ b ∷ [] → a ≡ b
+same_head a b e = cc
+
+-- one word alone is this text exactly where the words are
+pub alone : (words : List (String Global)) (word : String Global) (text bytes : List ℕ) → length words ≡ 1 → word ≡ get_or words 0 word → bytes ≡ string_bytes word
+    → (bytes ≡ text) ↔ (map string_bytes words ≡ text ∷ [])
+alone [] word text bytes one is of = absurd (omega (arith, one))
+alone (w ∷ []) word text bytes one is of =
+    let same : bytes ≡ string_bytes w = of ∙ ap string_bytes is in
+    ((λ e. ap (λ (b : List ℕ). b ∷ []) (sym same ∙ e)), (λ e. same ∙ same_head (string_bytes w) text e))
+alone (w ∷ v ∷ ws) word text bytes one is of = absurd (omega (arith, one))

@@ -183,8 +183,8 @@ same_command commands.Canon commands.Check names more is = absurd (other_words m
 pub one_answer : OneNumber → (words : List (String Global)) (found : List (Option (List ℕ))) (line text : List ℕ) (s t : Status) → Answers words found s line
     → Answers words found t text → (s ≡ t) × (line ≡ text)
 one_answer number words found line text s t (inl (p, none, x)) (inl (q, nothing, y)) = (p ∙ sym q, x ∙ sym y)
-one_answer number words found line text s t (inl (p, none, x)) (inr (command, names, is, y)) = absurd (none (command, names, is))
-one_answer number words found line text s t (inr (command, names, is, x)) (inl (q, none, y)) = absurd (none (command, names, is))
+one_answer number words found line text s t (inl (p, none, x)) (inr (command, names, is, y)) = absurd (none.0 (command, names, is))
+one_answer number words found line text s t (inr (command, names, is, x)) (inl (q, none, y)) = absurd (none.0 (command, names, is))
 one_answer number words found line text s t (inr (command, names, is, x)) (inr (other, more, has, y)) =
     let e : command ≡ other = same_command command other names more (sym is.0 ∙ has.0) in
     one_found number other found s t line text (subst (λ (c : Command). AnswersFound c found s line) e x) y

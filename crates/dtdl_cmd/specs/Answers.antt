@@ -1,10 +1,11 @@
--- What a command answers: a status and the line or text that is written, by the words and what is found of the documents.
+-- What a command over documents answers: a status and the line or text that is written, by the words and what is found of
+-- the documents.
 use Rattle.std.specs.Prelude.{◌≡◌, ℕ, ◌<◌, ◌≤◌, ◌⊎◌, List, length, map, Option, String}
 use Rattle.std.specs.declared.alloc.Global.{Global}
 use Rattle.dtdl_terms.specs.declared.interface.Interface.{Interface}
 use Rattle.dtdl_terms.specs.declared.uploaded.Uploaded.{Uploaded}
 use Rattle.canon_text.specs.Canonical.{set_text}
-use Rattle.dtdl_cmd.specs.Words.{AreCommand, IsCommand}
+use Rattle.dtdl_cmd.specs.Words.{AreNone, IsCommand}
 use Rattle.dtdl_cmd.specs.Documents.{AreThere, IsMissing, IsTooLong, MAX_BYTES}
 use Rattle.dtdl_cmd.specs.FirstFaults.{Declare, HasFirstFault}
 use Rattle.dtdl_cmd.specs.Lines.{accepted_line, missing_line, too_long_line, too_long_text_line, usage_line}
@@ -22,6 +23,7 @@ status_number status.WriteFault = 4
 status_number status.OutOfMemory = 5
 status_number status.TooLong = 6
 status_number status.Missing = 7
+status_number status.SessionFull = 8
 
 -- the interfaces that were uploaded, without their places
 abbrev pub interfaces_of : List Uploaded → List Interface
@@ -46,5 +48,5 @@ AnswersFound command found s line = ((s ≡ status.Missing) × ((number : ℕ) �
 
 -- To the words, and to what is found of the documents that they name.
 abbrev pub Answers : List (String Global) → List (Option (List ℕ)) → Status → List ℕ → Type 0
-Answers words found s line = ((s ≡ status.Usage) × (AreCommand words → ⊥) × (line ≡ usage_line))
+Answers words found s line = ((s ≡ status.Usage) × AreNone words × (line ≡ usage_line))
     ⊎ ((command : Command) × (names : List (List ℕ)) × IsCommand words command names × AnswersFound command found s line)

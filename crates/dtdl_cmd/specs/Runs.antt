@@ -3,7 +3,10 @@ use Rattle.std.specs.Prelude.{◌≡◌, ℕ, ◌<◌, ◌⊎◌, List, [], ◌�
 use Rattle.std.specs.declared.alloc.Global.{Global}
 use Rattle.std.specs.Io.KnownBytes.{Appends, Keeps}
 use Rattle.dt_base.specs.Faults.{Rose}
-use Rattle.dtdl_cmd.specs.Words.{AreCommand, IsCommand}
+use Rattle.http_session.specs.declared.ends.SessionEnd.{SessionEnd}
+use Rattle.http_session.specs.declared.ends.SessionEnd.TheVariants as ends
+use Rattle.graph_server.specs.Replays.{IsReplay}
+use Rattle.dtdl_cmd.specs.Words.{AreCommand, AreReplay, IsCommand}
 use Rattle.dtdl_cmd.specs.Documents.{AreFound, ShelfChange, StreamChange}
 use Rattle.dtdl_cmd.specs.Answers.{Answers}
 use Rattle.dtdl_cmd.specs.declared.command.Command.{Command}
@@ -30,11 +33,40 @@ abbrev pub HasReadFault : StreamChange → ShelfChange → List (List ℕ) → T
 HasReadFault input shelf [] = Rose input.faults_before input.faults_after
 HasReadFault input shelf (name ∷ names) = Rose shelf.faults_before shelf.faults_after
 
--- The answer was written whole; or a write failed after a proper prefix of it; or a read failed or no memory was
--- found, and nothing was written.
-abbrev pub Ends : List (String Global) → StreamChange → ShelfChange → StreamChange → Status → Type 0
-Ends words input shelf output s = ((line : List ℕ) × AnswersInput words input shelf s line × Appends output.before output.after line)
+-- Of words that are a command over documents, or no command. The answer was written whole; or a write failed after a proper
+-- prefix of it; or a read failed or no memory was found, and nothing was written.
+abbrev pub EndsAnswer : List (String Global) → StreamChange → ShelfChange → StreamChange → Status → Type 0
+EndsAnswer words input shelf output s = ((line : List ℕ) × AnswersInput words input shelf s line × Appends output.before output.after line)
     ⊎ ((s ≡ status.WriteFault) × Rose output.faults_before output.faults_after × BreaksOff words input shelf output)
     ⊎ ((s ≡ status.ReadFault) × ((command : Command) × (names : List (List ℕ)) × IsCommand words command names × HasReadFault input shelf names)
     × Keeps output.before output.after)
     ⊎ ((s ≡ status.OutOfMemory) × AreCommand words × Keeps output.before output.after)
+
+abbrev pub status_of : SessionEnd → Status
+status_of ends.Closed = status.Ok
+status_of ends.Refused = status.Refused
+status_of ends.Full = status.SessionFull
+status_of ends.ReadFault = status.ReadFault
+status_of ends.WriteFault = status.WriteFault
+status_of ends.OutOfMemory = status.OutOfMemory
+
+-- Of a replay: the input's bytes were answered as a session over a graph that is empty at first, and the output took what
+-- was written. A read or a write failed only where the count rose.
+pub record EndsReplay (input output : StreamChange) (s : Status) : Type 0 where
+  pub end : SessionEnd
+  pub out : List ℕ
+  pub status : s ≡ status_of end
+  pub replay : IsReplay (Rose output.faults_before output.faults_after) end input.before input.after out
+  pub appended : Appends output.before output.after out
+  pub read_cause : end ≡ ends.ReadFault → Rose input.faults_before input.faults_after
+  pub write_cause : end ≡ ends.WriteFault → Rose output.faults_before output.faults_after
+
+abbrev pub Ends : List (String Global) → StreamChange → ShelfChange → StreamChange → Status → Type 0
+Ends words input shelf output s = EndsAnswer words input shelf output s ⊎ (AreReplay words × EndsReplay input output s)
+
+-- The words of a replay and the input's bytes decide such a status.
+abbrev pub IsDecided : Status → Type 0
+IsDecided status.Ok = Unit {0}
+IsDecided status.Refused = Unit {0}
+IsDecided status.SessionFull = Unit {0}
+IsDecided other = ⊥

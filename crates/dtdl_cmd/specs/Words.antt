@@ -1,5 +1,5 @@
--- The words of a run: a command and the names of its documents.
-use Rattle.std.specs.Prelude.{◌≡◌, ◌≢◌, ◌≤◌, ℕ, List, ◌∷◌, map, length, String, codes, string_bytes}
+-- The words of a run: a command over documents and their names, or a replay.
+use Rattle.std.specs.Prelude.{◌≡◌, ◌≢◌, ◌≤◌, ℕ, List, [], ◌∷◌, map, length, String, codes, string_bytes}
 use Rattle.std.specs.List.{AllByRecursion}
 use Rattle.std.specs.declared.alloc.Global.{Global}
 use Rattle.dtdl_cmd.specs.declared.command.Command.{Command}
@@ -23,3 +23,11 @@ IsCommand words command names = (map string_bytes words ≡ command_word command
 
 abbrev pub AreCommand : List (String Global) → Type 0
 AreCommand words = (command : Command) × (names : List (List ℕ)) × IsCommand words command names
+
+-- The word of a replay, alone.
+abbrev pub AreReplay : List (String Global) → Type 0
+AreReplay words = map string_bytes words ≡ codes "replay" ∷ []
+
+-- The words are no command that is built.
+abbrev pub AreNone : List (String Global) → Type 0
+AreNone words = (AreCommand words → ⊥) × (AreReplay words → ⊥)

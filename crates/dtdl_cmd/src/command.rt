@@ -1,7 +1,7 @@
 //! The commands by their words.
 
-ghost use Rattle.std.specs.Prelude.{◌≡◌, ◌↔◌, ℕ, List, drop, map, string_bytes, IsTrue, MatchOption};
-ghost use Rattle.dtdl_cmd.specs.Words.{AreNames, IsCommand, IsName, command_word};
+ghost use Rattle.std.specs.Prelude.{◌≡◌, ◌↔◌, ℕ, List, drop, map, codes, string_bytes, IsTrue, MatchOption};
+ghost use Rattle.dtdl_cmd.specs.Words.{AreNames, AreReplay, IsCommand, IsName, command_word};
 ghost use Rattle.dtdl_cmd.specs.declared.command.Command.{Command};
 
 /// How many names a command takes.
@@ -57,4 +57,18 @@ pub fn command_of(words: &[String]) -> Option<Command>
         return None;
     }
     command_named(words[0].as_str())
+}
+
+/// Whether a word is that of a replay.
+fn is_replay(word: &str) -> bool
+    ensures { IsTrue result ↔ (word.now ≡ codes "replay") }
+{
+    word == "replay"
+}
+
+/// Whether the words are that of a replay alone.
+pub fn are_replay(words: &[String]) -> bool
+    ensures { IsTrue result ↔ AreReplay words.now }
+{
+    words.len() == 1 && is_replay(words[0].as_str())
 }

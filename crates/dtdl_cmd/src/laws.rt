@@ -14,6 +14,8 @@ ghost use Rattle.dtdl_cmd.specs.Documents.{AreFound, MAX_BYTES, ShelfChange, Str
 ghost use Rattle.dtdl_cmd.specs.FirstFaults.{Declare};
 ghost use Rattle.dtdl_cmd.specs.Answers.{Answers, interfaces_of};
 ghost use Rattle.dtdl_cmd.specs.declared.command.Command.TheVariants as commands;
+ghost use Rattle.dtdl_cmd.specs.Runs.{Ends, IsDecided};
+ghost use Rattle.dtdl_cmd.specs.Words.{AreReplay};
 ghost use Rattle.dtdl_cmd.specs.declared.status.Status.{Status};
 ghost use Rattle.dtdl_cmd.specs.declared.status.Status.TheVariants as status;
 
@@ -39,6 +41,17 @@ pub fn one_input()
     ensures { (input : StreamChange) (shelf : ShelfChange) (names : List (List ℕ)) (all : List ℕ) (files : List (List ℕ × List ℕ)) (found : List (Option (List ℕ)))
         → input.before ≡ Some all → shelf.before ≡ Some files → AreFound input shelf names found → found ≡ documents_of all files names }
 {}
+
+/// Of two replays of the same bytes, which end as these bytes decide, the statuses are the same, and so are the bytes that
+/// two outputs, with the same before, have in the end.
+pub fn one_replay()
+    ensures { (words : List (String Global)) (input other : StreamChange) (shelf files : ShelfChange) (output sink : StreamChange) (all before : List ℕ) (s t : Status)
+        → AreReplay words → input.before ≡ Some all → other.before ≡ Some all → output.before ≡ Some before → sink.before ≡ Some before
+        → Ends words input shelf output s → Ends words other files sink t → IsDecided s → IsDecided t
+        → (s ≡ t) × (output.after ≡ sink.after) }
+{
+    graph_server::one_replay();
+}
 
 /// The interfaces that documents without faults declare each have a declaration, are within the limits, have types that
 /// their canonical trees tell, and no two of them have one identifier.

@@ -3,15 +3,16 @@
 ghost use Rattle.std.specs.Prelude.{◌≡◌, ◌≢◌, ℕ, ◌<◌, ◌≤◌, ◌⊎◌, List, [], ◌∷◌, length, map, string_bytes, take, Option, Err, IfOk};
 ghost use Rattle.std.specs.Io.KnownBytes.{Appends};
 ghost use Rattle.dt_base.specs.Faults.{Rose};
-ghost use Rattle.dtdl_cmd.specs.Words.{IsCommand};
+ghost use Rattle.dtdl_cmd.specs.Words.{AreReplay, IsCommand};
 ghost use Rattle.dtdl_cmd.specs.Documents.{AreFound};
 ghost use Rattle.dtdl_cmd.specs.Answers.{AnswersFound};
 ghost use Rattle.dtdl_cmd.specs.Runs.{Ends, HasReadFault};
 ghost use Rattle.dtdl_cmd.specs.declared.command.Command.{Command};
 
 use crate::answers::{Answer, answer_to_documents, missing, too_long};
-use crate::command::{Command, command_of};
+use crate::command::{Command, are_replay, command_of};
 use crate::documents::{NoDocuments, documents_of};
+use crate::replays::run_replay;
 use crate::status::Status;
 use dt_base::{OutOfMemory, Shelf, Sink, Source, write_all};
 use std::alloc::Global;
@@ -92,8 +93,12 @@ fn say<K: Sink>(output: &mut K, status: Status, line: &[u8]) -> Status
 /// their canonical text. The documents are the files of the names that follow the command, in their order, or without
 /// names the input, read whole; they have together at most 16,777,216 bytes, and so has the canonical text.
 ///
+/// Does `replay`: answers the input as a session of HTTP over a graph that is empty at first, and writes the replies. It
+/// never asks the shelf. The status is `Ok` where the stream ended between requests or a request that asks to close the
+/// connection was answered, `Refused` where a closing refusal was written, and `SessionFull` after 1,000,000 replies.
+///
 /// The other commands are not built, so other words are `Usage`, and then nothing is read. It returns on every
-/// input, and the answer is a function of the words and of the documents' bytes, however they are cut.
+/// input, and the answer is a function of the words and of the documents' or the input's bytes, however they are cut.
 pub fn run_plain<S: Source, K: Sink, F: Shelf>(
     alloc: Global,
     words: &[String],
@@ -113,9 +118,12 @@ pub fn run_plain<S: Source, K: Sink, F: Shelf>(
     ensures shelf_count { F.faults shelf.old ≤ F.faults shelf.new }
     ensures shelf_same { F.files shelf.new ≡ F.files shelf.old }
     // What is not used is as it was: the input where names are given, the shelf where none are.
-    ensures unread { ((command : Command) → IsCommand words.now command [] → ⊥) → input.new ≡ input.old }
+    ensures unread { ((command : Command) → IsCommand words.now command [] → ⊥) → (AreReplay words.now → ⊥) → input.new ≡ input.old }
     ensures unasked { ((command : Command) (name : List ℕ) (names : List (List ℕ)) → IsCommand words.now command (name ∷ names) → ⊥) → shelf.new ≡ shelf.old }
 {
+    if are_replay(words) {
+        return run_replay(alloc, input, output);
+    }
     let Some(command) = command_of(words) else {
         return say(output, Status::Usage, USAGE);
     };

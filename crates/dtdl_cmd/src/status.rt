@@ -4,22 +4,28 @@ ghost use Rattle.dtdl_cmd.specs.Answers.{status_number};
 /// How a command ended.
 #[derive(Clone, Copy, Debug, PartialEq, Eq, Hash)]
 pub enum Status {
-    /// The answer was written whole.
+    /// The answer was written whole. A replay's stream ended between requests, or a request that asks to close the
+    /// connection was answered.
     Ok,
-    /// The documents have a fault. The line that names the first was written.
+    /// The documents have a fault, and the line that names the first was written; or a replay wrote a closing refusal of a
+    /// request that cannot be read.
     Refused,
     /// The words are no command that is built. The usage line was written.
     Usage,
-    /// A read failed. The count of faults of the source or of the shelf rose, and nothing was written.
+    /// A read failed. The count of faults of the source or of the shelf rose, and nothing was written, but the replies so
+    /// far by a replay.
     ReadFault,
     /// A write failed. The sink's count of faults rose, and a proper prefix was written.
     WriteFault,
-    /// There was no memory. Nothing was written.
+    /// There was no memory. Nothing was written, but the replies so far by a replay, and the status 503 where its last
+    /// request changed nothing.
     OutOfMemory,
     /// The documents up to one, or the canonical text, have more bytes than the limit. The line that says so was written.
     TooLong,
     /// A document is not there. The line with its number was written.
     Missing,
+    /// A replay wrote its 1,000,000th reply, and the request had not asked to close the connection.
+    SessionFull,
 }
 
 impl Status {
@@ -36,6 +42,7 @@ impl Status {
             Status::OutOfMemory => 5,
             Status::TooLong => 6,
             Status::Missing => 7,
+            Status::SessionFull => 8,
         }
     }
 }

@@ -12,5 +12,6 @@ mod session;
 pub use ends::SessionEnd;
 pub use laws::{Rules, one_session};
 pub use links::serve_link;
+pub use refusals::give_up;
 pub use service::{Answer, Service, Trouble};
 pub use session::serve;

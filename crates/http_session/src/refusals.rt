@@ -19,7 +19,7 @@ const UNAVAILABLE: &[u8] =
     b"HTTP/1.1 503 Service Unavailable\r\nContent-Length: 32\r\nContent-Type: application/json\r\nConnection: close\r\n\r\n{\"error\":{\"code\":\"OutOfMemory\"}}";
 
 /// Writes, as far as the sink takes it, that no memory was found. It takes no memory.
-pub(crate) fn give_up<K: Sink>(sink: &mut K)
+pub fn give_up<K: Sink>(sink: &mut K)
     ensures wrote { (out : List ℕ) × Appends (K.taken sink.old) (K.taken sink.new) out × IsWritten (Rose (K.faults sink.old) (K.faults sink.new)) unavailable out }
     ensures count { K.faults sink.old ≤ K.faults sink.new }
     ensures beside { K.aside sink.new ≡ K.aside sink.old }

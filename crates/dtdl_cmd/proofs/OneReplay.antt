@@ -1,0 +1,85 @@
+-- The words of a replay and the input's bytes decide its status and what is written.
+use Rattle.std.proofs.Common.{◌≡◌, ℕ, List, [], ◌∷◌, ◌++◌, Option, None, Some, String, inl, inr, refl, sym, ap, subst, ◌∙◌, get_or, arith}
+use Rattle.std.specs.Prelude.{codes, map, string_bytes}
+use Rattle.std.specs.declared.alloc.Global.{Global}
+use Rattle.std.specs.Io.KnownBytes.{Appends}
+use Rattle.dt_base.specs.Faults.{Rose}
+use Rattle.http_session.specs.Uniqueness.{IsDecided as EndIsDecided}
+use Rattle.http_session.specs.declared.ends.SessionEnd.{SessionEnd}
+use Rattle.http_session.specs.declared.ends.SessionEnd.TheVariants as ends
+use Rattle.graph_server.specs.Replays.{IsReplay, OneReplay}
+use Rattle.graph_server.proofs.Unique.{replay_weaker}
+use Rattle.dtdl_cmd.specs.Words.{AreReplay, IsCommand, command_word}
+use Rattle.dtdl_cmd.specs.Documents.{ShelfChange, StreamChange}
+use Rattle.dtdl_cmd.specs.Answers.{Answers}
+use Rattle.dtdl_cmd.specs.Runs.{AnswersInput, Ends, EndsAnswer, EndsReplay, IsDecided, status_of}
+use Rattle.dtdl_cmd.specs.declared.command.Command.{Command}
+use Rattle.dtdl_cmd.specs.declared.command.Command.TheVariants as commands
+use Rattle.dtdl_cmd.specs.declared.status.Status.{Status}
+
+-- the word of a replay is that of no command over documents: they differ in their first letters
+first_letter : List (List ℕ) → ℕ
+first_letter ws = get_or (get_or ws 0 []) 0 0
+
+other_word : (command : Command) (names : List (List ℕ)) → command_word command ∷ names ≡ codes "replay" ∷ [] → ⊥
+unfolding first_letter
+other_word commands.Check names e =
+    let letters : 99 ≡ 114 = ap first_letter e in
+    omega (arith, letters)
+other_word commands.Canon names e =
+    let letters : 99 ≡ 114 = ap first_letter e in
+    omega (arith, letters)
+
+no_documents : (words : List (String Global)) (command : Command) (names : List (List ℕ)) → AreReplay words → IsCommand words command names → ⊥
+no_documents words command names replays is = other_word command names (sym is.0 ∙ replays)
+
+none_answered : (words : List (String Global)) (found : List (Option (List ℕ))) (s : Status) (line : List ℕ) → AreReplay words → Answers words found s line → ⊥
+none_answered words found s line replays (inl h) = h.1.1 replays
+none_answered words found s line replays (inr (command, names, is, h)) = no_documents words command names replays is
+
+none_ended : (words : List (String Global)) (input : StreamChange) (shelf : ShelfChange) (output : StreamChange) (s : Status) → AreReplay words → EndsAnswer words input shelf output s → ⊥
+none_ended words input shelf output s replays (inl (line, h, appended)) = none_answered words h.found s line replays h.answers
+none_ended words input shelf output s replays (inr (inl (is, rose, h))) = none_answered words h.answers.found h.answered h.line replays h.answers.answers
+none_ended words input shelf output s replays (inr (inr (inl (is, (command, names, are, fault), kept)))) = no_documents words command names replays are
+none_ended words input shelf output s replays (inr (inr (inr (is, (command, names, are), kept)))) = no_documents words command names replays are
+
+replayed : (words : List (String Global)) (input : StreamChange) (shelf : ShelfChange) (output : StreamChange) (s : Status) → AreReplay words → Ends words input shelf output s → EndsReplay input output s
+replayed words input shelf output s replays (inl h) = absurd (none_ended words input shelf output s replays h)
+replayed words input shelf output s replays (inr h) = h.1
+
+decided : (end : SessionEnd) → IsDecided (status_of end) → EndIsDecided end
+decided ends.Closed h = tt
+decided ends.Refused h = tt
+decided ends.Full h = tt
+decided ends.ReadFault h = absurd h
+decided ends.WriteFault h = absurd h
+decided ends.OutOfMemory h = absurd h
+
+-- a replay of known bytes, of which it is not told whether the sink's count rose
+known : (input output : StreamChange) (s : Status) (all : List ℕ) (h : EndsReplay input output s) → input.before ≡ Some all → IsReplay (Unit {0}) h.end (Some all) input.after h.out
+known input output s all h is =
+    replay_weaker (Rose output.faults_before output.faults_after) (Unit {0}) h.end (Some all) input.after h.out (λ rose. tt)
+    (subst (λ (stream : Option (List ℕ)). IsReplay (Rose output.faults_before output.faults_after) h.end stream input.after h.out) is h.replay)
+
+same_after : (before : List ℕ) (one other after last : Option (List ℕ)) (out text : List ℕ) → one ≡ Some before → other ≡ Some before → out ≡ text → Appends one after out → Appends other last text → after ≡ last
+same_after before one other after last out text is has same h k =
+    let first = subst (λ (b : Option (List ℕ)). Appends b after out) is h in
+    let second = subst (λ (b : Option (List ℕ)). Appends b last text) has k in
+    ended before after last out text same first second
+  where
+    ended : (before : List ℕ) (after last : Option (List ℕ)) (out text : List ℕ) → out ≡ text → Appends (Some before) after out → Appends (Some before) last text → after ≡ last
+    ended before None last out text same h k = absurd h
+    ended before (Some a) None out text same h k = absurd k
+    ended before (Some a) (Some b) out text same h k = ap Some (h ∙ ap (λ (bytes : List ℕ). before ++ bytes) same ∙ sym k)
+
+pub one_replay : OneReplay → (words : List (String Global)) (input other : StreamChange) (shelf files : ShelfChange) (output sink : StreamChange) (all before : List ℕ) (s t : Status)
+    → AreReplay words → input.before ≡ Some all → other.before ≡ Some all → output.before ≡ Some before → sink.before ≡ Some before
+    → Ends words input shelf output s → Ends words other files sink t → IsDecided s → IsDecided t → (s ≡ t) × (output.after ≡ sink.after)
+one_replay law words input other shelf files output sink all before s t replays is has from too one two done also =
+    let h = replayed words input shelf output s replays one in
+    let k = replayed words other files sink t replays two in
+    let same = law all input.after other.after h.end k.end h.out k.out (known input output s all h is) (known other sink t all k has)
+    (decided h.end (subst IsDecided h.status done)) (decided k.end (subst IsDecided k.status also)) in (
+      h.status ∙ ap status_of same.0 ∙ sym k.status,
+      same_after before output.before sink.before output.after sink.after h.out k.out from too same.2 h.appended k.appended,
+    )

@@ -1,0 +1,4 @@
+pub mod Sound
+pub mod Methods
+pub mod Answering
+pub mod Unique

@@ -1,0 +1,5 @@
+use Rattle.graph_server.proofs.Unique.{one_replay}
+use Rattle.graph_server.proofs.laws.one_replay.Goals as goal
+
+pub returns : goal.returns
+returns c = one_replay (record { requests = c.one_prepared.ensures; answered = c.one_answer.ensures; sound = c.sound_asks.ensures; session = c.one_session.ensures })

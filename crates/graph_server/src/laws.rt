@@ -1,0 +1,50 @@
+//! Laws of replays. Each function does nothing but name laws, and its contract is the law.
+
+ghost use Rattle.http_ends.specs.declared.request.Request.{Request};
+ghost use Rattle.graph_asks.specs.declared.ask.Ask.{Ask};
+ghost use Rattle.graph_machine.specs.Built.{IsBuilt};
+ghost use Rattle.graph_routes.specs.Prepared.{IsPrepared};
+ghost use Rattle.graph_routes.specs.declared.prepared.Prepared.TheVariants as prepared;
+ghost use Rattle.graph_server.specs.Replays.{OneReplay};
+ghost use Rattle.graph_steps.specs.Soundness.{IsSound};
+
+use graph_routes::{one_prepared, prepared_is_right};
+use graph_steps::one_answer;
+use http_session::{Rules, one_session};
+
+/// What a request asks of a graph is sound, and is an ask that is built.
+pub fn sound_asks()
+    ensures { (request : Request) (ask : Ask) → IsPrepared request (prepared.Ask ask) → IsSound ask × IsBuilt ask }
+{
+    prepared_is_right();
+}
+
+/// What requests are answered with by a graph.
+struct GraphRules;
+
+impl Rules for GraphRules {
+    ghost use Rattle.graph_steps.specs.States.{State};
+    ghost use Rattle.graph_server.specs.Entries.{Entry, own, enters, allows, follows};
+
+    ghost State = { State };
+
+    ghost Entry = { Entry };
+
+    ghost own = { own };
+
+    ghost enters = { enters };
+
+    ghost allowed = { allows };
+
+    ghost follows = { follows };
+}
+
+/// A stream that its bytes end has one replay: one history from the empty graph, one end, and the same bytes are written.
+pub fn one_replay()
+    ensures { OneReplay }
+{
+    one_prepared();
+    one_answer();
+    sound_asks();
+    one_session::<GraphRules>();
+}
