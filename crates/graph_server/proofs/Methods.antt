@@ -1,12 +1,11 @@
 -- No answer of a graph lists methods.
-use Rattle.std.proofs.Common.{◌≡◌, ℕ, List, [], ◌∷◌, inl, inr, refl, sym, subst}
+use Rattle.std.proofs.Common.{◌≡◌, List, inl, inr, sym, subst}
 use Rattle.dtmi_name.specs.Grammar.{Identifier}
 use Rattle.dtdl_terms.specs.declared.uploaded.Uploaded.{Uploaded}
 use Rattle.graph_asks.specs.Answers.{Answer, refused}
 use Rattle.graph_asks.specs.declared.ask.Ask.{Ask}
 use Rattle.graph_asks.specs.declared.ask.Ask.TheVariants as asks
 use Rattle.graph_asks.specs.declared.refusal.Refusal.{Refusal}
-use Rattle.graph_asks.specs.declared.refusal.Refusal.TheVariants as refusals
 use Rattle.graph_asks.specs.declared.reply.Reply.{Reply}
 use Rattle.graph_asks.specs.declared.reply.Reply.TheVariants as replies
 use Rattle.graph_steps.specs.ModelAsks.{RefusesPutModels, RefusesDropModel}
