@@ -1,6 +1,6 @@
 -- The words of a replay and the input's bytes decide its status and what is written.
-use Rattle.std.proofs.Common.{◌≡◌, ℕ, List, [], ◌∷◌, ◌++◌, Option, None, Some, String, inl, inr, refl, sym, ap, subst, ◌∙◌, get_or, arith}
-use Rattle.std.specs.Prelude.{codes, map, string_bytes}
+use Rattle.std.proofs.Common.{◌≡◌, ℕ, List, [], ◌∷◌, ◌++◌, Option, None, Some, String, inl, inr, sym, ap, subst, ◌∙◌, get_or, arith}
+use Rattle.std.specs.Prelude.{codes}
 use Rattle.std.specs.declared.alloc.Global.{Global}
 use Rattle.std.specs.Io.KnownBytes.{Appends}
 use Rattle.dt_base.specs.Faults.{Rose}
@@ -12,7 +12,7 @@ use Rattle.graph_server.proofs.Unique.{replay_weaker}
 use Rattle.dtdl_cmd.specs.Words.{AreReplay, IsCommand, command_word}
 use Rattle.dtdl_cmd.specs.Documents.{ShelfChange, StreamChange}
 use Rattle.dtdl_cmd.specs.Answers.{Answers}
-use Rattle.dtdl_cmd.specs.Runs.{AnswersInput, Ends, EndsAnswer, EndsReplay, IsDecided, status_of}
+use Rattle.dtdl_cmd.specs.Runs.{Ends, EndsAnswer, EndsReplay, IsDecided, status_of}
 use Rattle.dtdl_cmd.specs.declared.command.Command.{Command}
 use Rattle.dtdl_cmd.specs.declared.command.Command.TheVariants as commands
 use Rattle.dtdl_cmd.specs.declared.status.Status.{Status}

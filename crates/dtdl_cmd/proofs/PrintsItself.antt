@@ -96,7 +96,7 @@ module _ (number : OneNumber) (documents : List (List ℕ)) (us : List Uploaded)
 
   pub to_words : (words : List (String Global)) (names : List (List ℕ)) → IsCommand words commands.Canon names → (s : Status) (line : List ℕ)
       → Answers words (Some bytes ∷ []) s line → (s ≡ status.Ok) × (line ≡ bytes)
-  to_words words names is s line (inl (usage, none, x)) = absurd (none (commands.Canon, names, is))
+  to_words words names is s line (inl (usage, none, x)) = absurd (none.0 (commands.Canon, names, is))
   to_words words names is s line (inr (command, more, has, answers)) =
       let same : command ≡ commands.Canon = same_command command commands.Canon more names (sym has.0 ∙ is.0) in
       to_found s line (subst (λ (c : Command). AnswersFound c (Some bytes ∷ []) s line) same answers)
