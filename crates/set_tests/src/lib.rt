@@ -1,9 +1,6 @@
-//! The calls of `extend_resolve` and `model_resolve` on a set of one interface, of which a proof knows that it breaks no rule,
-//! and those of `model_life` on models that come and go.
+//! The calls of `extend_resolve` and `model_resolve` on a set of one interface, of which a proof knows that it breaks no rule.
 //! They stand here, since a crate with tests of its own is proved twice.
 #![tactic(auto)]
 
-#[cfg(test)]
-mod life;
 #[cfg(test)]
 mod lone;
