@@ -1,5 +1,5 @@
 // The peer of bench/values for edges: the same edges in std::map, by pairs of source and id, by triples of target, source and
-// id, and counted by pairs of source and name. `EDGES` and `EDGES hold` are those of crates/bench_edges.
+// id, and counted by pairs of source and name. `EDGES`, `EDGES near` and `EDGES hold` are those of crates/bench_edges.
 #include <chrono>
 #include <cstdint>
 #include <cstdio>
@@ -23,15 +23,16 @@ static uint64_t mixed(uint64_t x) {
 
 struct Graph {
     std::vector<std::string> twins, names{"contains", "feeds", "controls", "isNextTo"};
-    explicit Graph(uint64_t edges) {
+    bool near;
+    Graph(uint64_t edges, bool near) : near(near) {
         char text[32];
         for (uint64_t k = 0; k < edges / 4; k++) { snprintf(text, sizeof text, "twin-%07llu", (unsigned long long)k); twins.push_back(text); }
     }
     Edge edge(uint64_t k) const {
         char id[32];
         snprintf(id, sizeof id, "rel-%07llu", (unsigned long long)k);
-        uint64_t x = k * 4;
-        return {twins[mixed(x) % twins.size()], id, names[mixed(x + 1) % names.size()], twins[mixed(x + 2) % twins.size()], mixed(x + 3)};
+        uint64_t x = k * 4, source = near ? k / 4 : mixed(x), name = near ? k % 4 : mixed(x + 1), target = near ? k / 4 + 1 + k % 4 : mixed(x + 2);
+        return {twins[source % twins.size()], id, names[name % names.size()], twins[target % twins.size()], mixed(x + 3)};
     }
 };
 
@@ -72,9 +73,10 @@ static void tell(const char* part, uint64_t sum) {
 int main(int argc, char** argv) {
     if (argc < 2) return 2;
     uint64_t edges = strtoull(argv[1], nullptr, 10), sum = 0;
-    Graph graph(edges);
+    bool hold = argc > 2 && std::string(argv[2]) == "hold", near = argc > 2 && !hold;
+    Graph graph(edges, near);
     Rels rels;
-    if (argc > 2) {
+    if (hold) {
         for (uint64_t k = 0; k < edges; k++) rels.put(graph.edge(k));
         printf("held %zu\n", rels.edges.size());
         return 0;

@@ -14,6 +14,9 @@ pub struct Graph {
     pub twins: Vec<Text>,
     /// The names under which edges stand.
     pub names: Vec<Text>,
+    /// Whether the edges come as those of a building that is loaded: the four of one twin after those of another, to twins
+    /// close by. Else each leads from anywhere to anywhere.
+    pub near: bool,
 }
 
 /// What an edge is looked up by.
@@ -27,7 +30,7 @@ pub struct Query {
 
 impl Graph {
     /// The texts for so many edges, of which there are four for each twin. Fails only for want of memory.
-    pub fn new(alloc: Global, edges: u64) -> Result<Graph, OutOfMemory> {
+    pub fn new(alloc: Global, edges: u64, near: bool) -> Result<Graph, OutOfMemory> {
         let mut twins = Vec::new(alloc);
         for k in 0..edges / EDGES_EACH {
             twins.push(Text::from_string(format!(in alloc; "twin-{k:07}")?))?;
@@ -36,7 +39,7 @@ impl Graph {
         for name in ["contains", "feeds", "controls", "isNextTo"] {
             names.push(Text::from_str(alloc, name)?)?;
         }
-        Ok(Graph { twins, names })
+        Ok(Graph { twins, names, near })
     }
 }
 
@@ -54,19 +57,30 @@ fn pick(alloc: Global, texts: &[Text], x: u64) -> Result<Text, OutOfMemory> {
     if count == 0 {
         return Err(OutOfMemory);
     }
-    let text = &texts[(mixed(x) % count) as usize];
+    let text = &texts[(x % count) as usize];
     text.copy(alloc)
+}
+
+/// Which twin an edge leads from, which name it has, and which twin it leads to.
+fn ends_of(graph: &Graph, k: u64) -> [u64; 3] {
+    if graph.near {
+        let from = k / EDGES_EACH;
+        let turn = k % EDGES_EACH;
+        return [from, turn, from.wrapping_add(1 + turn)];
+    }
+    let x = k.wrapping_mul(4);
+    [mixed(x), mixed(x.wrapping_add(1)), mixed(x.wrapping_add(2))]
 }
 
 /// The edge of a number: equal ones for equal numbers. Fails as `pick` does.
 pub fn edge_of(alloc: Global, graph: &Graph, k: u64) -> Result<Edge<u64>, OutOfMemory> {
-    let x = k.wrapping_mul(4);
+    let [source, name, target] = ends_of(graph, k);
     Ok(Edge {
-        source: pick(alloc, &graph.twins, x)?,
+        source: pick(alloc, &graph.twins, source)?,
         id: Text::from_string(format!(in alloc; "rel-{k:07}")?),
-        name: pick(alloc, &graph.names, x.wrapping_add(1))?,
-        target: pick(alloc, &graph.twins, x.wrapping_add(2))?,
-        payload: mixed(x.wrapping_add(3)),
+        name: pick(alloc, &graph.names, name)?,
+        target: pick(alloc, &graph.twins, target)?,
+        payload: mixed(k.wrapping_mul(4).wrapping_add(3)),
     })
 }
 

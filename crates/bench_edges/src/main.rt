@@ -2,8 +2,9 @@
 //! takes them out, and prints for each part a sum over what it met.
 //!
 //! With no argument it does so with few edges and prints the sums alone, which no timing changes. `EDGES` gives the number
-//! of edges, and then each sum is followed by the part's time in nanoseconds. `EDGES hold` only puts the edges, each made
-//! when it is put, for a measure of the memory that they take.
+//! of edges, and then each sum is followed by the part's time in nanoseconds. `EDGES near` does the same with edges in the
+//! order in which those of a building are loaded. `EDGES hold` only puts the edges, each made when it is put, for a measure
+//! of the memory that they take.
 #![tactic(auto)]
 
 mod graph;
@@ -101,8 +102,14 @@ fn tell(
 }
 
 /// Runs the parts one after another, and prints each.
-fn run(rt: &(impl Print + Clock), alloc: Global, edges: u64, timed: bool) -> anyhow::Result<()> {
-    let graph = Graph::new(alloc, edges)?;
+fn run(
+    rt: &(impl Print + Clock),
+    alloc: Global,
+    edges: u64,
+    near: bool,
+    timed: bool,
+) -> anyhow::Result<()> {
+    let graph = Graph::new(alloc, edges, near)?;
     let (made, queries) = queries_of(alloc, &graph, edges)?;
     let mut rels = Rels::new(alloc);
     let start = Instant::now(rt)?;
@@ -123,7 +130,7 @@ fn run(rt: &(impl Print + Clock), alloc: Global, edges: u64, timed: bool) -> any
 
 /// Puts the edges, each made when it is put, and prints how many there are.
 fn hold(rt: &impl Print, alloc: Global, edges: u64) -> anyhow::Result<()> {
-    let graph = Graph::new(alloc, edges)?;
+    let graph = Graph::new(alloc, edges, false)?;
     let mut rels = Rels::new(alloc);
     for k in 0..edges {
         let Ok(_old) = rels.put(edge_of(alloc, &graph, k)?) else {
@@ -140,10 +147,11 @@ fn main(rt: HostRuntime) -> anyhow::Result<()> {
     let mut words = env::args(&rt)?.skip(1);
     let edges = match words.next() {
         Some(word) => word.as_str().parse::<u64>()?,
-        None => return run(&rt, alloc, FEW, false),
+        None => return run(&rt, alloc, FEW, false, false),
     };
     match words.next() {
-        Some(_) => hold(&rt, alloc, edges),
-        None => run(&rt, alloc, edges, true),
+        Some(word) if word.as_str() == "hold" => hold(&rt, alloc, edges),
+        Some(_) => run(&rt, alloc, edges, true, true),
+        None => run(&rt, alloc, edges, false, true),
     }
 }

@@ -30,18 +30,18 @@ use Rattle.canon_laws.proofs.Schemas.{schema_back, schema_part_back, optional_pa
 
 -- ---- types
 module _ (p : Position) (v w : Json) (e : Element) (first : named_by p v ≡ Some e) (second : named_by p w ≡ None) where
-  two_types : type_in p (array (elements_of (v ∷ w ∷ []))) ≡ Some e
+  pub two_types : type_in p (array (elements_of (v ∷ w ∷ []))) ≡ Some e
   two_types = rw (first, second) refl
 
-  two_further : further p (list_of (elements_of (v ∷ w ∷ []))) ≡ w ∷ []
+  pub two_further : further p (list_of (elements_of (v ∷ w ∷ []))) ≡ w ∷ []
   two_further = rw (first, second) refl
 
-typed_type : (p : Position) (type : List ℕ) (e : Element) (semantic : Option (List ℕ)) → element_named p type ≡ Some e → IfSome semantic (NamesNoType p)
+pub typed_type : (p : Position) (type : List ℕ) (e : Element) (semantic : Option (List ℕ)) → element_named p type ≡ Some e → IfSome semantic (NamesNoType p)
     → type_in p (typed type semantic) ≡ Some e
 typed_type p type e None named h = rw named refl
 typed_type p type e (Some name) named h = two_types p (text type) (text name) e named h
 
-kind_type_in : (k : KindTerm) → KindIsTyped position.Content k → type_in position.Content (kind_type k) ≡ Some (type_of_kind k)
+pub kind_type_in : (k : KindTerm) → KindIsTyped position.Content k → type_in position.Content (kind_type k) ≡ Some (type_of_kind k)
 kind_type_in (telemetry s semantic unit) h = typed_type position.Content (codes "Telemetry") element_kind.Telemetry semantic refl h
 kind_type_in (property s semantic unit writable) h = typed_type position.Content (codes "Property") element_kind.Property semantic refl h
 kind_type_in (command request response) h = refl
@@ -85,24 +85,24 @@ id_back key ps ms o q object_is there g = sym (id_told key ms q g) ∙ at key ps
 own_id_back : (key : List ℕ) (ps : Parts) (ms : Members Number) (i j : Identifier) → object_of_parts ps ≡ object ms → found key ps ≡ Some (id_value i) → HasId key ms j → id_value j ≡ id_value i
 own_id_back key ps ms i j object_is there g = same_some (id_value j) (id_value i) (sym (g.1 ∙ ap Some g.2.0) ∙ at key ps ms (Some (id_value i)) object_is there)
 
-abbrev table : List ℕ → Common → KindTerm → Parts
+abbrev pub table : List ℕ → Common → KindTerm → Parts
 table n c k = element_parts (Some (kind_type k)) c ++ kind_parts n k
 
-kind_lacks : (n : List ℕ) (k : KindTerm) → LacksCommon (kind_parts n k)
+pub kind_lacks : (n : List ℕ) (k : KindTerm) → LacksCommon (kind_parts n k)
 kind_lacks n (telemetry s semantic unit) = (refl, refl, refl, refl, refl)
 kind_lacks n (property s semantic unit writable) = (refl, refl, refl, refl, refl)
 kind_lacks n (command request response) = (refl, refl, refl, refl, refl)
 kind_lacks n (relationship target properties most writable) = (refl, refl, refl, refl, refl)
 kind_lacks n (component of) = (refl, refl, refl, refl, refl)
 
-name_found : (n : List ℕ) (c : Common) (k : KindTerm) → found (codes "name") (table n c k) ≡ Some (text n)
+pub name_found : (n : List ℕ) (c : Common) (k : KindTerm) → found (codes "name") (table n c k) ≡ Some (text n)
 name_found n c (telemetry s semantic unit) = refl
 name_found n c (property s semantic unit writable) = refl
 name_found n c (command request response) = refl
 name_found n c (relationship target properties most writable) = refl
 name_found n c (component of) = refl
 
-kind_type_at : (n : List ℕ) (c : Common) (k : KindTerm) (ms : Members Number) → object_of_parts (table n c k) ≡ object ms → value_at (codes "@type") ms ≡ Some (kind_type k)
+pub kind_type_at : (n : List ℕ) (c : Common) (k : KindTerm) (ms : Members Number) → object_of_parts (table n c k) ≡ object ms → value_at (codes "@type") ms ≡ Some (kind_type k)
 kind_type_at n c k ms object_is = type_at (Some (kind_type k)) c (kind_parts n k) (kind_lacks n k) ms object_is
 
 -- a kind that may have a semantic type stands in a position that has its type
@@ -227,10 +227,10 @@ parents_back (p ∷ ps) (Some v) ids e (inl g) =
 parents_back (p ∷ ps) (Some v) ids e (inr g) =
     optional_back IsIdentifier parent_pair (map parent_pair (p ∷ ps)) (Some v) g.0 ids (all_mapped parent_pair (PairBack IsIdentifier parent_pair) (p ∷ ps) (each_parent_back (p ∷ ps))) e g.1 g.2
 
-abbrev content_named : Content → List ℕ × Json
+abbrev pub content_named : Content → List ℕ × Json
 content_named c = content_pair (content_term c)
 
-abbrev schema_named : Schema → List ℕ × Json
+abbrev pub schema_named : Schema → List ℕ × Json
 schema_named s = schema_pair (schema_term s)
 
 abbrev IsSchemaIn : Json → Schema → Type 0
@@ -240,7 +240,7 @@ each_schema_back : (ss : List Schema) → AllByRecursion (λ s. PairBack IsSchem
 each_schema_back [] = tt
 each_schema_back (s ∷ ss) = (λ t g. schema_back (schema_term s) (schema_term t) g, each_schema_back ss)
 
-abbrev interface_parts : Interface → Parts
+abbrev pub interface_parts : Interface → Parts
 interface_parts i =
     (codes "@context", Some (text (codes "dtmi:dtdl:context;2")))
     ∷ (codes "@id", Some (id_value i.id))

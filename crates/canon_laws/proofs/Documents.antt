@@ -43,11 +43,15 @@ uploads_back whole nth n (m ∷ ms) [] back all = absurd all
 uploads_back whole nth n (m ∷ ms) (u ∷ us) back all =
     ap₂ (λ (o : List ℕ × Json) (os : Pairs). o ∷ os) (back.0 u.interface all.0.members all.0.is all.0.declares) (uploads_back whole nth (n + 1) ms us back.1 all.1)
 
-pub set_back : (is : List Interface) (nth : ℕ) (us : List Uploaded) → AllByRecursion IsTyped is → AreUploaded (set_value is) nth us → set_value (map interface_of us) ≡ set_value is
-set_back is nth us types g =
+-- what the tree declares has its pairs, in their order
+pub set_pairs : (is : List Interface) (nth : ℕ) (us : List Uploaded) → AllByRecursion IsTyped is → AreUploaded (set_value is) nth us
+    → map interface_pair (map interface_of us) ≡ sorted_by pair_name (map interface_pair is)
+set_pairs is nth us types g =
     let back = all_mapped interface_pair InterfaceBack is (all_with IsTyped (λ i. InterfaceBack (interface_pair i)) (λ i h j ms object_is declares. interface_back i j ms h object_is declares) is types) in
-    list_again (map interface_pair is) (map interface_pair (map interface_of us))
-    (uploads_back (set_value is) nth 0 (sorted_by pair_name (map interface_pair is)) us (all_sorted pair_name InterfaceBack (map interface_pair is) back) g)
+    uploads_back (set_value is) nth 0 (sorted_by pair_name (map interface_pair is)) us (all_sorted pair_name InterfaceBack (map interface_pair is) back) g
+
+pub set_back : (is : List Interface) (nth : ℕ) (us : List Uploaded) → AllByRecursion IsTyped is → AreUploaded (set_value is) nth us → set_value (map interface_of us) ≡ set_value is
+set_back is nth us types g = list_again (map interface_pair is) (map interface_pair (map interface_of us)) (set_pairs is nth us types g)
 
 pub set_same : (is : List Interface) (nth : ℕ) (us : List Uploaded) → AllByRecursion InterfaceIsIdentified is → AllByRecursion (λ u. InterfaceIsIdentified u.interface) us
     → AllByRecursion IsTyped is → AreUploaded (set_value is) nth us → SameElements DeclareTheSame is (map interface_of us)
@@ -101,7 +105,7 @@ contents_typed [] (c ∷ cs) g = absurd g
 contents_typed (v ∷ vs) [] g = absurd g
 contents_typed (v ∷ vs) (c ∷ cs) g = (content_typed position.Content (content_term c) v g.0.1, contents_typed vs cs g.1)
 
-interface_typed : (ms : Members Number) (i : Interface) → DeclaresInterface ms i → IsTyped i
+pub interface_typed : (ms : Members Number) (i : Interface) → DeclaresInterface ms i → IsTyped i
 interface_typed ms i g = contents_typed (list_of g.contents.0) i.contents g.contents.2
 
 listed_typed : (whole : Json) (nth n : ℕ) (vs : List Json) (us : List Uploaded) → AllZip (IsUploadedAt whole nth) (enumerate_from n vs) us → AllByRecursion (λ u. IsTyped u.interface) us

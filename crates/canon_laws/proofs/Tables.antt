@@ -91,7 +91,7 @@ whole_size : (b : Bool) (n : ℕ) → IsSize (sized b n) n
 whole_size b zero = refl
 whole_size b (suc n) = let w = without_zeros (suc n) (suc n) 0 in sized_at w.0 w.1 (suc n) (size_sized b (suc n))
 
-whole_is : (z : ℤ) → IsWhole (whole z) z
+pub whole_is : (z : ℤ) → IsWhole (whole z) z
 whole_is (pos n) = whole_from_size (sized false n) n false (sign_sized n) (whole_size false n)
 whole_is (negsuc n) = whole_from_size (sized true (suc n)) (suc n) true refl (whole_size true (suc n))
 

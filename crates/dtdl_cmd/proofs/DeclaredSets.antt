@@ -1,5 +1,5 @@
 -- What documents without faults declare.
-use Rattle.std.proofs.Common.{◌≡◌, ◌≢◌, ℕ, zero, suc, ◌+◌, ◌<◌, List, [], ◌∷◌, Some, take, map, refl, sym, ap, subst, arith}
+use Rattle.std.proofs.Common.{◌≡◌, ◌≢◌, ℕ, zero, suc, ◌+◌, ◌<◌, List, [], ◌∷◌, Some, take, map, refl, sym, ap, subst, ◌∙◌, arith}
 use Rattle.std.specs.Prelude.{Contains, slice_get}
 use Rattle.std.specs.List.{AllByRecursion, AllZip}
 use Rattle.json_tree.specs.Values.{HasDistinctKeys, Json}
@@ -17,7 +17,8 @@ use Rattle.extend_resolve.specs.declared.rule.SetRule.TheVariants as rules
 use Rattle.dtdl_terms.specs.declared.spot.Spot.TheVariants as spots
 use Rattle.dtdl_cmd.specs.FirstFaults.{AllUploaded, Declare, IsUnbroken}
 use Rattle.dtdl_cmd.specs.Answers.{interfaces_of}
-use Rattle.dtdl_cmd.proofs.Distinct.{spelled_distinct}
+use Rattle.canon_faults.proofs.NormalForms.{spelled_distinct}
+use Rattle.model_read.proofs.Pairs.{distinct_pairs, mapped_back}
 use Rattle.dtdl_cmd.proofs.Ordinals.{all_append}
 
 -- ---- each interface
@@ -50,7 +51,7 @@ types told n (v ∷ vs) us (first, rest, h, t, e) =
     subst (AllByRecursion (λ u. IsTyped u.interface)) (sym e)
     (all_append (λ u. IsTyped u.interface) first rest (told v n first h) (types told (n + 1) vs rest t))
 
-without_places : (P : Interface → Type 0) (us : List Uploaded) → AllByRecursion (λ u. P u.interface) us → AllByRecursion P (interfaces_of us)
+pub without_places : (P : Interface → Type 0) (us : List Uploaded) → AllByRecursion (λ u. P u.interface) us → AllByRecursion P (interfaces_of us)
 without_places P [] all = tt
 without_places P (u ∷ us) all = (all.0, without_places P us all.1)
 
@@ -67,6 +68,19 @@ among (w ∷ ws) (suc k) (suc l) u less at =
     let rest = among ws k l u lesser at in
     let within = rest.1 in
     (suc rest.0, omega (arith, within), rest.2)
+
+-- their texts are apart
+pub texts_apart : (us : List Uploaded) → IsSound [] us → AreDistinct (map (λ i. dtmi_text i.id) (interfaces_of us))
+texts_apart us sound = distinct_pairs (map (λ i. dtmi_text i.id) (interfaces_of us)) (λ k l x y less first second same.
+    let (i, i_at, i_is) = mapped_back (λ (h : Interface). dtmi_text h.id) (interfaces_of us) k x first in
+    let (j, j_at, j_is) = mapped_back (λ (h : Interface). dtmi_text h.id) (interfaces_of us) l y second in
+    let (u, u_at, u_is) = mapped_back (λ (w : Uploaded). w.interface) us k i i_at in
+    let (v, v_at, v_is) = mapped_back (λ (w : Uploaded). w.interface) us l j j_at in
+    sound (record { index = l; rule = rules.RepeatedId; spot = spots.Id }) (
+      v,
+      v_at,
+      (u.interface, among us k l u less u_at, ap (λ (h : Interface). dtmi_text h.id) u_is ∙ i_is ∙ same ∙ sym j_is ∙ ap (λ (h : Interface). dtmi_text h.id) (sym v_is)),
+    ))
 
 abbrev Apart : List Uploaded → Type 0
 Apart us = (k l : ℕ) (u v : Uploaded) → slice_get us k ≡ Some u → slice_get us l ≡ Some v → k < l → u.interface.id ≡ v.interface.id → ⊥

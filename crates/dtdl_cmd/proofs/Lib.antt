@@ -8,6 +8,6 @@ pub mod OneInput
 pub mod Ended
 pub mod Names
 pub mod Judged
-pub mod Distinct
 pub mod DeclaredSets
+pub mod PrintsItself
 pub mod OneReplay

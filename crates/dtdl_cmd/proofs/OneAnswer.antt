@@ -58,7 +58,7 @@ one_json_line n bytes line text (fault, is, x) (other, has, y) =
     let e : fault ≡ other = one_fault bytes fault other is has (named n bytes fault line x) (named n bytes other text y) in
     one_fault_line n bytes other line text (subst (λ (f : JsonFault). IsFaultLine n bytes f line) e x) y
 
-faulty : OneNumber → (n : ℕ) (bytes line : List ℕ) → IsJsonFaultLine n bytes line → IsJson bytes → ⊥
+pub faulty : OneNumber → (n : ℕ) (bytes line : List ℕ) → IsJsonFaultLine n bytes line → IsJson bytes → ⊥
 faulty number n bytes line (fault, is, x) spelled = fault_or_value number bytes fault spelled.0 is (named n bytes fault line x) spelled.1
 
 -- ---- a value
@@ -68,7 +68,7 @@ one_breach_line n v line text (place, broken, pointer, first, is, x) (other, ano
     let pointers : pointer ≡ points = one_pointer v place pointer points is (subst (λ (p : List ℕ). IsPointerOf v p points) (sym same.0) leads) in
     x ∙ ap₂ (λ (p : List ℕ) (b : LocalRule). pointer_line n p (rule_code b)) pointers same.1 ∙ sym y
 
-breached : (n : ℕ) (v : Json) (line : List ℕ) → IsBreachLine n v line → IsUnbroken v → ⊥
+pub breached : (n : ℕ) (v : Json) (line : List ℕ) → IsBreachLine n v line → IsUnbroken v → ⊥
 breached n v line h unbroken = unbroken h.0 h.1 h.3.breach
 
 -- ---- interfaces
@@ -87,7 +87,7 @@ one_set_line us line text told (b, u, first, at, x) (c, w, least, stands, y) =
     x ∙ ap₂ (λ (z : Uploaded) (d : Breach). pointer_line z.document (z.base ++ spot_text z.parents_as_text d.spot) (set_rule_code d.rule)) ones same ∙ sym y
 
 -- ---- documents
-one_values : OneNumber → (documents : List (List ℕ)) (vs ws : List Json) → AllZip Spells documents vs → AllZip Spells documents ws → vs ≡ ws
+pub one_values : OneNumber → (documents : List (List ℕ)) (vs ws : List Json) → AllZip Spells documents vs → AllZip Spells documents ws → vs ≡ ws
 one_values number [] [] [] h g = refl
 one_values number [] [] (w ∷ ws) h g = absurd g
 one_values number [] (v ∷ vs) ws h g = absurd h
@@ -174,7 +174,7 @@ other_words names more is =
     let e : 104 ≡ 97 = ap (λ (ws : List (List ℕ)). get_or (get_or ws 0 []) 1 0) is in
     omega (arith, e)
 
-same_command : (command other : Command) (names more : List (List ℕ)) → command_word command ∷ names ≡ command_word other ∷ more → command ≡ other
+pub same_command : (command other : Command) (names more : List (List ℕ)) → command_word command ∷ names ≡ command_word other ∷ more → command ≡ other
 same_command commands.Check commands.Check names more is = refl
 same_command commands.Canon commands.Canon names more is = refl
 same_command commands.Check commands.Canon names more is = absurd (other_words names more is)

@@ -1,6 +1,6 @@
 //! What the definitions of answers say, whatever is run.
 
-ghost use Rattle.std.specs.Prelude.{◌≡◌, ◌↔◌, ℕ, List, Some, Option, String, map, IfOk};
+ghost use Rattle.std.specs.Prelude.{◌≡◌, ◌↔◌, ℕ, ◌≤◌, List, [], ◌∷◌, Some, Option, String, length, map, IfOk};
 ghost use Rattle.std.specs.List.{AllByRecursion};
 ghost use Rattle.std.specs.declared.alloc.Global.{Global};
 ghost use Rattle.dtdl_terms.specs.Distinct.{AreDistinct, HasDeclaration};
@@ -9,14 +9,18 @@ ghost use Rattle.dtdl_terms.specs.declared.uploaded.Uploaded.{Uploaded};
 ghost use Rattle.model_read.specs.Limits.{IsWithinLimits};
 ghost use Rattle.canon_text.specs.Canonical.{set_text};
 ghost use Rattle.canon_laws.specs.Typed.{IsTyped};
-ghost use Rattle.dtdl_cmd.specs.Documents.{AreFound, ShelfChange, StreamChange, documents_of};
+ghost use Rattle.dtdl_cmd.specs.Words.{IsCommand};
+ghost use Rattle.dtdl_cmd.specs.Documents.{AreFound, MAX_BYTES, ShelfChange, StreamChange, documents_of};
 ghost use Rattle.dtdl_cmd.specs.FirstFaults.{Declare};
 ghost use Rattle.dtdl_cmd.specs.Answers.{Answers, interfaces_of};
+ghost use Rattle.dtdl_cmd.specs.declared.command.Command.TheVariants as commands;
 ghost use Rattle.dtdl_cmd.specs.Runs.{Ends, IsDecided};
 ghost use Rattle.dtdl_cmd.specs.Words.{AreReplay};
 ghost use Rattle.dtdl_cmd.specs.declared.status.Status.{Status};
+ghost use Rattle.dtdl_cmd.specs.declared.status.Status.TheVariants as status;
 
-use canon_laws::{have_types, one_set_text};
+use canon_faults::without_faults;
+use canon_laws::{have_types, one_set_text, same_bytes};
 use dt_base::OutOfMemory;
 use dtdl_terms::Interface;
 use json_decimal::one_number;
@@ -68,5 +72,20 @@ pub fn equal_texts(alloc: Global, one: &[Interface], other: &[Interface]) -> Res
 {
     declared_set();
     one_set_text(alloc, one, other)?;
+    Ok(())
+}
+
+/// Canonical bytes print themselves: where documents without faults declare interfaces whose canonical text is within its
+/// limit, whatever answers the words of `canon` that find this text as their one document is status 0 and the same bytes.
+/// The call makes the tree of the interfaces, and fails only for want of memory.
+pub fn prints_itself(alloc: Global, interfaces: &[Interface]) -> Result<(), OutOfMemory>
+    ensures { IfOk result (λ done. (documents : List (List ℕ)) (uploads : List Uploaded) → Declare documents uploads → interfaces.now ≡ interfaces_of uploads
+        → length (set_text interfaces.now) ≤ MAX_BYTES → (words : List (String Global)) (names : List (List ℕ)) → IsCommand words commands.Canon names
+        → (s : Status) (line : List ℕ) → Answers words (Some (set_text interfaces.now) ∷ []) s line → (s ≡ status.Ok) × (line ≡ set_text interfaces.now)) }
+{
+    one_number();
+    declared_set();
+    without_faults(alloc, interfaces)?;
+    same_bytes(alloc, interfaces)?;
     Ok(())
 }

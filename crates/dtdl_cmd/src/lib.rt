@@ -12,6 +12,6 @@ mod replays;
 mod run;
 mod status;
 
-pub use laws::{declared_set, equal_texts, one_answer, one_input, one_replay};
+pub use laws::{declared_set, equal_texts, one_answer, one_input, one_replay, prints_itself};
 pub use run::run_plain;
 pub use status::Status;

@@ -253,6 +253,7 @@ one_asked laws r parts others request p q same (inr (m, is, x)) (inr (n, has, y)
     one_ask laws r n parts others request.body p q same (subst (λ (k : Method). Asks r k parts request.body p) one x) y
 
 pub one_prepared : Laws → (request : Request) (p q : Prepared) → IsPrepared request p → IsPrepared request q → p ≡ q
+unfolding IsPrepared
 one_prepared laws request p q (inl (none, x)) (inl (also, y)) = x ∙ sym y
 one_prepared laws request p q (inl (none, x)) (inr (r, parts, m, y)) = absurd (none r parts m)
 one_prepared laws request p q (inr (r, parts, m, x)) (inl (none, y)) = absurd (none r parts m)

@@ -128,6 +128,7 @@ asked told route.Query method.Post parts body p e = not_built p e
 asked told route.Query method.Put parts body p e = not_built p e
 
 right : TypesAreTold → (request : Request) (p : Prepared) → IsPrepared request p → IsRight p
+unfolding IsPrepared
 right told request p (inl (none, e)) = right_by p (Own refusals.NoRoute) e tt
 right told request p (inr (r, parts, m, inl (none, e))) = right_by p (Own (refusals.BadMethod (allow_text r))) e (listed r)
 right told request p (inr (r, parts, m, inr (n, is, h))) = asked told r n parts request.body p h

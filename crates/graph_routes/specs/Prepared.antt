@@ -63,6 +63,6 @@ AsksOf r parts request answer = (((m : Method) → IsMethodOf r request.method m
     ⊎ ((m : Method) × IsMethodOf r request.method m × Asks r m parts request.body answer)
 
 -- The request is this ask, or its bytes decide this refusal.
-abbrev pub IsPrepared : Request → Prepared → Type 0
+unfoldable pub IsPrepared : Request → Prepared → Type 0
 IsPrepared request answer = (((r : Route) (parts : List (List ℕ)) → Matches r parts request.path → ⊥) × (answer ≡ Own refusals.NoRoute))
     ⊎ ((r : Route) × (parts : List (List ℕ)) × Matches r parts request.path × AsksOf r parts request answer)

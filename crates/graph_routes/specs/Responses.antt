@@ -15,14 +15,14 @@ abbrev pub allow_of : Refusal → Option (List ℕ)
 allow_of (refusals.BadMethod allow) = Some allow
 allow_of other = None
 
-abbrev pub response_to : Refusal → Response
+unfoldable pub response_to : Refusal → Response
 response_to refusal = record { status = status_of refusal; allow = allow_of refusal; body = refusal_text refusal }
 
 abbrev pub plain : ℕ → List ℕ → Response
 plain status body = record { status = status; allow = None; body = body }
 
 -- A tree is printed, a canonical text stands as it is, and nothing is said of what is done.
-abbrev pub response_for : Reply → Response
+unfoldable pub response_for : Reply → Response
 response_for (replies.Body tree) = plain 200 (printed (view tree))
 response_for (replies.Created tree) = plain 201 (printed (view tree))
 response_for (replies.Canon bytes) = plain 200 bytes

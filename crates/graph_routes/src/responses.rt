@@ -74,6 +74,7 @@ fn printed_in(alloc: Global, status: u16, tree: &Tree) -> Result<Response, OutOf
 
 /// The response of a refusal: its status, the methods of the path where it has not the one of the request, and its code
 /// with what it tells as the members of `error`. Fails only for want of memory.
+#[tactic(auto, unfolding(crate::specs::Responses::response_to))]
 pub fn response_of_refusal(alloc: Global, refusal: &Refusal) -> Result<Response, OutOfMemory>
     ensures response { IfOk result (λ response. response ≡ response_to refusal.now) }
     // `write_response` takes it.
@@ -90,6 +91,7 @@ pub fn response_of_refusal(alloc: Global, refusal: &Refusal) -> Result<Response,
 
 /// The response of a reply: 200 with what was asked for, 201 with what was made, 200 with a canonical text, 204 without
 /// a body, or that of a refusal. Fails only for want of memory.
+#[tactic(auto, unfolding(crate::specs::Responses::response_for))]
 pub fn response_of(alloc: Global, reply: &Reply) -> Result<Response, OutOfMemory>
     ensures response { IfOk result (λ response. response ≡ response_for reply.now) }
     // `write_response` takes it.

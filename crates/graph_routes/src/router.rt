@@ -139,6 +139,7 @@ impl Routes {
     /// does not have the method, what is asked for is not built, the path's part is no identifier, the body is no JSON
     /// text, it lists more than 250 models, a model breaks a local rule, or the body is no patch; of several the first in
     /// this order. Fails only for want of memory.
+    #[tactic(auto, unfolding(crate::specs::Prepared::IsPrepared))]
     pub fn ask_of(&self, request: &Request) -> Result<Prepared, OutOfMemory>
         ensures { IfOk result (IsPrepared request.now) }
     {

@@ -64,7 +64,7 @@ response_in done = plain 204 []
 response_in (refused r) = response_to r
 
 of_answer : (reply : Reply) → response_for reply ≡ response_in (answer_of reply)
-unfolding response_in
+unfolding response_in response_for
 of_answer (replies.Body tree) = refl
 of_answer (replies.Created tree) = refl
 of_answer (replies.Canon bytes) = refl

@@ -6,6 +6,7 @@ use Rattle.graph_routes.specs.declared.route.Route.TheVariants as route
 use Rattle.graph_routes.proofs.router.Routes.ask_of.Goals as goal
 
 pub returns-in-Some : goal.returns-in-Some
+unfolding IsPrepared
 returns-in-Some c =
     let found = c.in-Some.found in
     let there = c.in-Some.ensures in

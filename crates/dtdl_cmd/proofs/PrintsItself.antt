@@ -1,0 +1,114 @@
+-- Canonical bytes print themselves.
+use Rattle.std.proofs.Common.{◌≡◌, ℕ, ◌+◌, ◌≤◌, ◌⊎◌, List, [], ◌∷◌, ◌++◌, length, Some, String, inl, inr, refl, sym, ap, subst, ◌∙◌, append-nil, arith}
+use Rattle.std.specs.List.{AllByRecursion, AllZip}
+use Rattle.std.specs.declared.alloc.Global.{Global}
+use Rattle.json_tree.specs.Values.{Json}
+use Rattle.json_tree.specs.Grammar.{Spells}
+use Rattle.json_read.proofs.OneValue.{OneNumber}
+use Rattle.dtdl_terms.specs.declared.interface.Interface.{Interface}
+use Rattle.dtdl_terms.specs.declared.uploaded.Uploaded.{Uploaded}
+use Rattle.model_read.specs.Uploads.{AreUploaded}
+use Rattle.extend_resolve.specs.Breaches.{IsSound}
+use Rattle.canon_text.specs.Canonical.{set_text, set_value}
+use Rattle.canon_faults.specs.Declared.{BreaksNoLocalRule, IsSoundlyDeclared}
+use Rattle.canon_faults.proofs.Judged.{sound_alike}
+use Rattle.canon_faults.proofs.DeclaredAgain.{apart_set, declared_set as has_declarations, same_set}
+use Rattle.canon_faults.proofs.Uploads.{all_soundly, declared_once}
+use Rattle.canon_text.proofs.Told.{all_with}
+use Rattle.dtdl_cmd.specs.Words.{IsCommand}
+use Rattle.dtdl_cmd.specs.Documents.{MAX_BYTES}
+use Rattle.dtdl_cmd.specs.Lines.{IsBreachLine, IsJsonFaultLine}
+use Rattle.dtdl_cmd.specs.FirstFaults.{AllUploaded, Declare, HasFirstFault, HasLocalFault, HasSetFault, IsJson, IsUnbroken}
+use Rattle.dtdl_cmd.specs.Answers.{Answers, AnswersDocuments, AnswersFound, Prints, interfaces_of}
+use Rattle.dtdl_cmd.specs.declared.command.Command.{Command}
+use Rattle.dtdl_cmd.specs.declared.command.Command.TheVariants as commands
+use Rattle.dtdl_cmd.specs.declared.status.Status.{Status}
+use Rattle.dtdl_cmd.specs.declared.status.Status.TheVariants as status
+use Rattle.dtdl_cmd.proofs.DeclaredSets.{texts_apart, without_places}
+use Rattle.dtdl_cmd.proofs.Firsts.{none_first}
+use Rattle.dtdl_cmd.proofs.OneAnswer.{breached, faulty, one_values, same_command}
+use Rattle.dtdl_cmd.proofs.OneCut.{long_or_there, missing_or_there, one_there}
+use Rattle.dtdl_cmd.proofs.Ordinals.{all_append}
+
+-- ---- what documents without faults declare
+soundly : (n : ℕ) (ds : List (List ℕ)) (vs : List Json) (us : List Uploaded) → AllZip Spells ds vs → AllByRecursion IsUnbroken vs → AllUploaded n vs us
+    → AllByRecursion (λ u. IsSoundlyDeclared u.interface) us
+soundly n [] [] us spelled unbroken none = subst (AllByRecursion (λ u. IsSoundlyDeclared u.interface)) (sym none) tt
+soundly n [] (v ∷ vs) us spelled unbroken h = absurd spelled
+soundly n (d ∷ ds) [] us spelled unbroken h = absurd spelled
+soundly n (d ∷ ds) (v ∷ vs) us spelled unbroken (first, rest, h, t, e) =
+    subst (AllByRecursion (λ u. IsSoundlyDeclared u.interface)) (sym e)
+    (all_append (λ u. IsSoundlyDeclared u.interface) first rest (all_soundly d v n first spelled.0 unbroken.0 h) (soundly (n + 1) ds vs rest spelled.1 unbroken.1 t))
+
+pub declared_soundly : (documents : List (List ℕ)) (us : List Uploaded) → Declare documents us → AllByRecursion IsSoundlyDeclared (interfaces_of us)
+declared_soundly documents us d = without_places IsSoundlyDeclared us (soundly 1 documents d.values us d.spelled d.unbroken d.uploaded)
+
+-- ---- one document, of canonical bytes
+module _ (number : OneNumber) (documents : List (List ℕ)) (us : List Uploaded) (d : Declare documents us) (spelled : Spells (set_text (interfaces_of us)) (set_value (interfaces_of us)))
+    (unbroken : BreaksNoLocalRule (set_value (interfaces_of us)))
+    (same_text : (v : Json) (nth : ℕ) (ws : List Uploaded) → Spells (set_text (interfaces_of us)) v → AreUploaded v nth ws → set_text (interfaces_of ws) ≡ set_text (interfaces_of us))
+    (short : length (set_text (interfaces_of us)) ≤ MAX_BYTES) where
+  abbrev bytes : List ℕ
+  bytes = set_text (interfaces_of us)
+
+  abbrev value : Json
+  value = set_value (interfaces_of us)
+
+  -- what it declares breaks no rule on sets
+  sound_again : (nth : ℕ) (ws : List Uploaded) → AreUploaded value nth ws → IsSound [] ws
+  sound_again nth ws g =
+      let sound = declared_soundly documents us d in
+      let apart = texts_apart us d.sound in
+      sound_alike us ws (same_set (interfaces_of us) nth ws sound g) (all_with IsSoundlyDeclared _ declared_once (interfaces_of us) sound)
+      (has_declarations bytes (interfaces_of us) nth ws sound spelled g) apart (apart_set (interfaces_of us) nth ws sound g apart) d.sound
+
+  -- the interfaces of one document
+  one_document : (ws : List Uploaded) → AllUploaded 1 (value ∷ []) ws → AreUploaded value 1 ws
+  one_document ws (first, rest, h, t, e) =
+      let alone : ws ≡ first = e ∙ ap (λ (xs : List Uploaded). first ++ xs) t ∙ append-nil first in
+      subst (AreUploaded value 1) (sym alone) h
+
+  no_fault : (line : List ℕ) → HasFirstFault (bytes ∷ []) line → ⊥
+  no_fault line (inl h) = none_first IsJson IsJsonFaultLine (faulty number) (bytes ∷ []) 1 line ((value, spelled), tt) h
+  no_fault line (inr (vs, spells, h)) = by vs (one_values number (bytes ∷ []) vs (value ∷ []) spells (spelled, tt)) h
+    where
+      by : (vs : List Json) → vs ≡ value ∷ [] → HasLocalFault vs line ⊎ HasSetFault vs line → ⊥
+      by vs same (inl local) = none_first IsUnbroken IsBreachLine breached (value ∷ []) 1 line (unbroken, tt) (subst (λ (xs : List Json). HasLocalFault xs line) same local)
+      by vs same (inr (ws, also, are, breaks)) =
+          sound_again 1 ws (one_document ws (subst (λ (xs : List Json). AllUploaded 1 xs ws) same are)) breaks.0 breaks.2.breach
+
+  prints_bytes : (ws : List Uploaded) (s : Status) (line : List ℕ) → AreUploaded value 1 ws → Prints commands.Canon (interfaces_of ws) s line → (s ≡ status.Ok) × (line ≡ bytes)
+  prints_bytes ws s line g (inl (ok, within, is)) = (ok, is ∙ same_text value 1 ws spelled g)
+  prints_bytes ws s line g (inr (long, more, is)) = let sizes = ap length (same_text value 1 ws spelled g) in absurd (omega (arith, more, short))
+
+  to_documents : (s : Status) (line : List ℕ) → AnswersDocuments commands.Canon (bytes ∷ []) s line → (s ≡ status.Ok) × (line ≡ bytes)
+  to_documents s line (inl (refused, fault)) = absurd (no_fault line fault)
+  to_documents s line (inr (ws, again, prints)) =
+      let same = one_values number (bytes ∷ []) again.values (value ∷ []) again.spelled (spelled, tt) in
+      prints_bytes ws s line (one_document ws (subst (λ (xs : List Json). AllUploaded 1 xs ws) same again.uploaded)) prints
+
+  to_found : (s : Status) (line : List ℕ) → AnswersFound commands.Canon (Some bytes ∷ []) s line → (s ≡ status.Ok) × (line ≡ bytes)
+  to_found s line (inl (missing, (n, h, is))) = absurd (missing_or_there (Some bytes ∷ []) n (bytes ∷ []) h (refl, omega (arith, short)))
+  to_found s line (inr (inl (long, (n, h, is)))) = absurd (long_or_there (Some bytes ∷ []) n (bytes ∷ []) h (refl, omega (arith, short)))
+  to_found s line (inr (inr (ds, there, answers))) =
+      let same = one_there (Some bytes ∷ []) ds (bytes ∷ []) there (refl, omega (arith, short)) in
+      to_documents s line (subst (λ (xs : List (List ℕ)). AnswersDocuments commands.Canon xs s line) same answers)
+
+  pub to_words : (words : List (String Global)) (names : List (List ℕ)) → IsCommand words commands.Canon names → (s : Status) (line : List ℕ)
+      → Answers words (Some bytes ∷ []) s line → (s ≡ status.Ok) × (line ≡ bytes)
+  to_words words names is s line (inl (usage, none, x)) = absurd (none.0 (commands.Canon, names, is))
+  to_words words names is s line (inr (command, more, has, answers)) =
+      let same : command ≡ commands.Canon = same_command command commands.Canon more names (sym has.0 ∙ is.0) in
+      to_found s line (subst (λ (c : Command). AnswersFound c (Some bytes ∷ []) s line) same answers)
+
+-- ---- of any list of these interfaces
+abbrev PrintsAgain : List Interface → Type 0
+PrintsAgain is = Spells (set_text is) (set_value is) → BreaksNoLocalRule (set_value is)
+    → ((v : Json) (nth : ℕ) (ws : List Uploaded) → Spells (set_text is) v → AreUploaded v nth ws → set_text (interfaces_of ws) ≡ set_text is)
+    → length (set_text is) ≤ MAX_BYTES
+    → (words : List (String Global)) (names : List (List ℕ)) → IsCommand words commands.Canon names → (s : Status) (line : List ℕ)
+    → Answers words (Some (set_text is) ∷ []) s line → (s ≡ status.Ok) × (line ≡ set_text is)
+
+pub prints_itself : OneNumber → (documents : List (List ℕ)) (us : List Uploaded) → Declare documents us → (is : List Interface) → is ≡ interfaces_of us → PrintsAgain is
+prints_itself number documents us d is same =
+    subst PrintsAgain (sym same) (λ spelled unbroken same_text short. to_words number documents us d spelled unbroken same_text short)
