@@ -18,22 +18,21 @@ use Rattle.dtdl_terms.specs.declared.uploaded.Uploaded.{Uploaded}
 use Rattle.dtdl_terms.proofs.Keyed.{values-keyed}
 use Rattle.extend_resolve.specs.Breaches.{BreaksNoRule, IsSound}
 use Rattle.extend_resolve.proofs.Members.{all_at, unmapped_at, contains_placed}
-use Rattle.model_resolve.specs.Resolving.{entry_at, ResolvesAll, ResolvesOthers, IsWithin, LacksNone}
+use Rattle.model_resolve.specs.Resolving.{IsWithin, LacksNone}
 use Rattle.model_resolve.specs.Machinery.Families.{IsThere}
-use Rattle.model_resolve.proofs.Families.{listed}
+use Rattle.model_resolve.proofs.Families.{listed, stands}
 use Rattle.model_resolve.proofs.Declared.{get_placed}
-use Rattle.model_resolve.proofs.Changes.{lacks_none, with_more}
+use Rattle.model_resolve.proofs.Changes.{lacks_none}
 use Rattle.set_laws.specs.Changing.{with_uploads, is_one_of, without_interfaces, AreApart, AreFree}
 use Rattle.set_laws.proofs.Looking.{AreAbsent, or_else, at_append, eq_tests, one_text_of, uploads_ordered, uploads_same}
 use Rattle.set_laws.proofs.Sound.{new_apart, with_sound}
 use Rattle.model_life.specs.Models.{Model, model_of, by_id, with_model, with_models, without_models}
 use Rattle.model_life.specs.Sums.{text_bytes, bytes_in, bytes_of, model_bytes}
-use Rattle.model_life.specs.Machinery.Keeping.{record_at, models_of, recorded, share_at, shares, Users, user_at, Fits, IsKept}
+use Rattle.model_life.specs.Machinery.Keeping.{record_at, models_of, recorded, share_of, share_in, share_at, Written, written_at, AreWritten, Users, user_at, Fits, IsKept}
 use Rattle.model_life.proofs.Seen.{Records, seen}
-use Rattle.model_life.proofs.Taking.{sum_same, sum_with_all, recorded_is, recorded_all, share_same}
+use Rattle.model_life.proofs.Taking.{sum_map, sum_same, sum_with_all, recorded_is, share_same}
 use Rattle.model_life.proofs.Whole.{length_seen, bytes_seen}
 use Rattle.model_life.proofs.Growing.{absent_one, rolled_back, upload_there, left_fits, left_models}
-use Rattle.model_life.proofs.Leaving.{Entries, left_entries}
 
 abbrev interface_of : Uploaded → Interface
 interface_of u = u.interface
@@ -45,10 +44,6 @@ id_of u = u.interface.id
 pub all_placed : {X : Type 0} (P : X → Type 0) (xs : List X) → ((k : ℕ) (x : X) → slice_get xs k ≡ Some x → P x) → AllByRecursion P xs
 all_placed P [] h = tt
 all_placed P (x ∷ xs) h = (h zero x refl, all_placed P xs (λ k y at. h (suc k) y at))
-
-sum_map : {X Y : Type 0} (f : Y → ℕ) (g : X → Y) (xs : List X) → sum_by f (map g xs) ≡ sum_by (λ x. f (g x)) xs
-sum_map f g [] = refl
-sum_map f g (x ∷ xs) = sum_by-cons f (g x) (map g xs) ∙ ap (λ n. f (g x) + n) (sum_map f g xs) ∙ sym (sum_by-cons (λ y. f (g y)) x xs)
 
 length_sum : {X : Type 0} (xs : List X) → length xs ≡ sum_by (λ (x : X). 1) xs
 length_sum [] = refl
@@ -119,7 +114,7 @@ none_gone ids [] es off = refl
 none_gone ids (i ∷ is) es off = ap (λ b. cond (not b) (seen es i ∷ without_models ids (models_of is es)) (without_models ids (models_of is es))) off.0 ∙ ap (λ ms. seen es i ∷ ms) (none_gone ids is es off.1)
 
 -- ---- uploads that join
-module _ (us : List Uploaded) (ids : List Identifier) (set : List Interface) (es : Records) (users : Users) (table : Entries) (bytes resolved : ℕ) (kept : IsKept set es users table bytes resolved) (of : ids ≡ map id_of us) (absent : AreAbsent set us) (sound : IsSound set us) where
+module _ (us : List Uploaded) (ids : List Identifier) (set : List Interface) (es : Records) (users : Users) (ws : Written) (bytes resolved : ℕ) (kept : IsKept set es users ws bytes resolved) (of : ids ≡ map id_of us) (absent : AreAbsent set us) (sound : IsSound set us) where
   pub joined_apart : AreApart (map interface_of us)
   joined_apart = new_apart set us kept.ordered absent sound
 
@@ -181,36 +176,46 @@ module _ (us : List Uploaded) (ids : List Identifier) (set : List Interface) (es
       ∙ gone_all ids us (models_of set es) (all_placed (λ (u : Uploaded). is_one_of ids u.interface.id ≡ true) us (λ k u at. ap (λ xs. is_one_of xs u.interface.id) of ∙ one_at us k u at))
       ∙ none_gone ids set es not_there
 
-  pub back_entries : (grown new : Entries) → ResolvesAll (with_uploads us set) grown → ((q : Identifier) → entry_at q new ≡ cond (is_one_of ids q) None (entry_at q grown)) → ResolvesAll set new
-  back_entries grown new all gone = subst (λ s. ResolvesAll s new) back (left_entries ids (with_uploads us set) grown new joined_ordered joined_rules joined_free all gone)
+  pub back_written : (grown again : Written) → ((q : Identifier) → is_one_of ids q ≡ false → written_at q grown ≡ written_at q ws) → ((q : Identifier) → written_at q again ≡ cond (is_one_of ids q) 0 (written_at q grown)) → AreWritten set again
+  back_written grown again others gone q = gone q ∙ by (is_one_of ids q) refl
+    where
+      by : (b : Bool) → is_one_of ids q ≡ b → cond b 0 (written_at q grown) ≡ share_at set q
+      by true e = sym (ap (share_in set) (absent_id q e))
+      by false e = others q e ∙ kept.written q
 
-  pub back_kept : (new : Records) (left : Users) (again : Entries) → Fits set new left → ResolvesAll set again → IsKept set new left again bytes resolved
+  pub back_kept : (new : Records) (left : Users) (again : Written) → Fits set new left → AreWritten set again → IsKept set new left again bytes resolved
   back_kept new left again fits all = record {
     rules = kept.rules;
     ordered = kept.ordered;
     declared = kept.declared;
     fits = fits;
-    entries = all;
+    written = all;
     sum = kept.sum;
-    total = kept.total
-        ∙ sum_same (λ i. share_at (bytes_of set) table i.id) (λ i. share_at (bytes_of set) again i.id) set
-        (λ i c. share_same set set (λ p j found. found) (lacks_none set kept.rules) table again kept.entries all i ((listed set kept.ordered i).0 c));
+    total = kept.total;
     few = kept.few;
     small = kept.small;
     bounded = kept.bounded;
   }
 
-  -- ---- the table
-  pub joined_others : ResolvesOthers (with_uploads us set) ids table
-  joined_others =
-      with_more set (with_uploads us set) ids table kept.rules joined_within
-      (subst (λ xs. AllByRecursion (λ id. IsSome (interface_at id (with_uploads us set)) × (interface_at id set ≡ None)) xs) (sym of)
-      (all_placed (λ (id : Identifier). IsSome (interface_at id (with_uploads us set)) × (interface_at id set ≡ None)) (map id_of us)
+  -- ---- what is written
+  pub joined_there : AllByRecursion (λ id. IsSome (interface_at id (with_uploads us set))) ids
+  joined_there =
+      subst (AllByRecursion (λ id. IsSome (interface_at id (with_uploads us set)))) (sym of)
+      (all_placed (λ (id : Identifier). IsSome (interface_at id (with_uploads us set))) (map id_of us)
       (λ k id at.
       let u = unmapped_at id_of us k id at in
       let here : interface_at id (with_uploads us set) ≡ Some u.0.interface = ap (λ (q : Identifier). interface_at q (with_uploads us set)) (sym u.2) ∙ upload_there us set absent joined_apart k u.0 u.1 in
-      (ap is_some here, ap (λ (q : Identifier). interface_at q set) (sym u.2) ∙ all_at (λ v. interface_at v.interface.id set ≡ None) us k u.0 absent u.1))))
-      others_at kept.entries
+      ap is_some here))
+
+  share_more : (i : Interface) → IsThere set i → share_of set i ≡ share_of (with_uploads us set) i
+  share_more = share_same set (with_uploads us set) joined_within kept.rules kept.ordered joined_rules joined_ordered
+
+  pub joined_before : (q : Identifier) → is_one_of ids q ≡ false → written_at q ws ≡ share_at (with_uploads us set) q
+  joined_before q off = kept.written q ∙ by (interface_at q set) refl ∙ sym (ap (share_in (with_uploads us set)) (others_at q off))
+    where
+      by : (o : Option Interface) → interface_at q set ≡ o → share_in set o ≡ share_in (with_uploads us set) o
+      by None e = refl
+      by (Some i) e = share_more i (stands set q i e)
 
   -- ---- sums
   at_upload : (u : Uploaded) → Contains us u → interface_at u.interface.id (with_uploads us set) ≡ Some u.interface
@@ -233,18 +238,15 @@ module _ (us : List Uploaded) (ids : List Identifier) (set : List Interface) (es
       ∙ sum_map (λ id. bytes_in (interface_at id (with_uploads us set))) id_of us
       ∙ sum_same (λ u. bytes_in (interface_at u.interface.id (with_uploads us set))) (λ u. text_bytes u.interface) us (λ u c. ap bytes_in (at_upload u c))))
 
-  pub joined_shares : (grown : Records) (more : Users) (wider : Entries) → Fits (with_uploads us set) grown more → ResolvesAll (with_uploads us set) wider
-      → shares (with_uploads us set) wider ≡ resolved + sum_by (λ id. share_at (recorded grown) wider id) ids
-  joined_shares grown more wider fits all =
-      sum_with_all (λ i. share_at (bytes_of (with_uploads us set)) wider i.id) us set kept.ordered absent joined_apart
-      ∙ ap (λ n. n + sum_by (λ (u : Uploaded). share_at (bytes_of (with_uploads us set)) wider u.interface.id) us)
-      (sym (kept.total
-      ∙ sum_same (λ i. share_at (bytes_of set) table i.id) (λ i. share_at (bytes_of (with_uploads us set)) wider i.id) set
-      (λ i c. share_same set (with_uploads us set) joined_within (lacks_none set kept.rules) table wider kept.entries all i ((listed set kept.ordered i).0 c))))
+  pub joined_shares : sum_by (share_of (with_uploads us set)) (with_uploads us set) ≡ resolved + sum_by (share_at (with_uploads us set)) ids
+  joined_shares =
+      sum_with_all (share_of (with_uploads us set)) us set kept.ordered absent joined_apart
+      ∙ ap (λ n. n + sum_by (λ (u : Uploaded). share_of (with_uploads us set) u.interface) us)
+      (sym (kept.total ∙ sum_same (share_of set) (share_of (with_uploads us set)) set (λ i c. share_more i ((listed set kept.ordered i).0 c))))
       ∙ ap (λ n. resolved + n)
-      (sym (ap (λ f. sum_by (λ id. share_at f wider id) ids) (recorded_all (with_uploads us set) grown fits.records)
-      ∙ ap (sum_by (λ id. share_at (bytes_of (with_uploads us set)) wider id)) of
-      ∙ sum_map (λ id. share_at (bytes_of (with_uploads us set)) wider id) id_of us))
+      (sym (ap (sum_by (share_at (with_uploads us set))) of
+      ∙ sum_map (share_at (with_uploads us set)) id_of us
+      ∙ sum_same (λ u. share_at (with_uploads us set) u.interface.id) (λ u. share_of (with_uploads us set) u.interface) us (λ u c. ap (share_in (with_uploads us set)) (at_upload u c))))
 
   -- ---- the models with those that came
   pub length_joined : (grown : Records) (ms : List Model) → models_of (with_uploads us set) grown ≡ with_models us ms → length (with_models us ms) ≡ length set + length us

@@ -1,5 +1,5 @@
 -- Interfaces and records that come and go.
-use Rattle.std.proofs.Common.{◌≡◌, ◌≢◌, ℕ, ◌++◌, List, [], ◌∷◌, map, Bool, true, false, cond, ◌||◌, length, Option, Some, None, refl, ap, ◌∙◌, true≢false, is_eq}
+use Rattle.std.proofs.Common.{◌≡◌, ◌≢◌, ℕ, ◌++◌, List, [], ◌∷◌, map, Bool, true, false, cond, ◌||◌, length, Option, Some, None, refl, sym, ap, ◌∙◌, true≢false, is_eq}
 use Rattle.std.specs.List.{AllByRecursion}
 use Rattle.std.specs.List.Sorted.{IsStrictlySortedBy}
 use Rattle.std.specs.Map.{lookup, remove_entry, keys_of}
@@ -8,22 +8,28 @@ use Rattle.dtmi_name.specs.Grammar.{Identifier, dtmi_text, id_cmp, id_eq}
 use Rattle.dtdl_terms.specs.Sets.{InOrder, interface_at, with_interface, without_interface}
 use Rattle.dtdl_terms.specs.declared.interface.Interface.{Interface}
 use Rattle.dtdl_terms.specs.declared.uploaded.Uploaded.{Uploaded}
-use Rattle.model_resolve.proofs.ByKey.{alike, lookup-insert}
+use Rattle.model_resolve.proofs.ByKey.{same_spelling, alike, lookup-insert}
 use Rattle.model_resolve.proofs.Changes.{left, taken_out}
 use Rattle.canon_text.specs.Canonical.{interface_text}
 use Rattle.set_laws.specs.Changing.{with_uploads, is_one_of, AreApart}
 use Rattle.set_laws.proofs.Apart.{unlike, text}
 use Rattle.set_laws.proofs.Looking.{AreAbsent, absent_more, at_with, ordered_with, eq_tests, turned}
 use Rattle.model_life.specs.Sums.{text_bytes}
-use Rattle.model_life.specs.Machinery.Keeping.{record_at, fresh}
+use Rattle.model_life.specs.Machinery.Keeping.{record_at, fresh, Written, number_in, written_at}
 use Rattle.model_life.specs.declared.records.Record.{Record}
 
 -- ---- one that goes
+gone_twice : {A : Type 0} (z : A) (a b : Bool) (o m n : A) → m ≡ cond a z o → n ≡ cond b z m → n ≡ cond (a || b) z o
+gone_twice z true true o m n f g = g
+gone_twice z true false o m n f g = g ∙ f
+gone_twice z false true o m n f g = g
+gone_twice z false false o m n f g = g ∙ f
+
 pub gone_next : {A : Type 0} (a b : Bool) (o m n : Option A) → m ≡ cond a None o → n ≡ cond b None m → n ≡ cond (a || b) None o
-gone_next true true o m n f g = g
-gone_next true false o m n f g = g ∙ f
-gone_next false true o m n f g = g
-gone_next false false o m n f g = g ∙ f
+gone_next a b o m n f g = gone_twice None a b o m n f g
+
+pub gone_next_number : (a b : Bool) (o m n : ℕ) → m ≡ cond a 0 o → n ≡ cond b 0 m → n ≡ cond (a || b) 0 o
+gone_next_number a b o m n f g = gone_twice 0 a b o m n f g
 
 tests : (id q : Identifier) → is_eq (id_cmp id q) ≡ id_eq q id
 tests id q = eq_tests id q ∙ turned id q
@@ -34,6 +40,33 @@ gone_interface id q set new sorted is = ap (interface_at q) is ∙ left id q set
 pub gone_entry : {V : Type 0} (id q : Identifier) (es new : List (Identifier × V)) → IsStrictlySortedBy id_cmp (keys_of es) → new ≡ remove_entry (is_at (id_cmp id)) es
     → lookup (is_at (id_cmp q)) new ≡ cond (id_eq q id) None (lookup (is_at (id_cmp q)) es)
 gone_entry id q es new sorted is = ap (lookup (is_at (id_cmp q))) is ∙ taken_out id q es sorted ∙ ap (λ b. cond b None (lookup (is_at (id_cmp q)) es)) (tests id q)
+
+pub gone_number : (id q : Identifier) (ws new : Written) → IsStrictlySortedBy id_cmp (keys_of ws) → new ≡ remove_entry (is_at (id_cmp id)) ws → written_at q new ≡ cond (id_eq q id) 0 (written_at q ws)
+gone_number id q ws new sorted is = ap number_in (gone_entry id q ws new sorted is) ∙ turned_in (id_eq q id) (lookup (is_at (id_cmp q)) ws)
+  where
+    turned_in : (b : Bool) (o : Option ℕ) → number_in (cond b None o) ≡ cond b 0 (number_in o)
+    turned_in true o = refl
+    turned_in false o = refl
+
+-- ---- a number that is written
+pub put_number : (id k q : Identifier) (m n : ℕ) (ws new : Written) → new ≡ insert_entry id_cmp ws k n → k ≡ id → n ≡ m → written_at q new ≡ cond (is_eq (id_cmp q id)) m (written_at q ws)
+put_number id k q m n ws new is same number =
+    ap (written_at q) (is ∙ ap (λ x. insert_entry id_cmp ws x n) same ∙ ap (insert_entry id_cmp ws id) number)
+    ∙ ap number_in (lookup-insert dtmi_text (dtmi_text q) id m ws)
+    ∙ put_in (is_eq (id_cmp q id)) (lookup (is_at (id_cmp q)) ws)
+  where
+    put_in : (b : Bool) (o : Option ℕ) → number_in (cond b (Some m) o) ≡ cond b m (number_in o)
+    put_in true o = refl
+    put_in false o = refl
+
+-- with it all but the rest of the identifiers are written
+pub written_next : (f : Identifier → ℕ) (id q : Identifier) (rest : List Identifier) (m : ℕ) (ws new : Written) → ((p : Identifier) → dtmi_text p ≡ dtmi_text id → f p ≡ f id) → m ≡ f id → written_at q new ≡ cond (is_eq (id_cmp q id)) m (written_at q ws)
+    → (is_one_of (id ∷ rest) q ≡ false → written_at q ws ≡ f q) → is_one_of rest q ≡ false → written_at q new ≡ f q
+written_next f id q rest m ws new same number put before off =
+    elim (is_eq (id_cmp q id)) as (λ b. is_eq (id_cmp q id) ≡ b → written_at q new ≡ cond b m (written_at q ws) → written_at q new ≡ f q) [
+      | true ↦ λ e p. p ∙ number ∙ sym (same q (same_spelling (dtmi_text q) (dtmi_text id) e))
+      | false ↦ λ e p. p ∙ before (ap (λ b. b || is_one_of rest q) (sym (eq_tests q id) ∙ e) ∙ off)
+    ] refl put
 
 -- ---- one that comes
 pub fresh_is : (i : Interface) (t bytes : List ℕ) (n : ℕ) (r : Record) → r ≡ record { text = t; decommissioned = false; bytes = n } → t ≡ dtmi_text i.id → bytes ≡ interface_text i → n ≡ length bytes → r ≡ fresh i

@@ -16,11 +16,10 @@ use Rattle.set_laws.specs.Changing.{with_uploads}
 use Rattle.model_life.specs.Models.{Model, model_of, by_id, interfaces_of, model_at, with_model, with_models}
 use Rattle.model_life.specs.Refusals.{AreNew, PassesFirst, RefusesUploads}
 use Rattle.model_life.specs.Machinery.Judging.{AreAbsent, RefusesIn}
-use Rattle.model_life.specs.Machinery.Keeping.{models_of, Users, IsKept}
+use Rattle.model_life.specs.Machinery.Keeping.{models_of, Written, Users, IsKept}
 use Rattle.model_life.specs.declared.ends.AddEnd.{AddEnd}
 use Rattle.model_life.specs.declared.ends.AddEnd.TheVariants as adds
 use Rattle.model_life.proofs.Seen.{Records, seen_all, seen_none, seen_some}
-use Rattle.model_life.proofs.Leaving.{Entries}
 use Rattle.model_life.proofs.Joining.{joined_length}
 
 values_plain : (ms : List Model) → values_of (by_id ms) ≡ ms
@@ -42,7 +41,7 @@ pub interfaces_with : (us : List Uploaded) (ms : List Model) → interfaces_of (
 interfaces_with [] ms = refl
 interfaces_with (u ∷ us) ms = interfaces_with us (with_model u.interface ms) ∙ ap (with_uploads us) (interfaces_one u.interface ms)
 
-module _ (us : List Uploaded) (set : List Interface) (es : Records) (users : Users) (table : Entries) (bytes resolved : ℕ) (ms : List Model) (view : models_of set es ≡ ms) (kept : IsKept set es users table bytes resolved) where
+module _ (us : List Uploaded) (set : List Interface) (es : Records) (users : Users) (ws : Written) (bytes resolved : ℕ) (ms : List Model) (view : models_of set es ≡ ms) (kept : IsKept set es users ws bytes resolved) where
   same_set : set ≡ interfaces_of ms
   same_set = sym (seen_all set es) ∙ ap interfaces_of view
 
@@ -56,7 +55,7 @@ module _ (us : List Uploaded) (set : List Interface) (es : Records) (users : Use
   many absent sound =
       sym (length-map (with_models us ms) (λ (m : Model). m.interface))
       ∙ ap length (interfaces_with us ms ∙ ap (with_uploads us) (sym same_set))
-      ∙ joined_length us (map (λ (u : Uploaded). u.interface.id) us) set es users table bytes resolved kept refl absent sound
+      ∙ joined_length us (map (λ (u : Uploaded). u.interface.id) us) set es users ws bytes resolved kept refl absent sound
 
   pub refused : (end : AddEnd) → RefusesIn set us end → RefusesUploads ms us end
   refused (adds.ModelExists index) (u, at, some, before) = (u, at, seen_some u.interface.id set es ms view some, new_from (take index us) before)

@@ -1,5 +1,5 @@
 -- What models take: sums over sets that grow and shrink, and one sum for each set.
-use Rattle.std.proofs.Common.{◌≡◌, ◌≢◌, ℕ, ◌+◌, ◌-◌, ◌^◌, ◌<◌, ◌≤◌, min, List, [], ◌∷◌, map, Bool, true, false, cond, Option, Some, None, refl, sym, ap, ◌∙◌, subst, is_eq, arith, lit≤, lit<, ◌||◌}
+use Rattle.std.proofs.Common.{◌≡◌, ◌≢◌, ◌↔◌, ℕ, ◌+◌, ◌-◌, ◌^◌, ◌<◌, ◌≤◌, min, List, [], ◌∷◌, map, Bool, true, false, cond, Option, Some, None, refl, sym, ap, ◌∙◌, subst, is_eq, arith, lit≤, lit<, ◌||◌}
 use Rattle.std.specs.Prelude.{Contains, unwrap_or}
 use Rattle.std.specs.Option.{option_map}
 use Rattle.std.specs.List.{AllByRecursion, sum_by}
@@ -9,25 +9,30 @@ use Rattle.std.specs.BTreeMap.{is_at}
 use Rattle.std.proofs.lemmas.Option.{same_Some, none-some}
 use Rattle.std.proofs.lemmas.List.Sums.{sum_by-cons}
 use Rattle.std.proofs.lemmas.Map.Entries.{sum_by-insert_entry, sum_by-remove_entry}
+use denote.Ref.{Bor}
 use Rattle.dtmi_name.specs.Grammar.{Identifier, dtmi_text, id_cmp, id_eq}
-use Rattle.dtdl_terms.specs.Distinct.{AreDistinct}
+use Rattle.dtdl_terms.specs.Distinct.{AreDistinct, HasDeclaration}
 use Rattle.dtdl_terms.specs.Sets.{keyed, InOrder, interface_at, with_interface, without_interface}
 use Rattle.dtdl_terms.specs.declared.interface.Interface.{Interface}
 use Rattle.dtdl_terms.specs.declared.resolved.PartOf.{PartOf}
 use Rattle.dtdl_terms.specs.declared.resolved.Resolved.{Resolved}
 use Rattle.dtdl_terms.specs.declared.uploaded.Uploaded.{Uploaded}
 use Rattle.dtdl_terms.proofs.Keyed.{values-keyed}
-use Rattle.model_resolve.specs.Resolving.{IsResolved, entry_at, EntryOf, ResolvesAll, IsWithin, LacksNone}
+use Rattle.extend_resolve.specs.Chains.{IsAncestor}
+use Rattle.extend_resolve.specs.Breaches.{BreaksNoRule}
+use Rattle.model_resolve.specs.Resolving.{HasPart, IsResolved, IsWithin, LacksNone}
+use Rattle.model_resolve.specs.Machinery.Reaching.{ancestors_in, parts_in}
 use Rattle.model_resolve.specs.Machinery.Families.{IsThere}
-use Rattle.model_resolve.proofs.ByKey.{C}
-use Rattle.model_resolve.proofs.Families.{listed, stands, spelled, ancestors_there}
-use Rattle.model_resolve.proofs.Changes.{ids_total, keys_keyed, same_resolved}
-use Rattle.model_resolve.proofs.OneResolved.{one_resolved}
+use Rattle.model_resolve.proofs.Families.{listed, stands, ancestors_there}
+use Rattle.model_resolve.proofs.Changes.{ids_total, keys_keyed, lacks_none, same_ancestors, same_parts}
+use Rattle.model_resolve.proofs.OneResolved.{one_ascending, one_resolved}
+use Rattle.model_resolve.proofs.Reaching.{ancestors_ordered, ancestors_are_in, parts_ordered, parts_are_in}
+use Rattle.model_resolve.proofs.Existing.{part_in, resolved_in, is_resolved_in}
 use Rattle.set_laws.specs.Changing.{with_uploads, is_one_of, without_interfaces, AreApart}
 use Rattle.set_laws.proofs.Apart.{contains_head, contains_tail, unlike}
 use Rattle.set_laws.proofs.Looking.{AreAbsent, absent_more, ordered_with, at_without, ordered_without, ordered_without_one, same_set, eq_tests}
 use Rattle.model_life.specs.Sums.{bytes_in, bytes_of, LineTakes, ResolvedTakes, AllTake}
-use Rattle.model_life.specs.Machinery.Keeping.{record_at, bytes_at, recorded, capped, line_in, line_at, share_in, share_at, shares, RecordOf}
+use Rattle.model_life.specs.Machinery.Keeping.{record_at, bytes_at, recorded, capped, line_of, line_in, share_of, share_in, RecordOf, AreRecorded}
 use Rattle.model_life.specs.declared.records.Record.{Record}
 use Rattle.model_life.proofs.Recorded.{gone_interface}
 
@@ -106,58 +111,82 @@ bytes_same None (Some r) h = absurd h
 bytes_same (Some i) None h = absurd h
 bytes_same (Some i) (Some r) h = h.bytes
 
-module _ (set : List Interface) (es : List (Identifier × Record)) (records : (id : Identifier) → RecordOf (interface_at id set) (record_at id es)) where
+pub sum_map : {X Y : Type 0} (f : Y → ℕ) (g : X → Y) (xs : List X) → sum_by f (map g xs) ≡ sum_by (λ x. f (g x)) xs
+sum_map f g [] = refl
+sum_map f g (x ∷ xs) = sum_by-cons f (g x) (map g xs) ∙ ap (λ n. f (g x) + n) (sum_map f g xs) ∙ sym (sum_by-cons (λ y. f (g y)) x xs)
+
+module _ (set : List Interface) (es : List (Identifier × Record)) (records : AreRecorded set es) where
   pub recorded_is : (ids : List Identifier) → recorded es ids ≡ bytes_of set ids
   recorded_is ids = sum_same (λ id. bytes_at (record_at id es)) (λ id. bytes_in (interface_at id set)) ids (λ id c. bytes_same (interface_at id set) (record_at id es) (records id))
 
-  pub recorded_all : recorded es ≡ bytes_of set
-  recorded_all = λ k ids. recorded_is ids k
+  -- the texts of the ancestors that were found
+  pub line_recorded : (i : Interface) (xs : List (Bor Interface)) → map (λ x. x.now) xs ≡ ancestors_in set i → sum_by (λ x. bytes_at (record_at x.now.id es)) xs ≡ line_of set i
+  line_recorded i xs is =
+      let now : Bor Interface → Interface = λ x. x.now in
+      let id : Interface → Identifier = λ a. a.id in
+      sym (sum_map (λ (a : Interface). bytes_at (record_at a.id es)) now xs)
+      ∙ ap (sum_by (λ (a : Interface). bytes_at (record_at a.id es))) is
+      ∙ sum_same (λ (a : Interface). bytes_at (record_at a.id es)) (λ (a : Interface). bytes_in (interface_at a.id set)) (ancestors_in set i) (λ a c. bytes_same (interface_at a.id set) (record_at a.id es) (records a.id))
+      ∙ sym (sum_map (λ k. bytes_in (interface_at k set)) id (ancestors_in set i))
 
--- ---- entries
-pub entry_in : (set : List Interface) (i : Interface) (o : Option Interface) (e : Option Resolved) → o ≡ Some i → EntryOf set o e → (r : Resolved) × (e ≡ Some r) × IsResolved set i r
-entry_in set i None e is h = absurd (none-some i is)
-entry_in set i (Some j) None is h = absurd h
-entry_in set i (Some j) (Some r) is h = (r, refl, subst (λ (x : Interface). IsResolved set x r) (same_Some j i is) h)
+pub lines_found : (set : List Interface) (i : Interface) (xs : List (Bor Interface)) → map (λ x. x.now) xs ≡ parts_in set i → sum_by (λ x. line_of set x.now) xs ≡ sum_by (line_of set) (parts_in set i)
+lines_found set i xs is = let now : Bor Interface → Interface = λ x. x.now in sym (sum_map (line_of set) now xs) ∙ ap (sum_by (line_of set)) is
 
-pub entry_for : (set : List Interface) (table : List (Identifier × Resolved)) → ResolvesAll set table → (i : Interface) → IsThere set i → (r : Resolved) × (entry_at i.id table ≡ Some r) × IsResolved set i r
-entry_for set table all i there = entry_in set i (interface_at i.id set) (entry_at i.id table) there (all i.id)
+-- lists of interfaces in order that have the same
+pub one_list : (xs ys : List Interface) → InOrder xs → InOrder ys → ((a : Interface) → Contains xs a → Contains ys a) → ((a : Interface) → Contains ys a → Contains xs a) → xs ≡ ys
+one_list xs ys sorted also f g = one_ascending (λ (i : Interface). i.id) dtmi_text xs ys sorted also f g
+
+module _ (set : List Interface) (rules : BreaksNoRule set) (sorted : InOrder set) (i : Interface) (there : IsThere set i) (xs items : List (Bor Interface)) (slice : xs ≡ items) where
+  pub found_line : ((a : Interface) → Contains (map (λ x. x.now) items) a ↔ IsAncestor set i a) → InOrder (map (λ x. x.now) items) → map (λ x. x.now) xs ≡ ancestors_in set i
+  found_line each ordered =
+      let are : (a : Interface) → Contains (ancestors_in set i) a ↔ IsAncestor set i a = ancestors_are_in set rules sorted i there in
+      ap (map (λ (x : Bor Interface). x.now)) slice
+      ∙ one_list (map (λ x. x.now) items) (ancestors_in set i) ordered (ancestors_ordered set rules sorted i) (λ a c. (are a).1 ((each a).0 c)) (λ a c. (each a).1 ((are a).0 c))
+
+  pub found_parts : ((q : Interface) → Contains (map (λ x. x.now) items) q ↔ HasPart set i q) → InOrder (map (λ x. x.now) items) → map (λ x. x.now) xs ≡ parts_in set i
+  found_parts each ordered =
+      let are : (q : Interface) → Contains (parts_in set i) q ↔ HasPart set i q = parts_are_in set rules sorted i there in
+      ap (map (λ (x : Bor Interface). x.now)) slice
+      ∙ one_list (map (λ x. x.now) items) (parts_in set i) ordered (parts_ordered set rules sorted i) (λ q c. (are q).1 ((each q).0 c)) (λ q c. (each q).1 ((are q).0 c))
 
 -- ---- what interfaces take in a set and in a larger one
-module _ (small large : List Interface) (within : IsWithin small large) (whole : LacksNone small) (t u : List (Identifier × Resolved)) (all : ResolvesAll small t) (more : ResolvesAll large u) where
-  entries_same : (i : Interface) → IsThere small i → (r : Resolved) × (entry_at i.id t ≡ Some r) × (entry_at i.id u ≡ Some r) × IsResolved small i r
-  entries_same i there =
-      let mine = entry_for small t all i there in
-      let its = entry_for large u more i (within i.id i there) in
-      let same : its.0 ≡ mine.0 = one_resolved large i its.0 mine.0 its.2 ((same_resolved small large within whole i mine.0 there).0 mine.2) in
-      (mine.0, mine.1, its.1 ∙ ap Some same, mine.2)
+module _ (small large : List Interface) (within : IsWithin small large) (rules : BreaksNoRule small) (sorted : InOrder small) (more : BreaksNoRule large) (wider : InOrder large) where
+  whole : LacksNone small
+  whole = lacks_none small rules
 
-  ancestors_same : (i : Interface) (r : Resolved) → IsThere small i → IsResolved small i r → bytes_of small r.ancestors ≡ bytes_of large r.ancestors
-  ancestors_same i r there is =
-      sum_same (λ id. bytes_in (interface_at id small)) (λ id. bytes_in (interface_at id large)) r.ancestors
-      (λ id c.
-      let a = (is.ancestors.each id).0 c in
-      let here : IsThere small a.0 = ancestors_there small i a.0 there a.1 in
-      let low : interface_at id small ≡ Some a.0 = ap (λ (k : Identifier). interface_at k small) a.2 ∙ here in
-      let high : interface_at id large ≡ Some a.0 = ap (λ (k : Identifier). interface_at k large) a.2 ∙ within a.0.id a.0 here in
-      ap bytes_in low ∙ sym (ap bytes_in high))
+  same_up : (i : Interface) → IsThere small i → ancestors_in small i ≡ ancestors_in large i
+  same_up i there =
+      let low : (a : Interface) → Contains (ancestors_in small i) a ↔ IsAncestor small i a = ancestors_are_in small rules sorted i there in
+      let high : (a : Interface) → Contains (ancestors_in large i) a ↔ IsAncestor large i a = ancestors_are_in large more wider i (within i.id i there) in
+      one_list (ancestors_in small i) (ancestors_in large i) (ancestors_ordered small rules sorted i) (ancestors_ordered large more wider i)
+      (λ a c. (high a).1 ((same_ancestors small large within whole i a there).0 ((low a).0 c)))
+      (λ a c. (low a).1 ((same_ancestors small large within whole i a there).1 ((high a).0 c)))
 
-  line_same : (i : Interface) → IsThere small i → line_at (bytes_of small) t i.id ≡ line_at (bytes_of large) u i.id
+  same_part : (i : Interface) → IsThere small i → parts_in small i ≡ parts_in large i
+  same_part i there =
+      let low : (q : Interface) → Contains (parts_in small i) q ↔ HasPart small i q = parts_are_in small rules sorted i there in
+      let high : (q : Interface) → Contains (parts_in large i) q ↔ HasPart large i q = parts_are_in large more wider i (within i.id i there) in
+      one_list (parts_in small i) (parts_in large i) (parts_ordered small rules sorted i) (parts_ordered large more wider i)
+      (λ q c. (high q).1 ((same_parts small large within whole i q there).0 ((low q).0 c)))
+      (λ q c. (low q).1 ((same_parts small large within whole i q there).1 ((high q).0 c)))
+
+  line_same : (i : Interface) → IsThere small i → line_of small i ≡ line_of large i
   line_same i there =
-      let e = entries_same i there in
-      ap (line_in (bytes_of small)) e.1 ∙ ancestors_same i e.0 there e.3 ∙ sym (ap (line_in (bytes_of large)) e.2)
+      let id : Interface → Identifier = λ a. a.id in
+      sum_map (λ k. bytes_in (interface_at k small)) id (ancestors_in small i)
+      ∙ sum_same (λ (a : Interface). bytes_in (interface_at a.id small)) (λ (a : Interface). bytes_in (interface_at a.id large)) (ancestors_in small i)
+      (λ a c.
+      let here : IsThere small a = ancestors_there small i a there ((ancestors_are_in small rules sorted i there a).0 c) in
+      ap bytes_in here ∙ sym (ap bytes_in (within a.id a here)))
+      ∙ sym (sum_map (λ k. bytes_in (interface_at k large)) id (ancestors_in small i))
+      ∙ ap (λ (is : List Interface). bytes_of large (map id is)) (same_up i there)
 
-  pub share_same : (i : Interface) → IsThere small i → share_at (bytes_of small) t i.id ≡ share_at (bytes_of large) u i.id
+  pub share_same : (i : Interface) → IsThere small i → share_of small i ≡ share_of large i
   share_same i there =
-      let e = entries_same i there in
-      let parts : sum_by (λ (part : PartOf). line_at (bytes_of small) t part.of) e.0.parts ≡ sum_by (λ (part : PartOf). line_at (bytes_of large) u part.of) e.0.parts =
-      sum_same (λ (part : PartOf). line_at (bytes_of small) t part.of) (λ (part : PartOf). line_at (bytes_of large) u part.of) e.0.parts
-      (λ part c.
-      let q = e.3.parts.each part c in
-      ap (line_at (bytes_of small) t) q.2 ∙ line_same q.0 (stands small q.1.1 q.0 q.1.4) ∙ sym (ap (line_at (bytes_of large) u) q.2)) in
-      ap (share_in (bytes_of small) t) e.1
-      ∙ ap (λ n. n + sum_by (λ (part : PartOf). line_at (bytes_of small) t part.of) e.0.parts) (ancestors_same i e.0 there e.3)
-      ∙ ap (λ n. bytes_of large e.0.ancestors + n) parts
-      ∙ sym (ap (share_in (bytes_of large) u) e.2)
+      ap (λ n. n + sum_by (line_of small) (parts_in small i)) (line_same i there)
+      ∙ ap (λ n. line_of large i + n)
+      (sum_same (line_of small) (line_of large) (parts_in small i) (λ q c. let part = (parts_are_in small rules sorted i there q).0 c in line_same q (stands small part.1 q part.4))
+      ∙ ap (sum_by (line_of large)) (same_part i there))
 
 -- ---- one number for each set
 pub one_line : (set : List Interface) (i : Interface) (m n : ℕ) → LineTakes set i m → LineTakes set i n → m ≡ n
@@ -180,34 +209,29 @@ pub one_sum : (set : List Interface) (m n : ℕ) → AllTake set m → AllTake s
 one_sum set m n h g =
     sym h.sum ∙ sum_same h.bytes_for g.bytes_for set (λ i c. one_resolved_sum set i (h.bytes_for i) (g.bytes_for i) (h.each i c) (g.each i c)) ∙ g.sum
 
--- the running sum is this number
-module _ (set : List Interface) (table : List (Identifier × Resolved)) (sorted : InOrder set) (all : ResolvesAll set table) where
-  takes : (i : Interface) → IsThere set i → ResolvedTakes set i (share_at (bytes_of set) table i.id)
-  takes i there =
-      let e = entry_for set table all i there in
-      record {
-        resolved = e.0;
-        is = e.2;
-        line_of = line_at (bytes_of set) table;
-        lines = λ q part. let own = entry_for set table all q (stands set part.1 q part.4) in (own.0, own.2, sym (ap (line_in (bytes_of set)) own.1));
-        sum = sym (ap (share_in (bytes_of set) table) e.1);
-      }
+-- these are the numbers of the definitions
+module _ (set : List Interface) (rules : BreaksNoRule set) (declared : AllByRecursion HasDeclaration set) (sorted : InOrder set) where
+  line_takes : (i : Interface) → IsThere set i → LineTakes set i (line_of set i)
+  line_takes i there = (resolved_in set i, is_resolved_in set rules declared sorted i there, refl)
 
-  pub all_take : AllTake set (shares set table)
-  all_take = record { bytes_for = λ i. share_at (bytes_of set) table i.id; each = λ i c. takes i ((listed set sorted i).0 c); sum = refl }
+  takes : (i : Interface) → IsThere set i → ResolvedTakes set i (share_of set i)
+  takes i there = record {
+    resolved = resolved_in set i;
+    is = is_resolved_in set rules declared sorted i there;
+    line_of = λ id. line_in set (interface_at id set);
+    lines = λ q part. let own : IsThere set q = stands set part.1 q part.4 in subst (LineTakes set q) (sym (ap (line_in set) own)) (line_takes q own);
+    sum = ap (λ n. line_of set i + n)
+        (sum_map (λ (part : PartOf). line_in set (interface_at part.of set)) (part_in set) (parts_in set i)
+        ∙ sum_same (λ (q : Interface). line_in set (interface_at q.id set)) (line_of set) (parts_in set i)
+        (λ q c. let part = (parts_are_in set rules sorted i there q).0 c in ap (line_in set) (stands set part.1 q part.4)));
+  }
 
-  -- what is found under an identifier
-  pub share_found : (id : Identifier) → unwrap_or (option_map (λ (i : Interface). share_at (bytes_of set) table i.id) (interface_at id set)) 0 ≡ share_at (bytes_of set) table id
-  share_found id = by (interface_at id set) refl
-    where
-      no_entry : (o : Option Interface) (e : Option Resolved) → o ≡ None → EntryOf set o e → e ≡ None
-      no_entry None None is h = refl
-      no_entry None (Some r) is h = absurd h
-      no_entry (Some i) e is h = absurd (none-some i (sym is))
+  pub all_take : AllTake set (sum_by (share_of set) set)
+  all_take = record { bytes_for = share_of set; each = λ i c. takes i ((listed set sorted i).0 c); sum = refl }
 
-      by : (o : Option Interface) → interface_at id set ≡ o → unwrap_or (option_map (λ (i : Interface). share_at (bytes_of set) table i.id) o) 0 ≡ share_at (bytes_of set) table id
-      by None e = sym (ap (share_in (bytes_of set) table) (no_entry (interface_at id set) (entry_at id table) e (all id)))
-      by (Some i) e = ap (λ t. share_in (bytes_of set) table (lookup (λ (k : Identifier). is_eq (C t (dtmi_text k))) table)) (sym (spelled set id i e))
+pub found_share : (set : List Interface) (o : Option Interface) → unwrap_or (option_map (share_of set) o) 0 ≡ share_in set o
+found_share set None = refl
+found_share set (Some i) = refl
 
 -- ---- sums that fit
 small_cap : (s m : ℕ) → s ≤ m → min s m ≡ s

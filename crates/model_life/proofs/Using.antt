@@ -1,7 +1,8 @@
 -- Who uses whom, as users come and go.
-use Rattle.std.proofs.Common.{◌≡◌, ℕ, zero, suc, ◌+◌, ◌<◌, ◌≤◌, List, [], ◌∷◌, take, Bool, true, false, cond, ◌||◌, ◌&&◌, length, slice_index_or, Option, Some, None, refl, sym, ap, ◌∙◌, true≢false, Ordering, Less, Equal, Greater, is_eq, arith}
+use Rattle.std.proofs.Common.{◌≡◌, ℕ, zero, suc, ◌+◌, ◌<◌, ◌≤◌, List, [], ◌∷◌, take, drop, Bool, true, false, cond, ◌||◌, ◌&&◌, length, slice_index_or, Option, Some, None, refl, sym, ap, ◌∙◌, subst, true≢false, Ordering, Less, Equal, Greater, is_eq, arith}
 use Rattle.std.specs.Ordering.{ordering_then}
-use Rattle.std.specs.List.{list_any}
+use Rattle.std.specs.List.{AllByRecursion, list_any, sum_by}
+use Rattle.std.proofs.lemmas.List.Sums.{sum_by-cons}
 use Rattle.std.specs.List.Sorted.{IsStrictlySortedBy}
 use Rattle.std.specs.Map.{remove_entry, keys_of}
 use Rattle.std.specs.BTreeMap.{is_at, insert_entry}
@@ -16,6 +17,48 @@ use Rattle.model_resolve.proofs.Changes.{ids_total}
 use Rattle.set_laws.proofs.Looking.{eq_tests}
 use Rattle.model_life.specs.Models.{is_component}
 use Rattle.model_life.specs.Machinery.Keeping.{Users, user_at}
+
+-- ---- lists
+drop_suc : {X : Type 0} (xs : List X) (k : ℕ) (x : X) → k < length xs → x ≡ slice_index_or xs k x → drop k xs ≡ x ∷ drop (suc k) xs
+drop_suc [] k x low is = absurd (omega (arith, low))
+drop_suc (y ∷ ys) zero x low is = ap (λ z. z ∷ ys) (sym is)
+drop_suc (y ∷ ys) (suc k) x low is = drop_suc ys k x (omega (arith, low)) is
+
+pub drop_next : {X : Type 0} (xs : List X) (k : ℕ) (x : X) → k < length xs → x ≡ slice_index_or xs k x → drop k xs ≡ x ∷ drop (k + 1) xs
+drop_next xs k x low is = let next : suc k ≡ k + 1 = omega arith in drop_suc xs k x low is ∙ ap (λ n. x ∷ drop n xs) next
+
+pub drop_all : {X : Type 0} (xs : List X) (k : ℕ) → length xs ≤ k → drop k xs ≡ []
+drop_all [] zero long = refl
+drop_all [] (suc k) long = refl
+drop_all (x ∷ xs) zero long = absurd (omega (arith, long))
+drop_all (x ∷ xs) (suc k) long = drop_all xs k (omega (arith, long))
+
+suc_sum : {X : Type 0} (f : X → ℕ) (xs : List X) (k : ℕ) (x : X) → k < length xs → x ≡ slice_index_or xs k x → sum_by f (take (suc k) xs) ≡ sum_by f (take k xs) + f x
+suc_sum f [] k x low is = absurd (omega (arith, low))
+suc_sum f (y ∷ ys) zero x low is =
+    let one = sum_by-cons f y [] in
+    let none : sum_by f [] ≡ 0 = refl in
+    let same = ap f is in
+    omega (arith, one, none, same)
+suc_sum f (y ∷ ys) (suc k) x low is =
+    let rest = suc_sum f ys k x (omega (arith, low)) is in
+    let a = sum_by-cons f y (take (suc k) ys) in
+    let b = sum_by-cons f y (take k ys) in
+    omega (arith, rest, a, b)
+
+pub taken_sum : {X : Type 0} (f : X → ℕ) (xs : List X) (k : ℕ) (x : X) → k < length xs → x ≡ slice_index_or xs k x → sum_by f (take (k + 1) xs) ≡ sum_by f (take k xs) + f x
+taken_sum f xs k x low is = let e : k + 1 ≡ suc k = omega arith in ap (λ n. sum_by f (take n xs)) e ∙ suc_sum f xs k x low is
+
+pub taken_all : {X : Type 0} (xs : List X) (k : ℕ) → length xs ≤ k → take k xs ≡ xs
+taken_all [] zero long = refl
+taken_all [] (suc k) long = refl
+taken_all (x ∷ xs) zero long = absurd (omega (arith, long))
+taken_all (x ∷ xs) (suc k) long = ap (λ ys. x ∷ ys) (taken_all xs k (omega (arith, long)))
+
+pub placed_all : {X : Type 0} (P : X → Type 0) (xs : List X) (k : ℕ) (x : X) → AllByRecursion P xs → k < length xs → x ≡ slice_index_or xs k x → P x
+placed_all P [] k x all low is = absurd (omega (arith, low))
+placed_all P (y ∷ ys) zero x all low is = subst P (sym is) all.0
+placed_all P (y ∷ ys) (suc k) x all low is = placed_all P ys k x all.1 (omega (arith, low)) is
 
 -- ---- one pair
 then_eq : (o p : Ordering) → is_eq (ordering_then o p) ≡ (is_eq o && is_eq p)

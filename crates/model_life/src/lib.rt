@@ -1,5 +1,5 @@
-//! The models of a graph: interfaces that together break no rule, each with a mark, what each has with all that it
-//! inherits, and how many bytes they take.
+//! The models of a graph: interfaces that together break no rule, each with a mark, and how many bytes they take with all
+//! that they inherit.
 #![tactic(auto)]
 
 mod adding;
@@ -7,6 +7,7 @@ mod ends;
 mod laws;
 mod models;
 mod records;
+mod shares;
 mod store;
 mod sums;
 mod users;

@@ -1,29 +1,30 @@
 //! The models of a graph.
 
-ghost use Rattle.std.specs.Prelude.{◌≡◌, ◌+◌, ◌≤◌, [], ◌∷◌, cond, None, IsSome, length, map, OnErr, OnOk, IfErr, MatchResult};
+ghost use Rattle.std.specs.Prelude.{◌≡◌, ◌+◌, ◌≤◌, [], ◌∷◌, cond, None, IsSome, length, map, OnErr, OnOk, IfErr, IfOk, MatchResult};
 ghost use Rattle.std.specs.Option.{option_copied, option_map};
 ghost use Rattle.std.specs.List.{AllByRecursion};
 ghost use Rattle.dtmi_name.specs.Grammar.{Identifier, dtmi_text};
 ghost use Rattle.dtdl_terms.specs.Distinct.{AreDistinct, HasDeclaration};
 ghost use Rattle.dtdl_terms.specs.Sets.{InOrder, interface_at};
 ghost use Rattle.extend_resolve.specs.Breaches.{BreaksNoRule, IsSound};
-ghost use Rattle.model_resolve.specs.Resolving.{EntryOf, entry_at};
+ghost use Rattle.model_resolve.specs.Resolving.{EntryOf};
 ghost use Rattle.set_laws.specs.Changing.{is_one_of, AreFree};
 ghost use Rattle.model_life.specs.Models.{model_of, interfaces_of, model_at, next_model, with_mark, with_models, without_models, first_user};
 ghost use Rattle.model_life.specs.Sums.{model_bytes, AreWithinLimits};
-ghost use Rattle.model_life.specs.Machinery.Keeping.{mark_at};
+ghost use Rattle.model_life.specs.Machinery.Keeping.{mark_at, written_at};
 ghost use Rattle.model_life.specs.Refusals.{AreNew, RefusesUploads, RefusesMark, RefusesDrop};
 
 use crate::adding::{ids_of, judge};
 use crate::ends::{AddEnd, DropEnd, MarkEnd};
 use crate::records::Records;
+use crate::shares::Shares;
 use crate::store::{grow, shrink};
-use crate::sums::{bytes_of, shares};
+use crate::sums::bytes_of;
 use crate::users::{Users, first_of};
 use dt_base::{List, OutOfMemory};
 use dtdl_terms::{Interface, Limit, ModelSet, Resolved, Uploaded};
 use dtmi_name::Dtmi;
-use model_resolve::Table;
+use model_resolve::resolve;
 use std::alloc::Global;
 use std::marker::Model;
 
@@ -46,7 +47,7 @@ pub struct Models {
     set: ModelSet,
     records: Records,
     users: Users,
-    table: Table,
+    shares: Shares,
     bytes: u64,
     resolved: u64,
 }
@@ -64,7 +65,7 @@ impl Model for Models {
 
     ghost view = { λ m. models_of m.set m.records };
 
-    ghost invariant = { λ m. IsKept m.set m.records m.users m.table m.bytes m.resolved };
+    ghost invariant = { λ m. IsKept m.set m.records m.users m.shares m.bytes m.resolved };
 }
 
 impl Models {
@@ -77,7 +78,7 @@ impl Models {
             set: ModelSet::new(alloc),
             records: Records::new(alloc),
             users: Users::new(alloc),
-            table: Table::new(alloc),
+            shares: Shares::new(alloc),
             bytes: 0,
             resolved: 0,
         }
@@ -130,12 +131,16 @@ impl Models {
         marked(&self.records, self.set.after(id))
     }
 
-    /// What the model with an identifier has with all that it inherits, `None` exactly where there is no such model. Takes no
-    /// memory.
-    pub fn resolved(&self, id: &Dtmi) -> Option<&Resolved>
-        ensures { EntryOf (interfaces_of self.now) (interface_at id.now (interfaces_of self.now)) (option_copied result) }
+    /// What the model with an identifier has with all that it inherits, made anew; `None` exactly where there is no such
+    /// model. Fails only for want of memory.
+    pub fn resolved(&self, id: &Dtmi) -> Result<Option<Resolved>, OutOfMemory>
+        ensures { IfOk result (EntryOf (interfaces_of self.now) (interface_at id.now (interfaces_of self.now))) }
     {
-        self.table.get(id)
+        if self.set.get(id).is_none() {
+            return Ok(None);
+        }
+        let resolved = resolve(self.alloc, &self.set, id)?;
+        Ok(Some(resolved))
     }
 
     /// The least identifier of another model that extends a model directly or has a component of it, `None` exactly where
@@ -191,9 +196,9 @@ impl Models {
         ensures { self.new ≡ without_models ids.now self.old }
     {
         self.bytes -= bytes_of(&self.records, ids);
-        self.resolved -= shares(&self.records, &self.table, ids);
+        self.resolved -= self.shares.sum(ids);
         shrink(&mut self.set, &mut self.records, &mut self.users, ids);
-        remove_all(&mut self.table, ids);
+        remove_all(&mut self.shares, ids);
     }
 
     /// Adds models, which are not decommissioned. `Err` says why not, and nothing changes.
@@ -241,16 +246,17 @@ impl Models {
                 limit: Limit::ModelBytes,
             });
         }
-        let Ok(_) = self.table.add(&self.set, ids) else {
+        let Ok(resolved) = self
+            .shares
+            .add(&self.set, &self.records, ids, self.resolved)
+        else {
             shrink(&mut self.set, &mut self.records, &mut self.users, ids);
+            remove_all(&mut self.shares, ids);
             return Err(AddEnd::OutOfMemory);
         };
-        let resolved = self
-            .resolved
-            .saturating_add(shares(&self.records, &self.table, ids));
         if resolved > MOST_RESOLVED_BYTES {
             shrink(&mut self.set, &mut self.records, &mut self.users, ids);
-            remove_all(&mut self.table, ids);
+            remove_all(&mut self.shares, ids);
             return Err(AddEnd::Full {
                 limit: Limit::ResolvedBytes,
             });
@@ -271,11 +277,11 @@ fn marked<'a>(records: &Records, interface: Option<&'a Interface>) -> Option<(&'
     }
 }
 
-/// Takes the entries of several identifiers out of a table. Takes no memory.
-fn remove_all(table: &mut Table, ids: &[Dtmi])
-    ensures { (q : Identifier) → entry_at q table.new ≡ cond (is_one_of ids.now q) None (entry_at q table.old) }
+/// Takes the numbers of several identifiers out. Takes no memory.
+fn remove_all(shares: &mut Shares, ids: &[Dtmi])
+    ensures { (q : Identifier) → written_at q shares.new ≡ cond (is_one_of ids.now q) 0 (written_at q shares.old) }
 {
     'ids: for id in ids {
-        table.remove(id);
+        shares.remove(id);
     }
 }

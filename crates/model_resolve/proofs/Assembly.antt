@@ -11,13 +11,14 @@ use Rattle.dtmi_name.specs.Grammar.{Identifier, id_cmp}
 use Rattle.dtdl_terms.specs.Sets.{InOrder, interface_at}
 use Rattle.dtdl_terms.specs.Terms.{KindTerm, telemetry, property, command, relationship, component}
 use Rattle.dtdl_terms.specs.TermViews.{kind_term}
+use Rattle.dtdl_terms.specs.declared.content.Content.{Content}
 use Rattle.dtdl_terms.specs.declared.interface.Interface.{Interface}
 use Rattle.dtdl_terms.specs.declared.resolved.NamedIn.{NamedIn}
 use Rattle.dtdl_terms.specs.declared.resolved.PartOf.{PartOf}
 use Rattle.dtdl_terms.specs.declared.resolved.ResolvedContent.{ResolvedContent}
 use Rattle.extend_resolve.specs.Chains.{IsAncestor}
 use Rattle.model_resolve.specs.Resolving.{Has, HasPart, IsSource, ListsContents, ListsAncestors, ListsParts, ListsNamed}
-use Rattle.model_resolve.specs.Machinery.Families.{IsThere, IsDeclaredIn, AreOne, IsPartIn, IsPartOf, IsPartOfFirst, component_id, found_at, part_for, schemas_of}
+use Rattle.model_resolve.specs.Machinery.Families.{IsThere, IsDeclaredIn, AreOne, IsPartBy, IsPartByFirst, IsPartAmongFirst, IsPartOf, component_id, found_at, part_for, schemas_of}
 use Rattle.model_resolve.proofs.ByKey.{contains_map, from_contains}
 use Rattle.model_resolve.proofs.Families.{listed, first_more, first_still, first_next, first_all, all_first, put_here, put_kept, put_only, stands}
 
@@ -67,18 +68,23 @@ module _ (set : List Interface) (i : Interface) where
     sorted = sorted;
   }
 
+  pub ancestors_listed : (ups : List Interface) → InOrder ups → ((a : Interface) → Contains ups a ↔ IsAncestor set i a) → ListsAncestors set i (map (λ a. a.id) ups)
+  ancestors_listed ups ordered are =
+      let id : Interface → Identifier = λ a. a.id in
+      record {
+        each = λ q. (
+          λ h. let one = from_contains id ups q h in (one.0, (are one.0).0 one.1, sym one.2),
+          λ h. subst (Contains (map id ups)) (sym h.2) (contains_map id ups h.0 ((are h.0).1 h.1)),
+        );
+        sorted = ordered;
+      }
+
   pub lists_ancestors : (xs : List (Bor Interface)) (ids : List Identifier) → ids ≡ map (λ x. x.now.id) xs → InOrder (seen xs) → ((a : Interface) → Contains (seen xs) a ↔ IsAncestor set i a) → ListsAncestors set i ids
   lists_ancestors xs ids is ordered are =
       let now : Bor Interface → Interface = λ x. x.now in
       let id : Interface → Identifier = λ a. a.id in
       let same : map id (seen xs) ≡ ids = sym (map_map now id xs) ∙ sym is in
-      record {
-        each = λ q. (
-          λ h. let one = from_contains id (seen xs) q (subst (λ ys. Contains ys q) (sym same) h) in (one.0, (are one.0).0 one.1, sym one.2),
-          λ h. subst (λ ys. Contains ys q) same (subst (Contains (map id (seen xs))) (sym h.2) (contains_map id (seen xs) h.0 ((are h.0).1 h.1))),
-        );
-        sorted = subst (IsStrictlySortedBy id_cmp) same ordered;
-      }
+      subst (ListsAncestors set i) same (ancestors_listed (seen xs) ordered are)
 
   same_named : (n : NamedIn) (a : Interface) → schemas_of a ≡ n → (n.of ≡ a.id) × (n.schemas ≡ a.schemas)
   same_named n a e = (sym (ap (λ (m : NamedIn). m.of) e), sym (ap (λ (m : NamedIn). m.schemas) e))
@@ -88,29 +94,27 @@ module _ (set : List Interface) (i : Interface) where
       let make : Identifier → NamedIn = λ id. record { of = id; schemas = a.schemas } in
       ap make (sym of) ∙ ap (λ ss. record { of = n.of; schemas = ss }) (sym schemas)
 
-  pub lists_named : (xs : List (Bor Interface)) (ns : List NamedIn) → ns ≡ map (λ x. schemas_of x.now) xs → InOrder (seen xs) → ((a : Interface) → Contains (seen xs) a ↔ IsSource set i a) → ListsNamed set i ns
-  lists_named xs ns is ordered are =
-      let now : Bor Interface → Interface = λ x. x.now in
-      let same : map schemas_of (seen xs) ≡ ns = sym (map_map now schemas_of xs) ∙ sym is in
+  pub named_listed : (from : List Interface) → InOrder from → ((a : Interface) → Contains from a ↔ IsSource set i a) → ListsNamed set i (map schemas_of from)
+  named_listed from ordered are =
       let of : NamedIn → Identifier = λ n. n.of in
       record {
         each = λ n. (
           λ h.
-              let one = from_contains schemas_of (seen xs) n (subst (λ ys. Contains ys n) (sym same) h) in
+              let one = from_contains schemas_of from n h in
               let parts = same_named n one.0 one.2 in
               (one.0, (are one.0).0 one.1, parts.0, parts.1),
-          λ h. subst (λ ys. Contains ys n) same (subst (Contains (map schemas_of (seen xs))) (named_same n h.0 h.2 h.3) (contains_map schemas_of (seen xs) h.0 ((are h.0).1 h.1))),
+          λ h. subst (Contains (map schemas_of from)) (named_same n h.0 h.2 h.3) (contains_map schemas_of from h.0 ((are h.0).1 h.1)),
         );
-        sorted = subst (IsStrictlySortedBy id_cmp) (map_map schemas_of of (seen xs) ∙ ap (map of) same) ordered;
+        sorted = subst (IsStrictlySortedBy id_cmp) (map_map schemas_of of from) ordered;
       }
 
-  part_has : (rs : List ResolvedContent) → ListsContents set i rs → (q : Interface) → IsPartIn set rs q → HasPart set i q
-  part_has rs lists q (r, p, here, of, found) = (r, p, (lists.each r).0 here, of, found)
+  pub lists_named : (xs : List (Bor Interface)) (ns : List NamedIn) → ns ≡ map (λ x. schemas_of x.now) xs → InOrder (seen xs) → ((a : Interface) → Contains (seen xs) a ↔ IsSource set i a) → ListsNamed set i ns
+  lists_named xs ns is ordered are =
+      let now : Bor Interface → Interface = λ x. x.now in
+      let same : map schemas_of (seen xs) ≡ ns = sym (map_map now schemas_of xs) ∙ sym is in
+      subst (ListsNamed set i) same (named_listed (seen xs) ordered are)
 
-  has_part : (rs : List ResolvedContent) → ListsContents set i rs → (q : Interface) → HasPart set i q → IsPartIn set rs q
-  has_part rs lists q (r, p, has, of, found) = (r, p, (lists.each r).1 has, of, found)
-
-  module _ (rs : List ResolvedContent) (lists : ListsContents set i rs) (qs : List Interface) (are : (q : Interface) → Contains qs q ↔ IsPartIn set rs q) where
+  module _ (qs : List Interface) (are : (q : Interface) → Contains qs q ↔ HasPart set i q) where
     pub lists_parts : (parts : List PartOf) → InOrder qs → AllZip (IsPartOf set) qs parts → ListsParts set i parts
     lists_parts parts ordered all =
         let of : PartOf → Identifier = λ p. p.of in
@@ -119,8 +123,8 @@ module _ (set : List Interface) (i : Interface) where
         record {
           each = λ part h.
               let one = zip_back (IsPartOf set) qs parts part all h.0 h.1 h.2 in
-              (one.0, part_has rs lists one.0 ((are one.0).0 one.1), one.2.0, one.2.1);
-          every = λ q h. subst (λ ids. Contains ids q.id) same (contains_map id qs q ((are q).1 (has_part rs lists q h)));
+              (one.0, (are one.0).0 one.1, one.2.0, one.2.1);
+          every = λ q h. subst (λ ids. Contains ids q.id) same (contains_map id qs q ((are q).1 h));
           sorted = subst (IsStrictlySortedBy id_cmp) same ordered;
         }
 
@@ -130,12 +134,12 @@ module _ (set : List Interface) (i : Interface) where
       λ h.
           elim ((more a).0 h) [
             | inl x ↦ inl ((first a).0 x)
-            | inr x ↦ inr (x.0, part_has rs lists x.0 ((are x.0).0 x.1), x.2)
+            | inr x ↦ inr (x.0, (are x.0).0 x.1, x.2)
           ],
       λ h.
           elim h [
             | inl x ↦ (more a).1 (inl ((first a).1 x))
-            | inr x ↦ (more a).1 (inr (x.0, (are x.0).1 (has_part rs lists x.0 x.1), x.2))
+            | inr x ↦ (more a).1 (inr (x.0, (are x.0).1 x.1, x.2))
           ],
     )
 
@@ -154,56 +158,136 @@ of_component set (command request response) q h = absurd (none-some q h)
 of_component set (relationship target properties most writable) q h = absurd (none-some q h)
 of_component set (component of) q h = (of, refl, h)
 
-pub part_in : (set : List Interface) (rs : List ResolvedContent) (q : Interface) (r : ResolvedContent) → Contains rs r → part_for set r ≡ Some q → IsPartIn set rs q
-part_in set rs q r here h = let one = of_component set (kind_term r.content.kind) q h in (r, one.0, here, one.1, one.2)
+part_there : (set : List Interface) (c : Content) (q : Interface) → part_for set c ≡ Some q → IsThere set q
+part_there set c q h = let one = of_component set (kind_term c.kind) q h in stands set one.0 q one.2
 
-pub in_part : (set : List Interface) (rs : List ResolvedContent) (q : Interface) → IsPartIn set rs q → (r : ResolvedContent) × Contains rs r × (part_for set r ≡ Some q)
-in_part set rs q (r, p, here, of, found) = (r, here, ap (λ k. found_at set (component_id k)) of ∙ found)
-
+-- ---- the components of one interface
 -- one more content of which the part is there already, or there is none
-pub part_seen : (set : List Interface) (rs : List ResolvedContent) (n : ℕ) (r : ResolvedContent) (found : List Interface) → n < length rs → r ≡ slice_index_or rs n r → part_for set r ≡ None
-    → ((q : Interface) → IsThere found q ↔ IsPartOfFirst set rs n q) → (q : Interface) → IsThere found q ↔ IsPartOfFirst set rs (n + 1) q
-part_seen set rs n r found low is none so_far q = (
-  λ h. let was = (so_far q).0 h in (was.0, first_still rs n was.0 was.1, was.2),
+pub part_seen : (set : List Interface) (cs : List Content) (n : ℕ) (c : Content) (first found : List Interface) → n < length cs → c ≡ slice_index_or cs n c → part_for set c ≡ None
+    → ((q : Interface) → IsThere found q ↔ (IsThere first q ⊎ IsPartByFirst set cs n q)) → (q : Interface) → IsThere found q ↔ (IsThere first q ⊎ IsPartByFirst set cs (n + 1) q)
+part_seen set cs n c first found low is none so_far q = (
   λ h.
-      elim (first_more rs n r h.0 low is h.1) [
-        | inl y ↦ (so_far q).1 (h.0, y, h.2)
-        | inr e ↦ absurd (none-some q (sym (ap (part_for set) e ∙ none) ∙ h.2))
+      elim ((so_far q).0 h) [
+        | inl x ↦ inl x
+        | inr was ↦ inr (was.0, first_still cs n was.0 was.1, was.2)
+      ],
+  λ h.
+      elim h [
+        | inl x ↦ (so_far q).1 (inl x)
+        | inr x ↦
+            elim (first_more cs n c x.0 low is x.1) [
+              | inl y ↦ (so_far q).1 (inr (x.0, y, x.2))
+              | inr e ↦ absurd (none-some q (sym (ap (part_for set) e ∙ none) ∙ x.2))
+            ]
       ],
 )
 
-part_there : (set : List Interface) (r : ResolvedContent) (q : Interface) → part_for set r ≡ Some q → IsThere set q
-part_there set r q h = let one = of_component set (kind_term r.content.kind) q h in stands set one.0 q one.2
-
-pub part_more : (set : List Interface) (rs : List ResolvedContent) (n : ℕ) (r : ResolvedContent) (part : Interface) (old new : List Interface) → n < length rs → r ≡ slice_index_or rs n r → part_for set r ≡ Some part
+pub part_more : (set : List Interface) (cs : List Content) (n : ℕ) (c : Content) (part : Interface) (first old new : List Interface) → n < length cs → c ≡ slice_index_or cs n c → part_for set c ≡ Some part → ((q : Interface) → IsThere first q → IsThere set q)
     → ((id : Identifier) → interface_at id new ≡ cond (is_eq (id_cmp id part.id)) (Some part) (interface_at id old))
-    → ((q : Interface) → IsThere old q ↔ IsPartOfFirst set rs n q) → (q : Interface) → IsThere new q ↔ IsPartOfFirst set rs (n + 1) q
-part_more set rs n r part old new low is found put so_far q =
-    let there : IsThere set part = part_there set r part found in
-    let each : (a : Interface) → IsThere old a → IsThere set a = λ a h. let one = (so_far a).0 h in part_there set one.0 a one.2 in (
+    → ((q : Interface) → IsThere old q ↔ (IsThere first q ⊎ IsPartByFirst set cs n q)) → (q : Interface) → IsThere new q ↔ (IsThere first q ⊎ IsPartByFirst set cs (n + 1) q)
+part_more set cs n c part first old new low is found before put so_far q =
+    let there : IsThere set part = part_there set c part found in
+    let each : (a : Interface) → IsThere old a → IsThere set a = λ a h. elim ((so_far a).0 h) [ inl x ↦ before a x | inr x ↦ part_there set x.0 a x.2 ] in (
       λ h.
           elim (put_only set old new part there each put q h) [
-            | inl e ↦ (r, first_next rs n r is, found ∙ ap Some (sym e))
-            | inr x ↦ let was = (so_far q).0 x in (was.0, first_still rs n was.0 was.1, was.2)
+            | inl e ↦ inr (c, first_next cs n c is, found ∙ ap Some (sym e))
+            | inr x ↦
+                elim ((so_far q).0 x) [
+                  | inl y ↦ inl y
+                  | inr was ↦ inr (was.0, first_still cs n was.0 was.1, was.2)
+                ]
           ],
       λ h.
-          elim (first_more rs n r h.0 low is h.1) [
-            | inl y ↦ put_kept set old new part there each put q ((so_far q).1 (h.0, y, h.2))
-            | inr e ↦
-                let same : part ≡ q = same_Some part q (sym found ∙ ap (part_for set) (sym e) ∙ h.2) in
-                subst (IsThere new) same (put_here set old new part there each put)
+          elim h [
+            | inl x ↦ put_kept set old new part there each put q ((so_far q).1 (inl x))
+            | inr x ↦
+                elim (first_more cs n c x.0 low is x.1) [
+                  | inl y ↦ put_kept set old new part there each put q ((so_far q).1 (inr (x.0, y, x.2)))
+                  | inr e ↦
+                      let same : part ≡ q = same_Some part q (sym found ∙ ap (part_for set) (sym e) ∙ x.2) in
+                      subst (IsThere new) same (put_here set old new part there each put)
+                ]
           ],
     )
 
-pub all_parts : (set : List Interface) (rs : List ResolvedContent) (n : ℕ) (family : List Interface) (xs : List (Bor Interface)) → length rs ≤ n → n ≤ length rs → seen xs ≡ family → InOrder family
-    → ((q : Interface) → IsThere family q ↔ IsPartOfFirst set rs n q) → (q : Interface) → Contains (seen xs) q ↔ IsPartIn set rs q
-all_parts set rs n family xs long short is ordered so_far q = (
-  λ h. let one = (listed_as family xs is ordered so_far q).0 h in part_in set rs q one.0 (all_first rs n one.0 short one.1) one.2,
-  λ h. let one = in_part set rs q h in (listed_as family xs is ordered so_far q).1 (one.0, first_all rs n one.0 long one.1, one.2),
+pub parts_none : (set : List Interface) (cs : List Content) (found : List Interface) (q : Interface) → IsThere found q ↔ (IsThere found q ⊎ IsPartByFirst set cs 0 q)
+parts_none set cs found q = (
+  λ h. inl h,
+  λ h.
+      elim h [
+        | inl x ↦ x
+        | inr x ↦ let low = x.1.1 in absurd (omega (arith, low))
+      ],
 )
 
-pub parts_there : (set : List Interface) (rs : List ResolvedContent) (qs : List Interface) → ((q : Interface) → Contains qs q ↔ IsPartIn set rs q) → (q : Interface) → Contains qs q → IsThere set q
-parts_there set rs qs are q h = let one = in_part set rs q ((are q).0 h) in part_there set one.0 q one.2
+pub parts_whole : (set : List Interface) (cs : List Content) (n : ℕ) (first found : List Interface) → length cs ≤ n → n ≤ length cs
+    → ((q : Interface) → IsThere found q ↔ (IsThere first q ⊎ IsPartByFirst set cs n q)) → (q : Interface) → IsThere found q ↔ (IsThere first q ⊎ IsPartBy set cs q)
+parts_whole set cs n first found long short so_far q = (
+  λ h.
+      elim ((so_far q).0 h) [
+        | inl x ↦ inl x
+        | inr x ↦ inr (x.0, all_first cs n x.0 short x.1, x.2)
+      ],
+  λ h.
+      elim h [
+        | inl x ↦ (so_far q).1 (inl x)
+        | inr x ↦ (so_far q).1 (inr (x.0, first_all cs n x.0 long x.1, x.2))
+      ],
+)
+
+-- ---- the components of several
+pub parts_among : (set : List Interface) (xs : List (Bor Interface)) (n : ℕ) (x : Bor Interface) (old new : List Interface) → n < length xs → x ≡ slice_index_or xs n x → ((q : Interface) → IsThere new q ↔ (IsThere old q ⊎ IsPartBy set x.now.contents q))
+    → ((q : Interface) → IsThere old q ↔ IsPartAmongFirst set xs n q) → (q : Interface) → IsThere new q ↔ IsPartAmongFirst set xs (n + 1) q
+parts_among set xs n x old new low is more so_far q = (
+  λ h.
+      elim ((more q).0 h) [
+        | inl y ↦ let was = (so_far q).0 y in (was.0, first_still xs n was.0 was.1, was.2)
+        | inr y ↦ (x, first_next xs n x is, y)
+      ],
+  λ h.
+      elim (first_more xs n x h.0 low is h.1) [
+        | inl y ↦ (more q).1 (inl ((so_far q).1 (h.0, y, h.2)))
+        | inr e ↦ (more q).1 (inr (subst (λ (z : Bor Interface). IsPartBy set z.now.contents q) e h.2))
+      ],
+)
+
+pub among_none : (set : List Interface) (xs : List (Bor Interface)) (q : Interface) → IsThere [] q ↔ IsPartAmongFirst set xs 0 q
+among_none set xs q = (
+  λ h. absurd (none-some q h),
+  λ h. let low = h.1.1 in absurd (omega (arith, low)),
+)
+
+pub among_there : (set : List Interface) (xs : List (Bor Interface)) (n : ℕ) (q : Interface) → IsPartAmongFirst set xs n q → IsThere set q
+among_there set xs n q (x, first, (c, here, is)) = part_there set c q is
+
+-- among the ancestors of an interface are its own
+part_here : (set : List Interface) (i a q : Interface) → IsAncestor set i a → IsPartBy set a.contents q → HasPart set i q
+part_here set i a q up (c, here, is) =
+    let one = of_component set (kind_term c.kind) q is in
+    let r : ResolvedContent = record { from = a.id; content = c } in
+    (r, one.0, (a, up, refl, here), one.1, one.2)
+
+has_part : (set : List Interface) (i q : Interface) → HasPart set i q → (a : Interface) × IsAncestor set i a × IsPartBy set a.contents q
+has_part set i q (r, p, (a, up, from, here), of, found) = (a, up, (r.content, here, ap (λ k. found_at set (component_id k)) of ∙ found))
+
+pub all_parts : (set : List Interface) (xs : List (Bor Interface)) (n : ℕ) (family : List Interface) (ys : List (Bor Interface)) → length xs ≤ n → n ≤ length xs → seen ys ≡ family → InOrder family
+    → ((q : Interface) → IsThere family q ↔ IsPartAmongFirst set xs n q) → (i : Interface) → ((a : Interface) → Contains (seen xs) a ↔ IsAncestor set i a) → (q : Interface) → Contains (seen ys) q ↔ HasPart set i q
+all_parts set xs n family ys long short is ordered so_far i are q =
+    let now : Bor Interface → Interface = λ x. x.now in (
+      λ h.
+          let one = (listed_as family ys is ordered so_far q).0 h in
+          part_here set i one.0.now q ((are one.0.now).0 (contains_map now xs one.0 (all_first xs n one.0 short one.1))) one.2,
+      λ h.
+          let one = has_part set i q h in
+          let x = from_contains now xs one.0 ((are one.0).1 one.1) in
+          (listed_as family ys is ordered so_far q).1 (x.0, first_all xs n x.0 long x.1, subst (λ (a : Interface). IsPartBy set a.contents q) (sym x.2) one.2),
+    )
+
+pub part_stands : (set : List Interface) (i q : Interface) → HasPart set i q → IsThere set q
+part_stands set i q (r, p, has, of, found) = stands set p q found
+
+pub parts_there : (set : List Interface) (i : Interface) (qs : List Interface) → ((q : Interface) → Contains qs q ↔ HasPart set i q) → (q : Interface) → Contains qs q → IsThere set q
+parts_there set i qs are q h = part_stands set i q ((are q).0 h)
 
 -- ---- results
 pub if_ok_both : {A E : Type 0} (r : Result A E) {P Q R : A → Type 0} → ((a : A) → P a → Q a → R a) → IfOk r P → IfOk r Q → IfOk r R

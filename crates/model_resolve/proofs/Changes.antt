@@ -21,7 +21,7 @@ use Rattle.dtdl_terms.proofs.Keyed.{remove-keyed}
 use Rattle.extend_resolve.specs.declared.rule.SetRule.TheVariants as rules
 use Rattle.extend_resolve.specs.Chains.{IsParent, IsChain, IsAncestor}
 use Rattle.extend_resolve.specs.Breaches.{BreaksNoRule}
-use Rattle.model_resolve.specs.Resolving.{Has, HasPart, IsSource, ListsContents, IsResolved, entry_at, EntryOf, ResolvesAll, ResolvesOthers, IsWithin, LacksNone, IsFree}
+use Rattle.model_resolve.specs.Resolving.{Has, HasPart, IsSource, ListsContents, IsResolved, entry_at, HoldsRight, IsWithin, LacksNone, IsFree}
 use Rattle.model_resolve.specs.Machinery.Families.{IsThere}
 use Rattle.extend_resolve.proofs.Within.{found_placed}
 use Rattle.model_resolve.proofs.ByKey.{C, same_spelling, alike}
@@ -96,7 +96,7 @@ module _ (small large : List Interface) (within : IsWithin small large) (whole :
       let k : ℕ = own.3.0 in
       (r, p, own, of, known p (λ none. (whole own.0 k up).1 (p, (r.content, get_placed own.0.contents r.content k own.3.1 own.3.2, of), none)) q found)
 
-  same_parts : (i q : Interface) → IsThere small i → HasPart small i q ↔ HasPart large i q
+  pub same_parts : (i q : Interface) → IsThere small i → HasPart small i q ↔ HasPart large i q
   same_parts i q there = (λ h. (h.0, h.1, (same_contents i h.0 there).0 h.2, h.3, within h.1 q h.4), part_down i q there)
 
   pub part_stands : (i q : Interface) → HasPart small i q → IsThere small q
@@ -125,32 +125,16 @@ lacks_none set sound i k there =
     let at = found_placed set i.id i there in
     (λ h. sound at.0 i rules.AbsentReference (spots.Parent k) at.1 h, λ h. sound at.0 i rules.AbsentReference (spots.ContentSchema k) at.1 h)
 
--- ---- entries
-pub entry_changes : (s t : List Interface) (o : Option Interface) (e : Option Resolved) → ((i : Interface) (r : Resolved) → o ≡ Some i → IsResolved s i r → IsResolved t i r) → EntryOf s o e → EntryOf t o e
-entry_changes s t None None f h = tt
-entry_changes s t None (Some r) f h = absurd h
-entry_changes s t (Some i) None f h = absurd h
-entry_changes s t (Some i) (Some r) f h = f i r refl h
-
-no_entry : (set : List Interface) (o : Option Interface) (e : Option Resolved) → o ≡ None → EntryOf set o e → e ≡ None
-no_entry set None None is h = refl
-no_entry set None (Some r) is h = absurd h
-no_entry set (Some i) e is h = absurd (none-some i (sym is))
-
 pub all_map : {X : Type 0} (P Q : X → Type 0) (xs : List X) → ((x : X) → P x → Q x) → AllByRecursion P xs → AllByRecursion Q xs
 all_map P Q [] f all = tt
 all_map P Q (x ∷ xs) f all = (f x all.0, all_map P Q xs f all.1)
 
--- where interfaces come, the entries of the others stay
-pub with_more : (old new : List Interface) (ids : List Identifier) (table : List (Identifier × Resolved)) → BreaksNoRule old → IsWithin old new
-    → AllByRecursion (λ id. IsSome (interface_at id new) × (interface_at id old ≡ None)) ids → ((id : Identifier) → list_any (id_eq id) ids ≡ false → interface_at id new ≡ interface_at id old)
-    → ResolvesAll old table → ResolvesOthers new ids table
-with_more old new ids table sound within fresh others all = record {
-  new = all_map (λ id. IsSome (interface_at id new) × (interface_at id old ≡ None)) (λ id. IsSome (interface_at id new) × (entry_at id table ≡ None)) ids
-      (λ id h. (h.0, no_entry old (interface_at id old) (entry_at id table) h.1 (all id))) fresh;
-  others = λ id none. subst (λ o. EntryOf new o (entry_at id table)) (sym (others id none))
-      (entry_changes old new (interface_at id old) (entry_at id table) (λ i r found. (same_resolved old new within (lacks_none old sound) i r (stands old id i found)).0) (all id));
-}
+-- ---- what is held
+-- where interfaces come, what is held stays right
+pub held_with_more : (old new : List Interface) (table : List (Identifier × Resolved)) → IsWithin old new → LacksNone old → HoldsRight old table → HoldsRight new table
+held_with_more old new table within whole right id r held =
+    let one = right id r held in
+    (one.0, within id one.0 one.1, (same_resolved old new within whole one.0 r (stands old id one.0 one.1)).0 one.2)
 
 -- ---- an interface that goes
 pub ids_total : IsTotalOrder id_cmp
@@ -202,15 +186,12 @@ module _ (set : List Interface) (id : Identifier) (sound : BreaksNoRule set) (so
         λ h. not_it i there (free i k h.0 own (inr h.1) (still h.0 (λ none. all.1 (h.0, h.1, none)) h.2)),
       )
 
-  pub with_less : (table : List (Identifier × Resolved)) → IsStrictlySortedBy id_cmp (keys_of table) → ResolvesAll set table → ResolvesAll rest (remove_entry (is_at (id_cmp id)) table)
-  with_less table ordered all q = by (is_eq (id_cmp id q)) (left id q set sorted) (taken_out id q table ordered)
+  pub held_with_less : (table : List (Identifier × Resolved)) → IsStrictlySortedBy id_cmp (keys_of table) → HoldsRight set table → HoldsRight rest (remove_entry (is_at (id_cmp id)) table)
+  held_with_less table ordered right q r held = by (is_eq (id_cmp id q)) (left id q set sorted) (sym (taken_out id q table ordered) ∙ held)
     where
-      by : (b : Bool) → interface_at q rest ≡ cond b None (interface_at q set) → entry_at q (remove_entry (is_at (id_cmp id)) table) ≡ cond b None (entry_at q table)
-          → EntryOf rest (interface_at q rest) (entry_at q (remove_entry (is_at (id_cmp id)) table))
-      by true is also =
-          subst (λ o. EntryOf rest o (entry_at q (remove_entry (is_at (id_cmp id)) table))) (sym is) (subst (λ e. EntryOf rest None e) (sym also) tt)
-      by false is also =
-          subst (λ e. EntryOf rest (interface_at q rest) e) (sym also)
-          (subst (λ o. EntryOf rest o (entry_at q table)) (sym is)
-          (entry_changes set rest (interface_at q set) (entry_at q table)
-          (λ i r found. (same_resolved rest set rest_within rest_whole i r (stands rest q i (is ∙ found))).1) (all q)))
+      by : (b : Bool) → interface_at q rest ≡ cond b None (interface_at q set) → cond b None (entry_at q table) ≡ Some r → (i : Interface) × (interface_at q rest ≡ Some i) × IsResolved rest i r
+      by true is there = absurd (none-some r there)
+      by false is there =
+          let one = right q r there in
+          let found : interface_at q rest ≡ Some one.0 = is ∙ one.1 in
+          (one.0, found, (same_resolved rest set rest_within rest_whole one.0 r (stands rest q one.0 found)).1 one.2)

@@ -135,14 +135,14 @@ names_listed rs sorted r = (
 )
 
 module _ (old new : List ResolvedContent) (one : ResolvedContent) (put : (name : List ℕ) → content_at name new ≡ cond (is_eq (slice_cmp nat_cmp name one.content.name)) (Some one) (content_at name old)) (alone : (r : ResolvedContent) → HasContent old r → r.content.name ≡ one.content.name → r ≡ one) where
-  added_only : (r : ResolvedContent) → HasContent new r → HasContent old r ⊎ (r ≡ one)
+  pub added_only : (r : ResolvedContent) → HasContent new r → HasContent old r ⊎ (r ≡ one)
   added_only r h =
       elim (is_eq (slice_cmp nat_cmp r.content.name one.content.name)) as (λ b. cond b (Some one) (content_at r.content.name old) ≡ Some r → HasContent old r ⊎ (r ≡ one)) [
         | true ↦ λ e. inr (sym (same_Some one r e))
         | false ↦ λ e. inl e
       ] (sym (put r.content.name) ∙ h)
 
-  added_kept : (r : ResolvedContent) → HasContent old r → HasContent new r
+  pub added_kept : (r : ResolvedContent) → HasContent old r → HasContent new r
   added_kept r h =
       put r.content.name
       ∙ elim (is_eq (slice_cmp nat_cmp r.content.name one.content.name)) as (λ b. is_eq (slice_cmp nat_cmp r.content.name one.content.name) ≡ b → cond b (Some one) (content_at r.content.name old) ≡ Some r) [
@@ -150,7 +150,7 @@ module _ (old new : List ResolvedContent) (one : ResolvedContent) (put : (name :
         | false ↦ λ _. h
       ] refl
 
-  added_here : HasContent new one
+  pub added_here : HasContent new one
   added_here = put one.content.name ∙ ap (λ b. cond b (Some one) (content_at one.content.name old)) (ap is_eq (alike one.content.name))
 
 -- one more content of an interface

@@ -3,5 +3,6 @@ pub mod Families
 pub mod Declared
 pub mod Assembly
 pub mod OneResolved
-pub mod Tables
+pub mod Reaching
+pub mod Existing
 pub mod Changes

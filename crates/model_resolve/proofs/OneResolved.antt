@@ -19,13 +19,13 @@ uncons_at : {X : Type 0} (y : X) (ys : List X) (x : X) (k : ℕ) → k < length 
 uncons_at y ys x zero low is = inl is
 uncons_at y ys x (suc k) low is = inr (k, omega (arith, low), is)
 
-uncons : {X : Type 0} (y : X) (ys : List X) (x : X) → Contains (y ∷ ys) x → (y ≡ x) ⊎ Contains ys x
+pub uncons : {X : Type 0} (y : X) (ys : List X) (x : X) → Contains (y ∷ ys) x → (y ≡ x) ⊎ Contains ys x
 uncons y ys x (k, low, is) = uncons_at y ys x k low is
 
-here : {X : Type 0} (y : X) (ys : List X) → Contains (y ∷ ys) y
+pub here : {X : Type 0} (y : X) (ys : List X) → Contains (y ∷ ys) y
 here y ys = (zero, omega arith, refl)
 
-there : {X : Type 0} (y : X) (ys : List X) (x : X) → Contains ys x → Contains (y ∷ ys) x
+pub there : {X : Type 0} (y : X) (ys : List X) (x : X) → Contains ys x → Contains (y ∷ ys) x
 there y ys x (k, low, is) = (suc k, omega (arith, low), is)
 
 never_itself : (t : List ℕ) → C t t ≡ Less → ⊥
@@ -87,12 +87,12 @@ module _ (set : List Interface) (i : Interface) where
       one_ascending (λ (r : ResolvedContent). r.content.name) (λ n. n) rs ss h.sorted g.sorted
       (λ r x. (g.each r).1 ((h.each r).0 x)) (λ r x. (h.each r).1 ((g.each r).0 x))
 
-  one_ancestors : (xs ys : List Identifier) → ListsAncestors set i xs → ListsAncestors set i ys → xs ≡ ys
+  pub one_ancestors : (xs ys : List Identifier) → ListsAncestors set i xs → ListsAncestors set i ys → xs ≡ ys
   one_ancestors xs ys h g =
       one_ascending (λ (id : Identifier). id) dtmi_text xs ys (subst (IsStrictlySortedBy id_cmp) (sym (map_same xs)) h.sorted) (subst (IsStrictlySortedBy id_cmp) (sym (map_same ys)) g.sorted)
       (λ r x. (g.each r).1 ((h.each r).0 x)) (λ r x. (h.each r).1 ((g.each r).0 x))
 
-  one_named : (xs ys : List NamedIn) → ListsNamed set i xs → ListsNamed set i ys → xs ≡ ys
+  pub one_named : (xs ys : List NamedIn) → ListsNamed set i xs → ListsNamed set i ys → xs ≡ ys
   one_named xs ys h g =
       one_ascending (λ (n : NamedIn). n.of) dtmi_text xs ys h.sorted g.sorted
       (λ r x. (g.each r).1 ((h.each r).0 x)) (λ r x. (h.each r).1 ((g.each r).0 x))

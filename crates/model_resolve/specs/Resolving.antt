@@ -1,13 +1,12 @@
 -- What an interface has with all that it inherits (DTDL v2, "Interface", the property `extends`) and with what its
 -- components consist of.
-use Rattle.std.specs.Prelude.{◌≡◌, ◌↔◌, ◌⊎◌, ℕ, false, List, map, Option, Some, None, Contains, IsSome}
-use Rattle.std.specs.List.{AllByRecursion, list_any}
+use Rattle.std.specs.Prelude.{◌≡◌, ◌↔◌, ◌⊎◌, ℕ, List, map, Option, Some, None, Contains}
 use Rattle.std.specs.Map.{lookup}
 use Rattle.std.specs.BTreeMap.{is_at}
 use Rattle.std.specs.Ordering.{nat_cmp}
 use Rattle.std.specs.Cmp.Lexicographic.{slice_cmp}
 use Rattle.std.specs.List.Sorted.{IsStrictlySortedBy}
-use Rattle.dtmi_name.specs.Grammar.{Identifier, dtmi_text, id_cmp, id_eq}
+use Rattle.dtmi_name.specs.Grammar.{Identifier, dtmi_text, id_cmp}
 use Rattle.dtdl_terms.specs.declared.interface.Interface.{Interface}
 use Rattle.dtdl_terms.specs.declared.resolved.NamedIn.{NamedIn}
 use Rattle.dtdl_terms.specs.declared.resolved.PartOf.{PartOf}
@@ -56,24 +55,20 @@ pub record IsResolved (set : List Interface) (i : Interface) (r : Resolved) : Ty
   pub named : ListsNamed set i r.named
   pub parts : ListsParts set i r.parts
 
--- ---- tables of what interfaces have
+-- ---- what is held of what interfaces have
 abbrev pub entry_at : Identifier → List (Identifier × Resolved) → Option Resolved
 entry_at id table = lookup (is_at (id_cmp id)) table
 
--- The table has an entry of each interface of the set and no other, each with what the interface has.
+-- what the interface has, exactly where there is one
 abbrev pub EntryOf : List Interface → Option Interface → Option Resolved → Type 0
 EntryOf set None None = Unit {0}
 EntryOf set None (Some r) = ⊥
 EntryOf set (Some i) None = ⊥
 EntryOf set (Some i) (Some r) = IsResolved set i r
 
-abbrev pub ResolvesAll : List Interface → List (Identifier × Resolved) → Type 0
-ResolvesAll set table = (id : Identifier) → EntryOf set (interface_at id set) (entry_at id table)
-
--- The same but for the interfaces of some identifiers, which are in the set and not yet in the table.
-pub record ResolvesOthers (set : List Interface) (ids : List Identifier) (table : List (Identifier × Resolved)) : Type 0 where
-  pub new : AllByRecursion (λ id. IsSome (interface_at id set) × (entry_at id table ≡ None)) ids
-  pub others : (id : Identifier) → list_any (id_eq id) ids ≡ false → EntryOf set (interface_at id set) (entry_at id table)
+-- Each entry that is held is what the interface of its identifier has in the set.
+abbrev pub HoldsRight : List Interface → List (Identifier × Resolved) → Type 0
+HoldsRight set table = (id : Identifier) (r : Resolved) → entry_at id table ≡ Some r → (i : Interface) × (interface_at id set ≡ Some i) × IsResolved set i r
 
 -- ---- sets that change
 -- each interface of the smaller set stands in the larger

@@ -5,8 +5,8 @@ mod contents;
 mod found;
 mod laws;
 mod resolving;
-mod table;
 
-pub use laws::{one_resolved, others_stay_resolved, resolved_in_both, rest_stays_resolved};
-pub use resolving::resolve;
-pub use table::Table;
+pub use laws::{
+    held_rest_right, held_stay_right, one_resolved, resolved_in_both, some_resolved,
+};
+pub use resolving::{ancestors, parts, resolve};

@@ -9,8 +9,8 @@ ghost use Rattle.dtdl_terms.specs.Sets.{InOrder, interface_at};
 ghost use Rattle.dtdl_terms.specs.declared.interface.Interface.{Interface};
 ghost use Rattle.extend_resolve.specs.Chains.{IsAncestor};
 ghost use Rattle.extend_resolve.specs.Breaches.{BreaksNoRule};
-ghost use Rattle.model_resolve.specs.Resolving.{IsResolved};
-ghost use Rattle.model_resolve.specs.Machinery.Families.{IsThere, IsFamily, Grows, IsShort, IsPartIn, IsPartOf, component_id, part_for, schemas_of};
+ghost use Rattle.model_resolve.specs.Resolving.{HasPart, IsResolved};
+ghost use Rattle.model_resolve.specs.Machinery.Families.{IsThere, IsFamily, Grows, IsShort, IsPartBy, IsPartOf, component_id, part_for, schemas_of};
 
 use crate::contents::contents_of;
 use crate::found::Found;
@@ -34,7 +34,7 @@ pub fn resolve(alloc: Global, set: &ModelSet, id: &Dtmi) -> Result<Resolved, Out
     let mut found = ancestors_of(alloc, set, interface)?;
     let ancestors = found.list(alloc)?;
     let contents = contents_of(alloc, ancestors.as_slice())?;
-    let parts = parts_of(alloc, set, contents.as_slice())?;
+    let parts = parts(alloc, set, ancestors.as_slice())?;
     add_all_ancestors(set, parts.as_slice(), &mut found)?;
     let sources = found.list(alloc)?;
     Ok(Resolved {
@@ -43,6 +43,22 @@ pub fn resolve(alloc: Global, set: &ModelSet, id: &Dtmi) -> Result<Resolved, Out
         named: copy_named(alloc, sources.as_slice())?,
         parts: copy_parts(alloc, set, parts.as_slice())?,
     })
+}
+
+/// The ancestors of an interface of a set that breaks no rule, itself included, in the order of their identifiers. Fails
+/// only for want of memory.
+pub fn ancestors<'a>(
+    alloc: Global,
+    set: &'a ModelSet,
+    interface: &'a Interface,
+) -> Result<Vec<&'a Interface>, OutOfMemory>
+    requires sound { BreaksNoRule set.now }
+    requires there { interface_at interface.now.id set.now ≡ Some interface.now }
+    ensures each { IfOk result (λ list. (a : Interface) → Contains (map (λ x. x.now) list.items) a ↔ IsAncestor set.now interface.now a) }
+    ensures ordered { IfOk result (λ list. InOrder (map (λ x. x.now) list.items)) }
+{
+    let found = ancestors_of(alloc, set, interface)?;
+    found.list(alloc)
 }
 
 /// The ancestors of an interface, itself included.
@@ -104,29 +120,45 @@ fn add_all_ancestors<'a>(
     Ok(())
 }
 
-/// The interfaces of components, in the order of their identifiers.
-fn parts_of<'a>(
+/// The interfaces of the components that interfaces declare, each once, in the order of their identifiers. Where these are
+/// the ancestors of an interface, they are the interfaces of the components that it has. Fails only for want of memory.
+pub fn parts<'a>(
     alloc: Global,
     set: &'a ModelSet,
-    contents: &[ResolvedContent],
+    interfaces: &[&Interface],
 ) -> Result<Vec<&'a Interface>, OutOfMemory>
-    ensures each { IfOk result (λ parts. (q : Interface) → Contains (map (λ i. i.now) parts.items) q ↔ IsPartIn set.now contents.now q) }
-    ensures ordered { IfOk result (λ parts. InOrder (map (λ i. i.now) parts.items)) }
+    ensures each { IfOk result (λ parts. (i : Interface) → ((a : Interface) → Contains (map (λ x. x.now) interfaces.now) a ↔ IsAncestor set.now i a) → (q : Interface) → Contains (map (λ x. x.now) parts.items) q ↔ HasPart set.now i q) }
+    ensures ordered { IfOk result (λ parts. InOrder (map (λ x. x.now) parts.items)) }
 {
-    let mut parts = Found::new(alloc);
-    'contents: for content in contents {
+    let mut found = Found::new(alloc);
+    'interfaces: for interface in interfaces {
+        add_parts(set, interface, &mut found)?;
+    }
+    found.list(alloc)
+}
+
+/// Adds the interfaces of the components that an interface declares.
+fn add_parts<'a>(
+    set: &'a ModelSet,
+    interface: &Interface,
+    found: &mut Found<'a>,
+) -> Result<(), OutOfMemory>
+    requires { (q : Interface) → IsThere found.old q → IsThere set.now q }
+    ensures { OnOk result ((q : Interface) → IsThere found.new q ↔ (IsThere found.old q ⊎ IsPartBy set.now interface.now.contents q)) }
+{
+    'contents: for content in interface.contents.as_slice() {
         if let Some(part) = part_for(set, content) {
-            parts.add(part)?;
+            found.add(part)?;
         }
     }
-    parts.list(alloc)
+    Ok(())
 }
 
 /// The interface of a component.
-fn part_for<'a>(set: &'a ModelSet, content: &ResolvedContent) -> Option<&'a Interface>
+fn part_for<'a>(set: &'a ModelSet, content: &Content) -> Option<&'a Interface>
     ensures { option_copied result ≡ part_for set.now content.now }
 {
-    match component_id(&content.content) {
+    match component_id(content) {
         Some(id) => set.get(id),
         None => None,
     }

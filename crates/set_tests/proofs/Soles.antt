@@ -21,7 +21,6 @@ use Rattle.extend_resolve.specs.declared.rule.SetRule.TheVariants as rules
 use Rattle.extend_resolve.specs.Chains.{IsParent, IsChain, chain_end}
 use Rattle.extend_resolve.specs.SetRules.{NamesParent, HasTooManyContents}
 use Rattle.extend_resolve.specs.Breaches.{Breaks, BreaksNoRule}
-use Rattle.model_resolve.specs.Resolving.{EntryOf, ResolvesOthers}
 use Rattle.set_tests.specs.Lone.{IsLone}
 use Rattle.model_resolve.proofs.ByKey.{C, same_spelling, alike}
 
@@ -101,7 +100,7 @@ lone_declared i description display parents contents schemas = record {
   schemas = subst (λ (ss : List Schema). AllByRecursion (λ s. SchemaIsDistinct (schema_term s)) ss) (sym schemas) tt;
 }
 
--- ---- the set and its table
+-- ---- the set
 pub lone_breaks : (set : List Interface) (id : Identifier) → IsLone set id → BreaksNoRule set
 lone_breaks set id (i, is, same, sound, declared) = subst BreaksNoRule (sym is) sound
 
@@ -113,18 +112,3 @@ at_lone i id same = ap (λ b. cond b (Some i) None) (ap is_eq (ap (λ (j : Ident
 
 pub lone_there : (set : List Interface) (id : Identifier) → IsLone set id → IsSome (interface_at id set)
 lone_there set id (i, is, same, sound, declared) = ap is_some (ap (interface_at id) is ∙ at_lone i id same)
-
-not_lone : (i : Interface) (id q : Identifier) → i.id ≡ id → list_any (id_eq q) (id ∷ []) ≡ false → interface_at q (i ∷ []) ≡ None
-not_lone i id q same none = by (is_eq (id_cmp q i.id)) refl
-  where
-    by : (b : Bool) → is_eq (id_cmp q i.id) ≡ b → cond b (Some i) None ≡ None
-    by true e =
-        let equal : id_eq q id ≡ true = (bytes_eq-Decides (dtmi_text q) (dtmi_text id)).1 (same_spelling (dtmi_text q) (dtmi_text i.id) e ∙ ap dtmi_text same) in
-        absurd (true≢false (sym (ap (λ b. b || false) equal) ∙ none))
-    by false e = refl
-
-pub lone_others : (set : List Interface) (id : Identifier) → IsLone set id → ResolvesOthers set (id ∷ []) []
-lone_others set id (i, is, same, sound, declared) = record {
-  new = ((lone_there set id (i, is, same, sound, declared), refl), tt);
-  others = λ q none. subst (λ o. EntryOf set o None) (sym (ap (interface_at q) is ∙ not_lone i id q same none)) tt;
-}

@@ -7,7 +7,7 @@ use dt_base::List;
 use dtdl_terms::{Interface, Localized, ModelSet};
 use dtmi_name::Dtmi;
 use extend_resolve::is_a;
-use model_resolve::{Table, resolve};
+use model_resolve::{ancestors, parts, resolve};
 use std::alloc::Global;
 use std::test::Fail;
 
@@ -49,17 +49,14 @@ fn resolves_a_lone_interface(rt: HostRuntime) -> Result<(), Fail> {
 }
 
 #[test]
-fn keeps_a_lone_interface(rt: HostRuntime) -> Result<(), Fail> {
+fn finds_a_lone_interface(rt: HostRuntime) -> Result<(), Fail> {
     let alloc = rt.alloc();
-    let ids = [Dtmi::read(alloc, "dtmi:a;1")?];
-    let set = lone(alloc, &ids[0])?;
-    let mut table = Table::new(alloc);
-    table.add(&set, &ids)?;
-    assert_eq!(rt;
-        table.get(&ids[0]).map(|resolved| resolved.ancestors.len()),
-        Some(1)
-    );
-    table.remove(&ids[0]);
-    assert!(rt; table.get(&ids[0]).is_none());
+    let id = Dtmi::read(alloc, "dtmi:a;1")?;
+    let set = lone(alloc, &id)?;
+    let interface = set.get(&id).unwrap();
+    let ancestors = ancestors(alloc, &set, interface)?;
+    assert_eq!(rt; ancestors.len(), 1);
+    let parts = parts(alloc, &set, ancestors.as_slice())?;
+    assert!(rt; parts.is_empty());
     Ok(())
 }

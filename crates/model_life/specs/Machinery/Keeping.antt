@@ -9,9 +9,8 @@ use Rattle.dtmi_name.specs.Grammar.{Identifier, dtmi_text, id_cmp}
 use Rattle.dtdl_terms.specs.Distinct.{HasDeclaration}
 use Rattle.dtdl_terms.specs.Sets.{InOrder, interface_at}
 use Rattle.dtdl_terms.specs.declared.interface.Interface.{Interface}
-use Rattle.dtdl_terms.specs.declared.resolved.Resolved.{Resolved}
 use Rattle.extend_resolve.specs.Breaches.{BreaksNoRule}
-use Rattle.model_resolve.specs.Resolving.{entry_at, ResolvesAll}
+use Rattle.model_resolve.specs.Machinery.Reaching.{ancestors_in, parts_in}
 use Rattle.model_life.specs.Models.{Model, model_of, uses}
 use Rattle.model_life.specs.Sums.{text_bytes, bytes_of}
 use Rattle.model_life.specs.declared.records.Record.{Record}
@@ -69,8 +68,11 @@ abbrev pub UsersAreWithin : List Interface → Users → Type 0
 UsersAreWithin set us = (used user : Identifier) → use_of used (interface_at user set) ≡ None → user_at used user us ≡ None
 
 -- ---- what agrees with the set
+abbrev pub AreRecorded : List Interface → List (Identifier × Record) → Type 0
+AreRecorded set es = (id : Identifier) → RecordOf (interface_at id set) (record_at id es)
+
 pub record Fits (set : List Interface) (es : List (Identifier × Record)) (us : Users) : Type 0 where
-  pub records : (id : Identifier) → RecordOf (interface_at id set) (record_at id es)
+  pub records : AreRecorded set es
   pub users : (used user : Identifier) → user_at used user us ≡ use_of used (interface_at user set)
 
 -- ---- sums
@@ -85,33 +87,49 @@ bytes_at (Some r) = r.bytes
 abbrev pub recorded : List (Identifier × Record) → List Identifier → ℕ
 recorded es ids = sum_by (λ id. bytes_at (record_at id es)) ids
 
--- what the line of an interface takes, and what it takes with the lines of its parts
-abbrev pub line_in : (List Identifier → ℕ) → Option Resolved → ℕ
-line_in bytes None = 0
-line_in bytes (Some r) = bytes r.ancestors
+-- what the texts of an interface and of all its ancestors take, and with it those of each interface that a component names
+-- and of its ancestors
+abbrev pub line_of : List Interface → Interface → ℕ
+line_of set i = bytes_of set (map (λ a. a.id) (ancestors_in set i))
 
-abbrev pub line_at : (List Identifier → ℕ) → List (Identifier × Resolved) → Identifier → ℕ
-line_at bytes table id = line_in bytes (entry_at id table)
+abbrev pub share_of : List Interface → Interface → ℕ
+share_of set i = line_of set i + sum_by (line_of set) (parts_in set i)
 
-abbrev pub share_in : (List Identifier → ℕ) → List (Identifier × Resolved) → Option Resolved → ℕ
-share_in bytes table None = 0
-share_in bytes table (Some r) = bytes r.ancestors + sum_by (λ part. line_at bytes table part.of) r.parts
+-- the same of what is found
+abbrev pub line_in : List Interface → Option Interface → ℕ
+line_in set None = 0
+line_in set (Some i) = line_of set i
 
-abbrev pub share_at : (List Identifier → ℕ) → List (Identifier × Resolved) → Identifier → ℕ
-share_at bytes table id = share_in bytes table (entry_at id table)
+abbrev pub share_in : List Interface → Option Interface → ℕ
+share_in set None = 0
+share_in set (Some i) = share_of set i
 
-abbrev pub shares : List Interface → List (Identifier × Resolved) → ℕ
-shares set table = sum_by (λ i. share_at (bytes_of set) table i.id) set
+abbrev pub share_at : List Interface → Identifier → ℕ
+share_at set id = share_in set (interface_at id set)
+
+-- ---- what is written of these
+abbrev pub Written : Type 0
+Written = List (Identifier × ℕ)
+
+abbrev pub number_in : Option ℕ → ℕ
+number_in None = 0
+number_in (Some n) = n
+
+abbrev pub written_at : Identifier → Written → ℕ
+written_at id ws = number_in (lookup (is_at (id_cmp id)) ws)
+
+abbrev pub AreWritten : List Interface → Written → Type 0
+AreWritten set ws = (id : Identifier) → written_at id ws ≡ share_at set id
 
 -- ---- what models keep
-pub record IsKept (set : List Interface) (es : List (Identifier × Record)) (us : Users) (table : List (Identifier × Resolved)) (bytes resolved : ℕ) : Type 0 where
+pub record IsKept (set : List Interface) (es : List (Identifier × Record)) (us : Users) (ws : Written) (bytes resolved : ℕ) : Type 0 where
   pub rules : BreaksNoRule set
   pub ordered : InOrder set
   pub declared : AllByRecursion HasDeclaration set
   pub fits : Fits set es us
-  pub entries : ResolvesAll set table
+  pub written : AreWritten set ws
   pub sum : bytes ≡ sum_by text_bytes set
-  pub total : resolved ≡ shares set table
+  pub total : resolved ≡ sum_by (share_of set) set
   pub few : length set ≤ 10000
   pub small : bytes ≤ 67108864
   pub bounded : resolved ≤ 268435456

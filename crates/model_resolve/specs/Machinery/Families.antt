@@ -15,7 +15,6 @@ use Rattle.dtdl_terms.specs.declared.resolved.NamedIn.{NamedIn}
 use Rattle.dtdl_terms.specs.declared.resolved.PartOf.{PartOf}
 use Rattle.dtdl_terms.specs.declared.resolved.ResolvedContent.{ResolvedContent}
 use Rattle.extend_resolve.specs.Chains.{IsParent, IsChain, IsAncestor}
-use Rattle.extend_resolve.specs.SetRules.{IsComponentOf}
 use Rattle.model_resolve.specs.Resolving.{ListsContents}
 
 -- ---- interfaces as a map keeps them
@@ -92,9 +91,6 @@ abbrev pub AreOne : (ResolvedContent → Type 0) → Type 0
 AreOne P = (r s : ResolvedContent) → P r → P s → r.content.name ≡ s.content.name → r ≡ s
 
 -- ---- interfaces of components
-abbrev pub IsPartIn : List Interface → List ResolvedContent → Interface → Type 0
-IsPartIn set rs q = (r : ResolvedContent) × (p : Identifier) × Contains rs r × IsComponentOf r.content p × (interface_at p set ≡ Some q)
-
 -- what a component is of, where it is one
 abbrev pub component_id : KindTerm → Option Identifier
 component_id (telemetry schema semantic unit) = None
@@ -108,11 +104,19 @@ found_at set None = None
 found_at set (Some p) = interface_at p set
 
 -- the interface of a component
-abbrev pub part_for : List Interface → ResolvedContent → Option Interface
-part_for set r = found_at set (component_id (kind_term r.content.kind))
+abbrev pub part_for : List Interface → Content → Option Interface
+part_for set c = found_at set (component_id (kind_term c.kind))
 
-abbrev pub IsPartOfFirst : List Interface → List ResolvedContent → ℕ → Interface → Type 0
-IsPartOfFirst set rs n q = (r : ResolvedContent) × IsOfFirst rs n r × (part_for set r ≡ Some q)
+-- one of the contents is a component of it
+abbrev pub IsPartBy : List Interface → List Content → Interface → Type 0
+IsPartBy set cs q = (c : Content) × Contains cs c × (part_for set c ≡ Some q)
+
+abbrev pub IsPartByFirst : List Interface → List Content → ℕ → Interface → Type 0
+IsPartByFirst set cs n q = (c : Content) × IsOfFirst cs n c × (part_for set c ≡ Some q)
+
+-- one of the first `n` interfaces declares a component of it
+abbrev pub IsPartAmongFirst : List Interface → List (Bor Interface) → ℕ → Interface → Type 0
+IsPartAmongFirst set xs n q = (x : Bor Interface) × IsOfFirst xs n x × IsPartBy set x.now.contents q
 
 abbrev pub IsPartOf : List Interface → Interface → PartOf → Type 0
 IsPartOf set q part = (part.of ≡ q.id) × ListsContents set q part.contents

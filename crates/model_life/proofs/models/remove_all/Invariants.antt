@@ -1,8 +1,8 @@
-use Rattle.std.proofs.Common.{◌≡◌, take, cond, None}
+use Rattle.std.proofs.Common.{◌≡◌, take, cond}
 use Rattle.dtmi_name.specs.Grammar.{Identifier}
-use Rattle.model_resolve.specs.Resolving.{entry_at}
 use Rattle.set_laws.specs.Changing.{is_one_of}
+use Rattle.model_life.specs.Machinery.Keeping.{written_at}
 use Rattle.model_life.proofs.models.remove_all.Given as goal
 
 abbrev pub invariant-ids : goal.invariant-ids
-invariant-ids l = (q : Identifier) → entry_at q l.table ≡ cond (is_one_of (take l.id-index l.ids) q) None (entry_at q l.fn.table)
+invariant-ids l = (q : Identifier) → written_at q l.shares ≡ cond (is_one_of (take l.id-index l.ids) q) 0 (written_at q l.fn.shares)

@@ -1,17 +1,39 @@
-use Rattle.std.proofs.Common.{◌≡◌, Some, sym, ap, ◌∙◌}
-use Rattle.std.specs.Option.{option_copied}
+use Rattle.std.proofs.Common.{◌≡◌, ◌↔◌, List, map, sym, ap, ◌∙◌, subst}
+use Rattle.std.specs.Prelude.{Contains}
 use Rattle.std.specs.List.{sum_by}
-use Rattle.model_resolve.specs.Resolving.{entry_at}
-use Rattle.model_life.specs.Machinery.Keeping.{recorded, capped, line_at, share_in}
+use Rattle.dtdl_terms.specs.declared.interface.Interface.{Interface}
+use Rattle.model_resolve.specs.Resolving.{HasPart}
+use Rattle.model_resolve.specs.Machinery.Families.{IsThere}
+use Rattle.extend_resolve.specs.Chains.{IsAncestor}
+use Rattle.model_resolve.proofs.Assembly.{parts_there}
+use Rattle.model_life.specs.Machinery.Keeping.{capped, line_of}
+use Rattle.model_resolve.specs.Machinery.Reaching.{parts_in}
 use Rattle.model_life.proofs.Summing.{capped_both}
+use Rattle.model_life.proofs.Taking.{line_recorded, lines_found, found_line, found_parts}
 use Rattle.model_life.proofs.sums.share.Goals as goal
 
-pub returns-in-Some : goal.returns-in-Some
-returns-in-Some c =
-    let found : entry_at c.args.id.now c.args.table.now ≡ Some c.in-Some.resolved.now = sym c.get.ensures ∙ ap option_copied c.in-Some.is in
-    capped_both (recorded c.args.records.now c.in-Some.resolved.now.ancestors) (sum_by (λ part. line_at (recorded c.args.records.now) c.args.table.now part.of) c.in-Some.resolved.now.parts)
-    c.bytes_of-own.result c.part_bytes.result c.saturating_add.result
-    (c.bytes_of-own.ensures ∙ ap (λ xs. capped (recorded c.args.records.now xs)) c.as_slice.ensures)
-    (c.part_bytes.ensures ∙ ap (λ xs. capped (sum_by (λ part. line_at (recorded c.args.records.now) c.args.table.now part.of) xs)) c.as_slice-in-Some.ensures)
+pub lines_bytes-requires-clause-there : goal.lines_bytes-requires-clause-there
+lines_bytes-requires-clause-there c =
+    let set : List Interface = c.args.set.now in
+    let i : Interface = c.args.interface.now in
+    let ups : (a : Interface) → Contains (map (λ x. x.now) c.as_slice-2.result.now) a ↔ IsAncestor set i a =
+    subst (λ xs. (a : Interface) → Contains (map (λ x. x.now) xs) a ↔ IsAncestor set i a) (sym c.as_slice-2.ensures.value) c.in_ok-ancestors.ensures.each in
+    subst (λ xs. (q : Interface) → Contains (map (λ x. x.now) xs) q → IsThere set q) (sym c.as_slice-3.ensures.value)
+    (parts_there set i (map (λ x. x.now) c.in_ok-parts.parts.items) (c.in_ok-parts.ensures.each i ups))
+
+pub returns : goal.returns
+returns c =
+    let set : List Interface = c.args.set.now in
+    let i : Interface = c.args.interface.now in
+    let ups : (a : Interface) → Contains (map (λ x. x.now) c.as_slice-2.result.now) a ↔ IsAncestor set i a =
+    subst (λ xs. (a : Interface) → Contains (map (λ x. x.now) xs) a ↔ IsAncestor set i a) (sym c.as_slice-2.ensures.value) c.in_ok-ancestors.ensures.each in
+    capped_both (line_of set i) (sum_by (line_of set) (parts_in set i)) c.text_bytes.result c.in_ok-others.others c.saturating_add.result
+    (c.text_bytes.ensures
+    ∙ ap capped
+    (line_recorded set c.args.records.now c.requires.records i c.as_slice.result.now
+    (found_line set c.requires.sound c.requires.ordered i c.requires.there c.as_slice.result.now c.in_ok-ancestors.ancestors.items c.as_slice.ensures.value c.in_ok-ancestors.ensures.each c.in_ok-ancestors.ensures.ordered)))
+    (c.in_ok-others.ensures
+    ∙ ap capped
+    (lines_found set i c.as_slice-3.result.now
+    (found_parts set c.requires.sound c.requires.ordered i c.requires.there c.as_slice-3.result.now c.in_ok-parts.parts.items c.as_slice-3.ensures.value (c.in_ok-parts.ensures.each i ups) c.in_ok-parts.ensures.ordered)))
     c.saturating_add.ensures
-    ∙ ap (λ o. capped (share_in (recorded c.args.records.now) c.args.table.now o)) (sym found)

@@ -4,10 +4,9 @@ use Rattle.dtmi_name.specs.Grammar.{Identifier, id_eq}
 use Rattle.dtdl_terms.specs.Sets.{interface_at}
 use Rattle.dtdl_terms.specs.declared.interface.Interface.{Interface}
 use Rattle.model_resolve.proofs.Families.{stands}
-use Rattle.model_resolve.proofs.Tables.{drop_next}
 use Rattle.set_laws.specs.Changing.{is_one_of}
 use Rattle.model_life.specs.Machinery.Keeping.{UsersAreWithin, user_at, use_of}
-use Rattle.model_life.proofs.Using.{not_there}
+use Rattle.model_life.proofs.Using.{drop_next, not_there}
 use Rattle.model_life.proofs.Linking.{others_apart, within_step, linked_step, linked_over}
 use Rattle.model_life.proofs.users.link_all.Goals.{in-Some+in_ok-link, in_default}
 use Rattle.model_life.proofs.users.link_all.Goals as goal

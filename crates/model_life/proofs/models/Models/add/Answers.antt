@@ -7,18 +7,18 @@ use Rattle.model_life.proofs.models.Models.add.Goals as goal
 
 pub returns-in-Err-clause-end : goal.returns-in-Err-clause-end
 returns-in-Err-clause-end c =
-    refused c.args.new c.self.inside.set c.self.inside.records c.self.inside.users c.self.inside.table c.self.inside.bytes c.self.inside.resolved c.args.self.now c.self.view_is c.self.invariant c.in-Err.end
+    refused c.args.new c.self.inside.set c.self.inside.records c.self.inside.users c.self.inside.shares c.self.inside.bytes c.self.inside.resolved c.args.self.now c.self.view_is c.self.invariant c.in-Err.end
     (subst (λ us. RefusesIn c.self.inside.set us c.in-Err.end) c.as_slice.ensures c.in-Err.ensures)
 
 pub join-requires-clause-new : goal.join-requires-clause-new
 join-requires-clause-new c =
     let absent : AreAbsent c.self.inside.set c.args.new = subst (AreAbsent c.self.inside.set) c.as_slice.ensures c.in-Ok.ensures.0 in
-    new_from c.args.new c.self.inside.set c.self.inside.records c.self.inside.users c.self.inside.table c.self.inside.bytes c.self.inside.resolved c.args.self.now c.self.view_is c.self.invariant c.args.new absent
+    new_from c.args.new c.self.inside.set c.self.inside.records c.self.inside.users c.self.inside.shares c.self.inside.bytes c.self.inside.resolved c.args.self.now c.self.view_is c.self.invariant c.args.new absent
 
 pub join-requires-clause-sound : goal.join-requires-clause-sound
 join-requires-clause-sound c =
     let sound : IsSound c.self.inside.set c.args.new = subst (IsSound c.self.inside.set) c.as_slice.ensures c.in-Ok.ensures.1 in
-    sound_from c.args.new c.self.inside.set c.self.inside.records c.self.inside.users c.self.inside.table c.self.inside.bytes c.self.inside.resolved c.args.self.now c.self.view_is c.self.invariant sound
+    sound_from c.args.new c.self.inside.set c.self.inside.records c.self.inside.users c.self.inside.shares c.self.inside.bytes c.self.inside.resolved c.args.self.now c.self.view_is c.self.invariant sound
 
 pub returns-clause-end : goal.returns-clause-end
 returns-clause-end c =
@@ -26,8 +26,8 @@ returns-clause-end c =
     let sound : IsSound c.self.inside.set c.args.new = subst (IsSound c.self.inside.set) c.as_slice.ensures c.in-Ok.ensures.1 in
     match_more (RefusesUploads c.args.self.now c.args.new) c.join.result
     (λ within. (
-      new_from c.args.new c.self.inside.set c.self.inside.records c.self.inside.users c.self.inside.table c.self.inside.bytes c.self.inside.resolved c.args.self.now c.self.view_is c.self.invariant c.args.new absent,
-      sound_from c.args.new c.self.inside.set c.self.inside.records c.self.inside.users c.self.inside.table c.self.inside.bytes c.self.inside.resolved c.args.self.now c.self.view_is c.self.invariant sound,
+      new_from c.args.new c.self.inside.set c.self.inside.records c.self.inside.users c.self.inside.shares c.self.inside.bytes c.self.inside.resolved c.args.self.now c.self.view_is c.self.invariant c.args.new absent,
+      sound_from c.args.new c.self.inside.set c.self.inside.records c.self.inside.users c.self.inside.shares c.self.inside.bytes c.self.inside.resolved c.args.self.now c.self.view_is c.self.invariant sound,
       within,
     ))
     c.join.ensures.end

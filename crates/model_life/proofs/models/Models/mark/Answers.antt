@@ -21,7 +21,7 @@ returns-clause-end c =
 pub invariant_of-self : goal.invariant_of-self
 invariant_of-self c =
     let some : IsSome (interface_at c.args.id.now c.self.inside.set) = found_some c.get.result (interface_at c.args.id.now c.self.inside.set) c.is_none.result c.is_none.ensures c.if-is_none.false c.get.ensures in
-    let kept : IsKept c.self.inside.set c.self.inside.records c.self.inside.users c.self.inside.table c.self.inside.bytes c.self.inside.resolved = c.self.invariant in
+    let kept : IsKept c.self.inside.set c.self.inside.records c.self.inside.users c.self.inside.shares c.self.inside.bytes c.self.inside.resolved = c.self.invariant in
     let one = record_there c.self.inside.set c.self.inside.records c.self.inside.users c.args.id.now kept.fits some in
     let old : Record = one.0 in
     let new : Record = record old { decommissioned = c.args.on } in
@@ -31,7 +31,7 @@ invariant_of-self c =
       declared = kept.declared;
       fits = marked_fits c.self.inside.set c.self.inside.records c.mark.new.self c.self.inside.users c.args.id.now old new refl refl one.1
           (marked_at c.args.id.now c.self.inside.records c.mark.new.self new (ap is_some one.1) (c.mark.ensures.some old one.1)) (record_at_text c.args.id.now c.self.inside.records) kept.fits;
-      entries = kept.entries;
+      written = kept.written;
       sum = kept.sum;
       total = kept.total;
       few = kept.few;
@@ -42,7 +42,7 @@ invariant_of-self c =
 pub returns-clause-ok : goal.returns-clause-ok
 returns-clause-ok c =
     let some : IsSome (interface_at c.args.id.now c.self.inside.set) = found_some c.get.result (interface_at c.args.id.now c.self.inside.set) c.is_none.result c.is_none.ensures c.if-is_none.false c.get.ensures in
-    let kept : IsKept c.self.inside.set c.self.inside.records c.self.inside.users c.self.inside.table c.self.inside.bytes c.self.inside.resolved = c.self.invariant in
+    let kept : IsKept c.self.inside.set c.self.inside.records c.self.inside.users c.self.inside.shares c.self.inside.bytes c.self.inside.resolved = c.self.invariant in
     let one = record_there c.self.inside.set c.self.inside.records c.self.inside.users c.args.id.now kept.fits some in
     let old : Record = one.0 in
     let new : Record = record old { decommissioned = c.args.on } in

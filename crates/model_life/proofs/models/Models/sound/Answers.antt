@@ -19,4 +19,4 @@ pub returns-clause-ordered : goal.returns-clause-ordered
 returns-clause-ordered c = subst InOrder (sym (seen_all c.self.inside.set c.self.inside.records) ∙ ap interfaces_of c.self.view_is) c.self.invariant.ordered
 
 pub returns-clause-limits : goal.returns-clause-limits
-returns-clause-limits c = subst AreWithinLimits c.self.view_is (within_limits c.self.inside.set c.self.inside.records c.self.inside.users c.self.inside.table c.self.inside.bytes c.self.inside.resolved c.self.invariant)
+returns-clause-limits c = subst AreWithinLimits c.self.view_is (within_limits c.self.inside.set c.self.inside.records c.self.inside.users c.self.inside.shares c.self.inside.bytes c.self.inside.resolved c.self.invariant)

@@ -1,6 +1,0 @@
-use Rattle.std.proofs.Common.{◌≡◌, drop}
-use Rattle.model_resolve.specs.Machinery.Tables.{without}
-use Rattle.model_resolve.proofs.table.Table.take_out.Given as goal
-
-abbrev pub invariant-ids : goal.invariant-ids
-invariant-ids l = without (drop l.id-index l.ids) l.self ≡ without l.ids l.fn.self
