@@ -17,7 +17,7 @@ use Rattle.dtdl_terms.specs.declared.interface.Interface.{Interface}
 use Rattle.dtdl_terms.specs.declared.uploaded.Uploaded.{Uploaded}
 use Rattle.dtdl_terms.proofs.Keyed.{values-keyed}
 use Rattle.extend_resolve.specs.Breaches.{BreaksNoRule, IsSound}
-use Rattle.extend_resolve.proofs.Members.{all_at, unmapped_at, contains_placed}
+use Rattle.extend_resolve.proofs.Members.{unmapped_at, contains_placed}
 use Rattle.model_resolve.specs.Resolving.{IsWithin, LacksNone}
 use Rattle.model_resolve.specs.Machinery.Families.{IsThere}
 use Rattle.model_resolve.proofs.Families.{listed, stands}

@@ -1,12 +1,11 @@
 -- What models take: sums over sets that grow and shrink, and one sum for each set.
-use Rattle.std.proofs.Common.{◌≡◌, ◌≢◌, ◌↔◌, ℕ, ◌+◌, ◌-◌, ◌^◌, ◌<◌, ◌≤◌, min, List, [], ◌∷◌, map, Bool, true, false, cond, Option, Some, None, refl, sym, ap, ◌∙◌, subst, is_eq, arith, lit≤, lit<, ◌||◌}
+use Rattle.std.proofs.Common.{◌≡◌, ◌≢◌, ◌↔◌, ℕ, ◌+◌, ◌-◌, ◌^◌, ◌<◌, ◌≤◌, min, List, [], ◌∷◌, map, Bool, true, false, cond, Option, Some, None, refl, sym, ap, ◌∙◌, subst, arith, lit≤, lit<, ◌||◌}
 use Rattle.std.specs.Prelude.{Contains, unwrap_or}
 use Rattle.std.specs.Option.{option_map}
 use Rattle.std.specs.List.{AllByRecursion, sum_by}
 use Rattle.std.specs.List.Sorted.{IsStrictlySortedBy}
 use Rattle.std.specs.Map.{lookup, values_of}
 use Rattle.std.specs.BTreeMap.{is_at}
-use Rattle.std.proofs.lemmas.Option.{same_Some, none-some}
 use Rattle.std.proofs.lemmas.List.Sums.{sum_by-cons}
 use Rattle.std.proofs.lemmas.Map.Entries.{sum_by-insert_entry, sum_by-remove_entry}
 use denote.Ref.{Bor}
@@ -20,7 +19,7 @@ use Rattle.dtdl_terms.specs.declared.uploaded.Uploaded.{Uploaded}
 use Rattle.dtdl_terms.proofs.Keyed.{values-keyed}
 use Rattle.extend_resolve.specs.Chains.{IsAncestor}
 use Rattle.extend_resolve.specs.Breaches.{BreaksNoRule}
-use Rattle.model_resolve.specs.Resolving.{HasPart, IsResolved, IsWithin, LacksNone}
+use Rattle.model_resolve.specs.Resolving.{HasPart, IsWithin, LacksNone}
 use Rattle.model_resolve.specs.Machinery.Reaching.{ancestors_in, parts_in}
 use Rattle.model_resolve.specs.Machinery.Families.{IsThere}
 use Rattle.model_resolve.proofs.Families.{listed, stands, ancestors_there}

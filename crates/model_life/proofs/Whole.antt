@@ -3,7 +3,6 @@ use Rattle.std.proofs.Common.{◌≡◌, ℕ, ◌+◌, ◌≤◌, List, [], ◌�
 use Rattle.std.specs.List.{sum_by}
 use Rattle.std.proofs.lemmas.List.Sums.{sum_by-cons}
 use Rattle.std.proofs.lemmas.List.{length-map}
-use Rattle.dtmi_name.specs.Grammar.{Identifier}
 use Rattle.dtdl_terms.specs.declared.interface.Interface.{Interface}
 use Rattle.model_life.specs.Sums.{text_bytes, model_bytes, AllTake, AreWithinLimits}
 use Rattle.model_life.specs.Machinery.Keeping.{models_of, Written, Users, IsKept}

@@ -86,12 +86,7 @@ impl Shares {
     }
 
     /// Writes what one interface takes, in place of a number that is there.
-    fn write(
-        &mut self,
-        set: &ModelSet,
-        records: &Records,
-        id: &Dtmi,
-    ) -> Result<u64, OutOfMemory>
+    fn write(&mut self, set: &ModelSet, records: &Records, id: &Dtmi) -> Result<u64, OutOfMemory>
         requires sound { BreaksNoRule set.now }
         requires ordered { InOrder set.now }
         requires records { AreRecorded set.now records.now }

@@ -1,4 +1,4 @@
-use Rattle.std.proofs.Common.{take, cond, None, sym, ap, ◌∙◌}
+use Rattle.std.proofs.Common.{take, cond, sym, ap, ◌∙◌}
 use Rattle.dtmi_name.specs.Grammar.{id_eq}
 use Rattle.set_laws.specs.Changing.{is_one_of}
 use Rattle.model_life.specs.Machinery.Keeping.{written_at}

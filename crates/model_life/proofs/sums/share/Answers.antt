@@ -1,8 +1,7 @@
-use Rattle.std.proofs.Common.{◌≡◌, ◌↔◌, List, map, sym, ap, ◌∙◌, subst}
+use Rattle.std.proofs.Common.{◌↔◌, List, map, sym, ap, ◌∙◌, subst}
 use Rattle.std.specs.Prelude.{Contains}
 use Rattle.std.specs.List.{sum_by}
 use Rattle.dtdl_terms.specs.declared.interface.Interface.{Interface}
-use Rattle.model_resolve.specs.Resolving.{HasPart}
 use Rattle.model_resolve.specs.Machinery.Families.{IsThere}
 use Rattle.extend_resolve.specs.Chains.{IsAncestor}
 use Rattle.model_resolve.proofs.Assembly.{parts_there}
@@ -27,8 +26,8 @@ returns c =
     let i : Interface = c.args.interface.now in
     let ups : (a : Interface) → Contains (map (λ x. x.now) c.as_slice-2.result.now) a ↔ IsAncestor set i a =
     subst (λ xs. (a : Interface) → Contains (map (λ x. x.now) xs) a ↔ IsAncestor set i a) (sym c.as_slice-2.ensures.value) c.in_ok-ancestors.ensures.each in
-    capped_both (line_of set i) (sum_by (line_of set) (parts_in set i)) c.text_bytes.result c.in_ok-others.others c.saturating_add.result
-    (c.text_bytes.ensures
+    capped_both (line_of set i) (sum_by (line_of set) (parts_in set i)) c.text_bytes-own.result c.in_ok-others.others c.saturating_add.result
+    (c.text_bytes-own.ensures
     ∙ ap capped
     (line_recorded set c.args.records.now c.requires.records i c.as_slice.result.now
     (found_line set c.requires.sound c.requires.ordered i c.requires.there c.as_slice.result.now c.in_ok-ancestors.ancestors.items c.as_slice.ensures.value c.in_ok-ancestors.ensures.each c.in_ok-ancestors.ensures.ordered)))

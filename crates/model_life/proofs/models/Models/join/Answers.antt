@@ -1,6 +1,6 @@
-use Rattle.std.proofs.Common.{◌≡◌, ◌+◌, ◌<◌, length, None, sym, ap, ◌∙◌, subst, arith}
+use Rattle.std.proofs.Common.{◌≡◌, ◌+◌, ◌<◌, IsSome, false, length, None, sym, ap, ◌∙◌, subst, arith}
 use Rattle.std.specs.List.{AllByRecursion, sum_by}
-use Rattle.dtdl_terms.specs.Distinct.{HasDeclaration}
+use Rattle.dtmi_name.specs.Grammar.{Identifier}
 use Rattle.dtdl_terms.specs.Sets.{InOrder, interface_at}
 use Rattle.extend_resolve.specs.Breaches.{BreaksNoRule, IsSound}
 use Rattle.model_resolve.specs.Resolving.{LacksNone}
@@ -153,10 +153,10 @@ invariant_of-self-in_default-add c =
     all_map (λ u. model_at u.interface.id c.args.self.now ≡ None) (λ u. interface_at u.interface.id c.self.inside.set ≡ None) c.args.new (λ u h. none_seen u.interface.id c.self.inside.set c.self.inside.records c.args.self.now c.self.view_is h) c.requires.new in
     let sound : IsSound c.self.inside.set c.args.new = subst (λ s. IsSound s c.args.new) (ap interfaces_of (sym c.self.view_is) ∙ seen_all c.self.inside.set c.self.inside.records) c.requires.sound in
     let fits : Fits (with_uploads c.args.new c.self.inside.set) c.grow.new.records c.grow.new.users = subst (λ s. Fits s c.grow.new.records c.grow.new.users) c.in-Ok.ensures.ok c.grow.ensures.fits in
-    let kept : IsKept c.self.inside.set c.shrink-in_default-add.new.records c.shrink-in_default-add.new.users c.remove_all-in_default-add.new.shares c.self.inside.bytes c.self.inside.resolved =
-    back_kept c.args.new c.args.ids.now c.self.inside.set c.self.inside.records c.self.inside.users c.self.inside.shares c.self.inside.bytes c.self.inside.resolved c.self.invariant c.requires.ids absent sound c.shrink-in_default-add.new.records c.shrink-in_default-add.new.users c.remove_all-in_default-add.new.shares
-    (back_fits c.args.new c.args.ids.now c.self.inside.set c.self.inside.records c.self.inside.users c.self.inside.shares c.self.inside.bytes c.self.inside.resolved c.self.invariant c.requires.ids absent sound c.grow.new.records c.shrink-in_default-add.new.records c.grow.new.users c.shrink-in_default-add.new.users fits c.shrink-in_default-add.ensures.records c.shrink-in_default-add.ensures.users) (back_written c.args.new c.args.ids.now c.self.inside.set c.self.inside.records c.self.inside.users c.self.inside.shares c.self.inside.bytes c.self.inside.resolved c.self.invariant c.requires.ids absent sound c.add.new.self c.remove_all-in_default-add.new.shares c.add.ensures.others c.remove_all-in_default-add.ensures) in
-    subst (λ s. IsKept s c.shrink-in_default-add.new.records c.shrink-in_default-add.new.users c.remove_all-in_default-add.new.shares c.self.inside.bytes c.self.inside.resolved) (sym (c.shrink-in_default-add.ensures.set ∙ ap (without_interfaces c.args.ids.now) c.in-Ok.ensures.ok ∙ back c.args.new c.args.ids.now c.self.inside.set c.self.inside.records c.self.inside.users c.self.inside.shares c.self.inside.bytes c.self.inside.resolved c.self.invariant c.requires.ids absent sound)) kept
+    let kept : IsKept c.self.inside.set c.shrink-in_default-add.new.records c.shrink-in_default-add.new.users c.remove_all.new.shares c.self.inside.bytes c.self.inside.resolved =
+    back_kept c.args.new c.args.ids.now c.self.inside.set c.self.inside.records c.self.inside.users c.self.inside.shares c.self.inside.bytes c.self.inside.resolved c.self.invariant c.requires.ids absent sound c.shrink-in_default-add.new.records c.shrink-in_default-add.new.users c.remove_all.new.shares
+    (back_fits c.args.new c.args.ids.now c.self.inside.set c.self.inside.records c.self.inside.users c.self.inside.shares c.self.inside.bytes c.self.inside.resolved c.self.invariant c.requires.ids absent sound c.grow.new.records c.shrink-in_default-add.new.records c.grow.new.users c.shrink-in_default-add.new.users fits c.shrink-in_default-add.ensures.records c.shrink-in_default-add.ensures.users) (back_written c.args.new c.args.ids.now c.self.inside.set c.self.inside.records c.self.inside.users c.self.inside.shares c.self.inside.bytes c.self.inside.resolved c.self.invariant c.requires.ids absent sound c.add.new.self c.remove_all.new.shares c.add.ensures.others c.remove_all.ensures) in
+    subst (λ s. IsKept s c.shrink-in_default-add.new.records c.shrink-in_default-add.new.users c.remove_all.new.shares c.self.inside.bytes c.self.inside.resolved) (sym (c.shrink-in_default-add.ensures.set ∙ ap (without_interfaces c.args.ids.now) c.in-Ok.ensures.ok ∙ back c.args.new c.args.ids.now c.self.inside.set c.self.inside.records c.self.inside.users c.self.inside.shares c.self.inside.bytes c.self.inside.resolved c.self.invariant c.requires.ids absent sound)) kept
 
 pub returns-in_default-add-clause-err : goal.returns-in_default-add-clause-err
 returns-in_default-add-clause-err c =

@@ -1,14 +1,12 @@
-use Rattle.std.proofs.Common.{◌≡◌, ℕ, ◌+◌, ◌<◌, ◌≤◌, ◌∷◌, take, drop, length, false, cond, refl, sym, ap, ◌∙◌, is_eq, arith}
-use Rattle.std.specs.List.{sum_by}
+use Rattle.std.proofs.Common.{◌≡◌, ℕ, ◌+◌, ◌∷◌, drop, cond, refl, ap, ◌∙◌, arith}
 use Rattle.std.specs.Prelude.{IsSome}
-use Rattle.std.proofs.lemmas.List.Sums.{sum_by-take-le}
-use Rattle.dtmi_name.specs.Grammar.{Identifier, id_cmp, id_eq}
+use Rattle.dtmi_name.specs.Grammar.{Identifier, id_eq}
 use Rattle.dtdl_terms.specs.Sets.{interface_at}
 use Rattle.set_laws.specs.Changing.{is_one_of}
 use Rattle.set_laws.proofs.Looking.{eq_tests, at_text}
 use Rattle.model_life.specs.Machinery.Keeping.{capped, share_in, share_at, written_at}
-use Rattle.model_life.proofs.Using.{drop_next, drop_all, taken_sum, taken_all, placed_all, not_there}
-use Rattle.model_life.proofs.Taking.{exact, exact_sum, past_sum}
+use Rattle.model_life.proofs.Using.{drop_next, taken_sum, placed_all, not_there}
+use Rattle.model_life.proofs.Taking.{exact, exact_sum}
 use Rattle.model_life.proofs.Recorded.{written_next}
 use Rattle.model_life.proofs.shares.Shares.add.Goals as goal
 
@@ -46,3 +44,10 @@ ids-preserved c =
           ∙ ap (λ b. cond b (capped s) (written_at q c.ids.self)) (eq_tests q id ∙ not_there (id_eq q) c.args.ids.now c.ids.id-index id c.ids-test.true c.id-item.is off)
           ∙ c.ids.invariant.others q off;
     }
+
+pub returns-then-sum-gt-MOST_RESOLVED_BYTES-clause-others : goal.returns-then-sum-gt-MOST_RESOLVED_BYTES-clause-others
+returns-then-sum-gt-MOST_RESOLVED_BYTES-clause-others c q off =
+    let id : Identifier = c.id-item.result in
+    c.in_ok-bytes.ensures.ok q
+    ∙ ap (λ b. cond b (capped (share_at c.args.set.now id)) (written_at q c.ids.self)) (eq_tests q id ∙ not_there (id_eq q) c.args.ids.now c.ids.id-index id c.ids-test.true c.id-item.is off)
+    ∙ c.ids.invariant.others q off
