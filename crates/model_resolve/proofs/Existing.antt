@@ -10,18 +10,17 @@ use Rattle.std.specs.BTreeMap.{insert_entry}
 use Rattle.std.proofs.lemmas.Cmp.{nat_list_cmp_total}
 use Rattle.std.proofs.lemmas.Option.{none-some}
 use Rattle.ordered_table.proofs.Kept.{sorted-insert}
-use Rattle.dtmi_name.specs.Grammar.{Identifier, id_cmp}
+use Rattle.dtmi_name.specs.Grammar.{Identifier}
 use Rattle.dtdl_terms.specs.Distinct.{HasDeclaration}
-use Rattle.dtdl_terms.specs.Sets.{InOrder, interface_at}
+use Rattle.dtdl_terms.specs.Sets.{InOrder}
 use Rattle.dtdl_terms.specs.declared.content.Content.{Content}
 use Rattle.dtdl_terms.specs.declared.interface.Interface.{Interface}
-use Rattle.dtdl_terms.specs.declared.resolved.NamedIn.{NamedIn}
 use Rattle.dtdl_terms.specs.declared.resolved.PartOf.{PartOf}
 use Rattle.dtdl_terms.specs.declared.resolved.Resolved.{Resolved}
 use Rattle.dtdl_terms.specs.declared.resolved.ResolvedContent.{ResolvedContent}
 use Rattle.extend_resolve.specs.Chains.{IsAncestor}
 use Rattle.extend_resolve.specs.Breaches.{BreaksNoRule}
-use Rattle.model_resolve.specs.Resolving.{Has, HasPart, ListsContents, IsResolved}
+use Rattle.model_resolve.specs.Resolving.{ListsContents, IsResolved}
 use Rattle.model_resolve.specs.Machinery.Families.{IsThere, declared_by, content_at, HasContent, IsDeclared, IsDeclaredIn, AreOne, IsPartOf, schemas_of}
 use Rattle.model_resolve.specs.Machinery.Reaching.{ancestors_in, parts_in}
 use Rattle.model_resolve.proofs.ByKey.{keyed-insert, at-insert, sorted-seen}
@@ -102,20 +101,20 @@ add_gathered id (c ∷ cs) P es one g =
     let more : (r : ResolvedContent) → Of id cs r → Of id (c ∷ cs) r = λ r h. (h.0, there c cs r.content h.1) in
     let wider : (r : ResolvedContent) → ((P r ⊎ (r ≡ item)) ⊎ Of id cs r) → P r ⊎ Of id (c ∷ cs) r =
     λ r h.
-        elim h [
-          | inl x ↦ elim x [ inl y ↦ inl y | inr e ↦ inr (subst (Of id (c ∷ cs)) (sym e) mine) ]
-          | inr x ↦ inr (more r x)
-        ] in
+    elim h [
+      | inl x ↦ elim x [ inl y ↦ inl y | inr e ↦ inr (subst (Of id (c ∷ cs)) (sym e) mine) ]
+      | inr x ↦ inr (more r x)
+    ] in
     let narrower : (r : ResolvedContent) → (P r ⊎ Of id (c ∷ cs) r) → (P r ⊎ (r ≡ item)) ⊎ Of id cs r =
     λ r h.
-        elim h [
-          | inl x ↦ inl (inl x)
-          | inr x ↦
-              elim (uncons c cs r.content x.1) [
-                | inl e ↦ inl (inr (ap (λ f. declared_by f r.content) x.0 ∙ ap (declared_by id) (sym e)))
-                | inr later ↦ inr (x.0, later)
-              ]
-        ] in
+    elim h [
+      | inl x ↦ inl (inl x)
+      | inr x ↦
+          elim (uncons c cs r.content x.1) [
+            | inl e ↦ inl (inr (ap (λ f. declared_by f r.content) x.0 ∙ ap (declared_by id) (sym e)))
+            | inr later ↦ inr (x.0, later)
+          ]
+    ] in
     let step = put_gathered P es item g (λ s h e. one s item (inl h) (inr mine) e) in
     gathered_by (λ r. (P r ⊎ (r ≡ item)) ⊎ Of id cs r) (λ r. P r ⊎ Of id (c ∷ cs) r) (add_all id cs (put item es)) (λ r. (wider r, narrower r))
     (add_gathered id cs (λ r. P r ⊎ (r ≡ item)) (put item es) (λ r s h k e. one r s (wider r h) (wider s k) e) step)
@@ -130,16 +129,16 @@ gathered [] one = record {
 gathered (a ∷ ups) one =
     let wider : (r : ResolvedContent) → (IsDeclaredIn ups r ⊎ IsDeclared a r) → IsDeclaredIn (a ∷ ups) r =
     λ r h.
-        elim h [
-          | inl x ↦ (x.0, there a ups x.0 x.1, x.2)
-          | inr x ↦ (a, here a ups, x)
-        ] in
+    elim h [
+      | inl x ↦ (x.0, there a ups x.0 x.1, x.2)
+      | inr x ↦ (a, here a ups, x)
+    ] in
     let narrower : (r : ResolvedContent) → IsDeclaredIn (a ∷ ups) r → IsDeclaredIn ups r ⊎ IsDeclared a r =
     λ r h.
-        elim (uncons a ups h.0 h.1) [
-          | inl e ↦ inr (subst (λ (x : Interface). IsDeclared x r) (sym e) h.2)
-          | inr later ↦ inl (h.0, later, h.2)
-        ] in
+    elim (uncons a ups h.0 h.1) [
+      | inl e ↦ inr (subst (λ (x : Interface). IsDeclared x r) (sym e) h.2)
+      | inr later ↦ inl (h.0, later, h.2)
+    ] in
     gathered_by (λ r. IsDeclaredIn ups r ⊎ IsDeclared a r) (IsDeclaredIn (a ∷ ups)) (add_all a.id a.contents (gather ups)) (λ r. (wider r, narrower r))
     (add_gathered a.id a.contents (IsDeclaredIn ups) (gather ups) (λ r s h k e. one r s (wider r h) (wider s k) e)
     (gathered ups (λ r s h k e. one r s (wider r (inl h)) (wider s (inl k)) e)))

@@ -6,3 +6,4 @@ pub mod OneResolved
 pub mod Reaching
 pub mod Existing
 pub mod Changes
+pub mod Holding

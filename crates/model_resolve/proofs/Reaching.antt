@@ -1,6 +1,6 @@
 -- The ancestors and the parts of an interface are those that the tests pick out of its set.
-use Rattle.std.proofs.Common.{◌≡◌, ◌↔◌, ℕ, zero, suc, ◌<◌, ◌≤◌, ◌⊎◌, inl, inr, List, [], ◌∷◌, map, Bool, true, false, cond, ◌||◌, length, Option, Some, None, refl, sym, ap, ◌∙◌, subst, true≢false, is_eq, arith}
-use Rattle.std.specs.Prelude.{Contains, bytes_eq}
+use Rattle.std.proofs.Common.{◌≡◌, ◌↔◌, ℕ, zero, suc, ◌≤◌, inl, inr, List, [], ◌∷◌, map, Bool, true, false, cond, ◌||◌, length, Option, Some, None, refl, sym, ap, ◌∙◌, subst, true≢false, is_eq, arith}
+use Rattle.std.specs.Prelude.{Contains}
 use Rattle.std.specs.List.{filter, list_any}
 use Rattle.std.specs.List.Sorted.{IsStrictlySortedBy}
 use Rattle.std.specs.Map.{lookup}
@@ -13,7 +13,7 @@ use Rattle.dtdl_terms.specs.TermViews.{kind_term}
 use Rattle.dtdl_terms.specs.declared.content.Content.{Content}
 use Rattle.dtdl_terms.specs.declared.interface.Interface.{Interface}
 use Rattle.dtdl_terms.specs.declared.resolved.ResolvedContent.{ResolvedContent}
-use Rattle.extend_resolve.specs.Chains.{IsParent, IsChain, chain_end, IsAncestor}
+use Rattle.extend_resolve.specs.Chains.{IsChain, chain_end, IsAncestor}
 use Rattle.extend_resolve.specs.Breaches.{BreaksNoRule}
 use Rattle.extend_resolve.proofs.Members.{either, contains_placed}
 use Rattle.extend_resolve.proofs.Within.{any_from_placed, placed_from_any}

@@ -1,7 +1,8 @@
 -- What an interface has with all that it inherits (DTDL v2, "Interface", the property `extends`) and with what its
 -- components consist of.
-use Rattle.std.specs.Prelude.{◌≡◌, ◌↔◌, ◌⊎◌, ℕ, List, map, Option, Some, None, Contains}
-use Rattle.std.specs.Map.{lookup}
+use Rattle.std.specs.Prelude.{◌≡◌, ◌↔◌, ◌+◌, ◌≤◌, ◌⊎◌, ℕ, List, length, map, Option, Some, None, Contains}
+use Rattle.std.specs.List.{sum_by}
+use Rattle.std.specs.Map.{lookup, values_of}
 use Rattle.std.specs.BTreeMap.{is_at}
 use Rattle.std.specs.Ordering.{nat_cmp}
 use Rattle.std.specs.Cmp.Lexicographic.{slice_cmp}
@@ -69,6 +70,16 @@ EntryOf set (Some i) (Some r) = IsResolved set i r
 -- Each entry that is held is what the interface of its identifier has in the set.
 abbrev pub HoldsRight : List Interface → List (Identifier × Resolved) → Type 0
 HoldsRight set table = (id : Identifier) (r : Resolved) → entry_at id table ≡ Some r → (i : Interface) × (interface_at id set ≡ Some i) × IsResolved set i r
+
+-- It holds at most 100,000 contents, or else what one interface has.
+abbrev pub contents_of : Resolved → ℕ
+contents_of r = length r.contents + sum_by (λ part. length part.contents) r.parts
+
+abbrev pub contents_held : List (Identifier × Resolved) → ℕ
+contents_held table = sum_by contents_of (values_of table)
+
+abbrev pub HoldsLittle : List (Identifier × Resolved) → Type 0
+HoldsLittle table = (contents_held table ≤ 100000) ⊎ (length table ≤ 1)
 
 -- ---- sets that change
 -- each interface of the smaller set stands in the larger

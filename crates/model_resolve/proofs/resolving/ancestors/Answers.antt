@@ -1,4 +1,4 @@
-use Rattle.std.proofs.Common.{ap, ◌∙◌, sym, subst, refl}
+use Rattle.std.proofs.Common.{sym, subst}
 use Rattle.dtdl_terms.specs.Sets.{InOrder}
 use Rattle.model_resolve.proofs.Assembly.{listed_as, if_ok_both}
 use Rattle.model_resolve.proofs.resolving.ancestors.Goals as goal

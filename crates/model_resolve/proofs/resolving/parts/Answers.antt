@@ -1,7 +1,6 @@
-use Rattle.std.proofs.Common.{◌≡◌, ◌+◌, ◌<◌, ◌↔◌, length, [], sym, subst, arith}
+use Rattle.std.proofs.Common.{◌↔◌, sym, subst, arith}
 use Rattle.model_resolve.specs.Machinery.Families.{IsThere, IsPartAmongFirst}
 use Rattle.dtdl_terms.specs.Sets.{InOrder}
-use Rattle.dtdl_terms.specs.declared.interface.Interface.{Interface}
 use Rattle.model_resolve.proofs.Assembly.{parts_among, among_none, among_there, all_parts, if_ok_both}
 use Rattle.model_resolve.proofs.resolving.parts.Goals as goal
 
