@@ -1,9 +1,9 @@
 -- What the walk answers, told of a value and its schema.
-use Rattle.std.proofs.Common.{◌≡◌, ℕ, ◌↔◌, List, map, reverse, Option, Some, None, refl, sym, ap, subst, ◌∙◌}
+use Rattle.std.proofs.Common.{◌≡◌, ℕ, List, map, reverse, Option, Some, sym, ap, subst, ◌∙◌}
 use Rattle.json_tree.specs.Values.{Json}
 use Rattle.dtdl_terms.specs.TermViews.{schema_term}
 use Rattle.dtdl_terms.specs.declared.schema.Schema.{Schema}
-use Rattle.twin_value.specs.Fits.{Fits, standing}
+use Rattle.twin_value.specs.Fits.{Fits}
 use Rattle.twin_value.specs.Roles.{Role, value_of}
 use Rattle.twin_value.specs.Breaches.{IsBreach, IsFirst, IsValueBreach}
 use Rattle.twin_value.specs.Machinery.Sound.{Sound}

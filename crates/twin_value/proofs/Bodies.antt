@@ -1,15 +1,15 @@
 -- What a body without breach tells.
-use Rattle.std.proofs.Common.{◌≡◌, ℕ, zero, suc, ◌<◌, ◌≤◌, ◌⊎◌, inl, inr, List, [], ◌∷◌, Bool, true, false, codes, bytes_eq, Option, Some, None, Result, Ok, Err, refl, sym, ap, subst, ◌∙◌, arith}
+use Rattle.std.proofs.Common.{◌≡◌, ℕ, suc, ◌<◌, inl, inr, List, [], ◌∷◌, Bool, true, false, codes, bytes_eq, Option, Some, None, Result, Ok, Err, refl, sym, ap, subst, ◌∙◌, arith}
 use Rattle.std.specs.Prelude.{IsSome, IsTrue, MatchResult, if◌then◌else◌}
 use Rattle.std.specs.Option.{IsSomeAnd, option_and_then}
 use Rattle.std.proofs.lemmas.Slice.Eq.{bytes_eq-Decides}
 use Rattle.json_decimal.specs.Number.{Number}
 use Rattle.json_tree.specs.Values.{Json, null, truth, number, text, array, object, Members, no_members, member}
-use Rattle.json_tree.specs.Places.{IsBefore, member_at}
+use Rattle.json_tree.specs.Places.{member_at}
 use Rattle.json_tree.specs.declared.tree.Tree.{Tree}
 use Rattle.rel_graph.specs.declared.edge.Edge.{Edge}
 use Rattle.local_rules.specs.Members.{text_in, value_at, value_in, members_in}
-use Rattle.dtmi_name.specs.Grammar.{Identifier, HasDtmiForm, OwnDtmiText, NameText, is_reserved}
+use Rattle.dtmi_name.specs.Grammar.{Identifier, OwnDtmiText}
 use Rattle.dtmi_name.specs.Faults.{RefusesDtmi}
 use Rattle.dtmi_name.specs.declared.fault.NameFault.{NameFault}
 use Rattle.dtmi_name.specs.declared.fault.NameFault.TheVariants as fault
@@ -17,10 +17,9 @@ use Rattle.dtmi_name.proofs.Exact.{dtmi_refused}
 use Rattle.dtdl_terms.specs.Terms.{ContentTerms}
 use Rattle.dtdl_terms.specs.declared.resolved.Resolved.{Resolved}
 use Rattle.dtdl_terms.specs.declared.resolved.ResolvedContent.{ResolvedContent}
-use Rattle.twin_value.specs.Codes.{code_number}
 use Rattle.twin_value.specs.Fits.{is_object}
-use Rattle.twin_value.specs.Roles.{Role, Library, member_role, twin_body, twin_metadata, model_id, link_body, target_id, link_name}
-use Rattle.twin_value.specs.Breaches.{IsBreach, IsFirst, ComesBefore, HasNoBreach, EndsBy, Lacks, IsModelId, text_under, IsLinkBreach, NamesNone, link_role_of, position_of}
+use Rattle.twin_value.specs.Roles.{Role, Library, member_role, twin_body, twin_metadata, model_id, link_body}
+use Rattle.twin_value.specs.Breaches.{IsBreach, IsFirst, ComesBefore, HasNoBreach, EndsBy, IsModelId, text_under, IsLinkBreach, NamesNone, link_role_of, position_of}
 use Rattle.twin_value.specs.Twins.{model_text, IsLinkOf}
 use Rattle.twin_value.specs.declared.code.BodyCode.{BodyCode}
 use Rattle.twin_value.specs.declared.code.BodyCode.TheVariants as code

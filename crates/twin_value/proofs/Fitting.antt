@@ -1,7 +1,7 @@
 -- Values without breach fit their schemas, and values that fit have no breach.
-use Rattle.std.proofs.Common.{◌≡◌, ℕ, zero, suc, ◌⊎◌, inl, inr, List, [], ◌∷◌, ◌++◌, map, Bool, true, false, Option, Some, None, refl, sym, ap, subst, ◌∙◌}
+use Rattle.std.proofs.Common.{◌≡◌, ℕ, zero, suc, ◌⊎◌, inl, inr, List, [], ◌∷◌, ◌++◌, true, false, Option, Some, None, refl, sym, subst, ◌∙◌}
 use Rattle.json_decimal.specs.Number.{Number}
-use Rattle.json_tree.specs.Values.{Json, null, truth, number, text, array, object, Elements, no_elements, element, Members, no_members, member, members_of}
+use Rattle.json_tree.specs.Values.{Json, null, truth, number, text, array, object, Elements, no_elements, element, Members, no_members, member}
 use Rattle.json_tree.specs.View.{view, elements_view, members_view}
 use Rattle.json_tree.specs.Places.{element_at, member_at}
 use Rattle.json_tree.specs.declared.tree.Tree.{Tree}

@@ -1,5 +1,5 @@
 -- What an object that lacks something breaks.
-use Rattle.std.proofs.Common.{◌≡◌, ℕ, ◌<◌, ◌⊎◌, inl, inr, List, Bool, true, false, codes, Option, Some, None, refl, sym, ◌∙◌, arith}
+use Rattle.std.proofs.Common.{◌≡◌, ◌<◌, ◌⊎◌, List, Bool, true, false, codes, Option, Some, None, sym, ◌∙◌, arith}
 use Rattle.json_tree.specs.Values.{Json}
 use Rattle.dtmi_name.specs.Grammar.{Identifier}
 use Rattle.dtdl_terms.specs.Terms.{ContentTerms}

@@ -11,3 +11,4 @@ pub mod Judged
 pub mod Bodies
 pub mod Linked
 pub mod OneBreach
+pub mod Outermost

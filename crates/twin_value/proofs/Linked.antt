@@ -1,5 +1,5 @@
 -- Schemas of interfaces, properties of relationships and members, by their names.
-use Rattle.std.proofs.Common.{◌≡◌, ℕ, zero, suc, ◌+◌, ◌<◌, ◌≤◌, List, [], ◌∷◌, ◌++◌, length, get_or, drop, map, Bool, true, false, Option, Some, None, refl, sym, ap, subst, ◌∙◌, arith, add-one, bytes_eq}
+use Rattle.std.proofs.Common.{◌≡◌, ℕ, zero, suc, ◌<◌, ◌≤◌, List, [], ◌∷◌, length, get_or, drop, map, Bool, true, false, Option, Some, None, refl, sym, ap, ◌∙◌, arith, bytes_eq}
 use Rattle.std.specs.Prelude.{if◌then◌else◌}
 use Rattle.std.specs.Borrow.{Bor}
 use Rattle.std.specs.List.{find}

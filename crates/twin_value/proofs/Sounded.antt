@@ -1,12 +1,12 @@
 -- What the walk tells of a value without breach, part by part.
-use Rattle.std.proofs.Common.{◌≡◌, ℕ, ◌+◌, ◌<◌, ◌≤◌, List, [], ◌∷◌, ◌++◌, length, get_or, take, Option, Some, None, Result, Ok, Err, refl, sym, ap, subst, ◌∙◌}
+use Rattle.std.proofs.Common.{◌≡◌, ℕ, ◌+◌, ◌<◌, ◌≤◌, List, length, get_or, take, Option, None, Result, Ok, Err, sym, subst}
 use Rattle.std.specs.Result.{IfOk}
 use Rattle.json_tree.specs.Values.{Json, array, object}
 use Rattle.json_tree.specs.View.{view, elements_view, members_view}
 use Rattle.json_tree.specs.declared.tree.Tree.{Tree}
 use Rattle.json_tree.specs.declared.tree.Member.{Member}
 use Rattle.twin_value.specs.Roles.{Role, element_role, member_role}
-use Rattle.twin_value.specs.Breaches.{IsBreach, IsFirst}
+use Rattle.twin_value.specs.Breaches.{IsBreach}
 use Rattle.twin_value.specs.Machinery.Walks.{Judges, FindsFirst, FindsClear}
 use Rattle.twin_value.specs.Machinery.Sound.{Sound, SoundAlone, ElementsSound, MembersSound}
 use Rattle.twin_value.specs.declared.code.BodyCode.{BodyCode}

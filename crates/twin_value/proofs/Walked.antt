@@ -4,9 +4,8 @@ use Rattle.std.proofs.lemmas.List.{reverse-append}
 use Rattle.std.proofs.lemmas.Bool.{cases_lt}
 use Rattle.json_decimal.specs.Decimals.{number_of}
 use Rattle.json_decimal.specs.declared.decimal.Decimal.{Decimal}
-use Rattle.json_tree.specs.Values.{Value, Json, null, truth, number, text, array, object}
+use Rattle.json_tree.specs.Values.{Json, null, truth, number, text, array, object}
 use Rattle.json_tree.specs.View.{view}
-use Rattle.json_tree.specs.Places.{IsBefore}
 use Rattle.json_tree.specs.declared.tree.Tree.{Tree}
 use Rattle.json_tree.specs.declared.tree.Tree as variants
 use Rattle.json_tree.proofs.Views.{view-Null, view-Bool, view-Number, view-Text}
@@ -29,7 +28,7 @@ one_part r (object ms) i s t a b p q =
     let f : (p.0, a) ≡ (q.0, b) = cc in
     (sym p.2 ∙ (ap (λ (m : List ℕ × Json). member_role r m.0) f ∙ q.2), ap (λ (m : List ℕ × Json). m.1) f)
 
-abbrev Clean : Role → Json → Type 0
+abbrev pub Clean : Role → Json → Type 0
 Clean r v = (broken : BodyCode) → Breaks broken r v → ⊥
 
 -- ---- at the value itself
@@ -40,7 +39,7 @@ here_least r v broken least [] another (inr same) b = least another same.1 b
 here_least r v broken least (i ∷ place) another (inl before) b = before
 here_least r v broken least (i ∷ place) another (inr same) b = let e : i ∷ place ≡ [] = same.0 in absurd cc
 
-first_here : (r : Role) (v : Json) (broken : BodyCode) → Judges r v (Some broken) → IsFirst (IsBreach r v) [] broken
+pub first_here : (r : Role) (v : Json) (broken : BodyCode) → Judges r v (Some broken) → IsFirst (IsBreach r v) [] broken
 first_here r v broken j = record { breach = j.0; least = here_least r v broken j.1 }
 
 pub judged_so : (r : Role) (v : Json) (up : List ℕ) (broken : BodyCode) (o : Option BodyCode) → Judges r v o → o ≡ Some broken → up ≡ [] → IsFirst (IsBreach r v) (reverse up) broken
@@ -78,11 +77,11 @@ parts_after r v w o found j none e h =
 pub clear_start : (r : Role) (v : Json) → IsClearTo r v 0
 clear_start r v = record { clear = λ position place broken less b. omega (arith, less) }
 
-reverse_more : (up : List ℕ) (i : ℕ) → reverse (up ++ i ∷ []) ≡ i ∷ reverse up
+pub reverse_more : (up : List ℕ) (i : ℕ) → reverse (up ++ i ∷ []) ≡ i ∷ reverse up
 reverse_more up i = reverse-append up (i ∷ [])
 
 -- what comes before a breach in a part stands at the value, in an earlier part, or before it in this one
-comes_before : (at : ℕ) (place : List ℕ) (broken : BodyCode) (other : List ℕ) (another : BodyCode) → ComesBefore other another (at ∷ place) broken
+pub comes_before : (at : ℕ) (place : List ℕ) (broken : BodyCode) (other : List ℕ) (another : BodyCode) → ComesBefore other another (at ∷ place) broken
     → (other ≡ []) ⊎ ((j : ℕ) × (below : List ℕ) × (other ≡ j ∷ below) × ((j < at) ⊎ ((j ≡ at) × ComesBefore below another place broken)))
 comes_before at place broken [] another c = inl refl
 comes_before at place broken (j ∷ below) another (inl (inl less)) = inr (j, below, refl, inl less)
@@ -94,7 +93,7 @@ comes_before at place broken (j ∷ below) another (inr same) =
     inr (j, below, refl, inr (one, inr (two, same.1)))
 
 -- a breach below a part stands in it
-in_part : (r : Role) (v : Json) (at : ℕ) (s : Role) (part : Json) (place : List ℕ) (broken : BodyCode) → HasPart r v at s part → IsBreach r v (at ∷ place) broken → IsBreach s part place broken
+pub in_part : (r : Role) (v : Json) (at : ℕ) (s : Role) (part : Json) (place : List ℕ) (broken : BodyCode) → HasPart r v at s part → IsBreach r v (at ∷ place) broken → IsBreach s part place broken
 in_part r v at s part place broken p b =
     let one = one_part r v at b.0 s b.1 part b.2 p in
     subst (λ (x : Json). IsBreach s x place broken) one.1 (subst (λ (q : Role). IsBreach q b.1 place broken) one.0 b.3)

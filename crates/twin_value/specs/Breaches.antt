@@ -1,5 +1,5 @@
 -- The breaches of a body, and the first of them.
-use Rattle.std.specs.Prelude.{◌≡◌, ℕ, suc, ◌<◌, ◌≤◌, ◌⊎◌, ◌||◌, ◌==◌, Bool, true, false, List, [], ◌∷◌, length, Some, None, Option, map, codes, IsTrue, bytes_eq, if◌then◌else◌}
+use Rattle.std.specs.Prelude.{◌≡◌, ℕ, suc, ◌<◌, ◌≤◌, ◌⊎◌, ◌||◌, ◌==◌, Bool, false, List, [], ◌∷◌, length, Some, None, Option, map, codes, IsTrue, bytes_eq, if◌then◌else◌}
 use Rattle.std.specs.List.{AllPass}
 use Rattle.std.specs.Option.{IsSomeAnd, option_map, option_and_then}
 use Rattle.std.specs.Char.{is_ascii_alphanumeric}
@@ -16,7 +16,7 @@ use Rattle.dtdl_terms.specs.declared.resolved.ResolvedContent.{ResolvedContent}
 use Rattle.twin_value.specs.Codes.{code_number}
 use Rattle.twin_value.specs.Named.{content_called, is_link, properties_of}
 use Rattle.twin_value.specs.Fits.{is_object, IsOf}
-use Rattle.twin_value.specs.Roles.{Library, Role, anything, undeclared, any_text, any_object, model_id, target_id, link_name, twin_metadata, twin_body, part_body, link_body, value, member_role, element_role, value_of}
+use Rattle.twin_value.specs.Roles.{Library, Role, undeclared, any_text, any_object, model_id, target_id, link_name, twin_metadata, twin_body, part_body, link_body, value, member_role, element_role, value_of}
 use Rattle.twin_value.specs.declared.code.BodyCode.{BodyCode}
 use Rattle.twin_value.specs.declared.code.BodyCode.TheVariants as code
 use Rattle.twin_value.specs.declared.end.BodyEnd.{BodyEnd}
@@ -172,6 +172,19 @@ abbrev pub IsLinkBreach : Resolved → Json → List ℕ → BodyCode → Type 0
 IsLinkBreach r v place broken =
     (NamesNone r v × (place ≡ position_of (codes "$relationshipName") (members_in v) ∷ []) × (broken ≡ code.UnknownRelationship))
     ⊎ ((NamesNone r v → ⊥) × IsBreach (link_role_of r v) v place broken)
+
+-- ---- bodies without their models
+-- What the bodies of twins and of relationships refer to where nothing is declared.
+abbrev pub no_library : Library
+no_library = record { named = []; parts = [] }
+
+-- A breach of what the body of a twin of any model has: `$metadata` with an identifier as `$model`.
+abbrev pub IsOuterBreach : Json → List ℕ → BodyCode → Type 0
+IsOuterBreach v place broken = IsBreach (twin_body no_library []) v place broken × (code_number broken ≤ 3)
+
+-- A breach of what the body of any relationship has: the id of its target, and a name.
+abbrev pub IsOuterLinkBreach : Json → List ℕ → BodyCode → Type 0
+IsOuterLinkBreach v place broken = IsBreach (link_body no_library None no_contents) v place broken × (code_number broken ≤ 3)
 
 -- ---- answers
 -- Nothing is broken.

@@ -3,3 +3,4 @@ pub mod Sound
 pub mod Views
 pub mod Walks
 pub mod Gathering
+pub mod Outer

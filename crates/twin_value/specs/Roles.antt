@@ -1,7 +1,7 @@
 -- What a value in a body is to be: every place gets a role from the role of the value around it and from its key.
 use Rattle.std.specs.Prelude.{ℕ, List, [], Option, Some, None, map, codes, bytes_eq, if◌then◌else◌}
 use Rattle.dtmi_name.specs.Grammar.{Identifier}
-use Rattle.dtdl_terms.specs.Terms.{SchemaTerm, primitive, named, array_of, enumeration, map_of, object_of, PayloadTerm, KindTerm, telemetry, property, command, relationship, component, ContentTerm, content, ContentTerms}
+use Rattle.dtdl_terms.specs.Terms.{SchemaTerm, array_of, map_of, object_of, PayloadTerm, KindTerm, property, component, ContentTerm, content, ContentTerms}
 use Rattle.dtdl_terms.specs.TermViews.{schema_term, kind_term}
 use Rattle.dtdl_terms.specs.declared.schema.Schema.{Schema}
 use Rattle.dtdl_terms.specs.declared.resolved.ResolvedContent.{ResolvedContent}

@@ -166,7 +166,7 @@ pub fn values_of(alloc: Global, from: &[Member], keys: &Keys) -> Result<Tree, Ou
 }
 
 /// A component without its `$metadata`, sorted.
-fn bare_part(alloc: Global, part: &Tree) -> Result<Tree, OutOfMemory>
+pub fn bare_part(alloc: Global, part: &Tree) -> Result<Tree, OutOfMemory>
     ensures { IfOk result (λ t. IsSortedOf (without_metadata (view part.now)) (view t)) }
 {
     let from = members_in(part);

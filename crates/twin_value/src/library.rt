@@ -7,7 +7,7 @@ ghost use Rattle.std.specs.Cmp.Lexicographic.{slice_cmp};
 ghost use Rattle.std.specs.BTreeMap.{get_by};
 ghost use Rattle.dtmi_name.specs.Grammar.{dtmi_text};
 ghost use Rattle.dtdl_terms.specs.TermViews.{schema_term};
-ghost use Rattle.twin_value.specs.Breaches.{library_of};
+ghost use Rattle.twin_value.specs.Breaches.{library_of, no_library};
 ghost use Rattle.twin_value.specs.Roles.{schemas_from, contents_in};
 ghost use Rattle.twin_value.specs.Named.{part_of};
 ghost use Rattle.twin_value.specs.Machinery.Indexes.{AreSchemas, is_there};
@@ -97,9 +97,26 @@ impl<'a> Library<'a> {
     pub fn of(alloc: Global, resolved: &'a Resolved) -> Result<Library<'a>, OutOfMemory>
         ensures { IfOk result (λ library. library ≡ library_of resolved.now) }
     {
-        let named = resolved.named.as_slice();
+        Library::from_parts(alloc, resolved.named.as_slice(), resolved.parts.as_slice())
+    }
+
+    /// The library of what refers to nothing.
+    pub fn empty(alloc: Global) -> Result<Library<'a>, OutOfMemory>
+        ensures { IfOk result (λ library. library ≡ no_library) }
+    {
+        Library::from_parts(alloc, &[], &[])
+    }
+
+    /// The library of these schemas and interfaces of components.
+    fn from_parts(
+        alloc: Global,
+        named: &'a [NamedIn],
+        parts: &'a [PartOf],
+    ) -> Result<Library<'a>, OutOfMemory>
+        ensures { IfOk result (λ library. library ≡ record { named = named.now; parts = parts.now }) }
+    {
         let schemas = schemas_of(alloc, named)?;
-        let parts = Index::of(alloc, resolved.parts.as_slice())?;
+        let parts = Index::of(alloc, parts)?;
         let none = Index::of(alloc, &[])?;
         Ok(Library {
             named,

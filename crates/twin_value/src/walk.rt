@@ -25,7 +25,7 @@ pub struct Found {
 
 impl Found {
     /// The same breach, seen from the value in which this part stands.
-    fn up(mut self, at: usize) -> Result<Found, OutOfMemory>
+    pub fn up(mut self, at: usize) -> Result<Found, OutOfMemory>
         ensures { IfOk result (λ found. (found.steps.items ≡ self.steps.items ++ at ∷ []) × (found.code ≡ self.code)) }
     {
         self.steps.push(at as u64)?;

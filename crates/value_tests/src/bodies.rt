@@ -285,3 +285,120 @@ fn relationships_are_read_and_printed(rt: HostRuntime) -> Result<(), Fail> {
     }
     Ok(())
 }
+
+/// The body of a twin, and its first breach that shows without a model; nothing where there is none.
+const OUTER_TWINS: [(&str, &str); 14] = [
+    ("[]", " WrongKind"),
+    ("{}", " MissingKey"),
+    (r#"{"zz":1,"$dtId":7}"#, " MissingKey"),
+    (r#"{"zz":1,"$metadata":{}}"#, "/1 MissingKey"),
+    (r#"{"zz":1,"$metadata":[]}"#, "/1 WrongKind"),
+    (r#"{"$metadata":{"$model":1}}"#, "/0/0 WrongKind"),
+    (r#"{"$metadata":{"$model":"dtmi:a"}}"#, "/0/0 BadId"),
+    (
+        r#"{"zz":1,"$metadata":{"$model":"dtmi:dtdl:a;1"}}"#,
+        "/1/0 BadId",
+    ),
+    (
+        r#"{"$metadata":{"$model":"dtmi:a;1"},"$dtId":7}"#,
+        "/1 WrongKind",
+    ),
+    (
+        r#"{"$dtId":7,"$metadata":{"$model":"dtmi:a"}}"#,
+        "/0 WrongKind",
+    ),
+    (r#"{"$metadata":{"$model":"dtmi:a;1"},"zz":1}"#, ""),
+    (r#"{"$metadata":{"$model":"dtmi:a;1"},"pump":1}"#, ""),
+    (
+        r#"{"pump":{"$metadata":1},"$metadata":{"$model":"dtmi:a;1"}}"#,
+        "",
+    ),
+    (
+        r#"{"$etag":[1],"count":true,"$metadata":{"$model":"dtmi:a;1","x":1}}"#,
+        "",
+    ),
+];
+
+/// The same of relationships.
+const OUTER_LINKS: [(&str, &str); 9] = [
+    ("1", " WrongKind"),
+    (r#"{"zz":1,"$targetId":7}"#, " MissingKey"),
+    (
+        r#"{"zz":1,"$targetId":"s 1","$relationshipName":7}"#,
+        "/1 BadId",
+    ),
+    (
+        r#"{"$relationshipName":7,"$targetId":"s 1"}"#,
+        "/0 WrongKind",
+    ),
+    (
+        r#"{"$targetId":"s1","$relationshipName":"feeds_"}"#,
+        "/1 BadId",
+    ),
+    (
+        r#"{"$targetId":"s1","$relationshipName":"feeds","$sourceId":1}"#,
+        "/2 WrongKind",
+    ),
+    (r#"{"$targetId":"s1","$relationshipName":"drains"}"#, ""),
+    (
+        r#"{"zz":1,"$targetId":"s1","$relationshipName":"feeds","weight":"2"}"#,
+        "",
+    ),
+    (
+        r#"{"$etag":1,"$metadata":7,"$targetId":"s1","$relationshipName":"feeds"}"#,
+        "",
+    ),
+];
+
+/// A breach as the ordinals of its place and its code; nothing where there is none.
+fn found(alloc: Global, breach: Option<(Place, BodyCode)>) -> Result<String, Fail> {
+    match breach {
+        Some((place, code)) => told(alloc, &place, code),
+        None => Ok(String::new(alloc)),
+    }
+}
+
+#[test]
+fn breaches_that_show_without_a_model(rt: HostRuntime) -> Result<(), Fail> {
+    let alloc = rt.alloc();
+    for (body, want) in OUTER_TWINS {
+        let tree = read(alloc, body.as_bytes())?;
+        let got = found(alloc, outer_twin_breach(alloc, &tree)?)?;
+        assert_eq!(rt; got.as_str(), want, "{body}");
+    }
+    for (body, want) in OUTER_LINKS {
+        let tree = read(alloc, body.as_bytes())?;
+        let got = found(alloc, outer_link_breach(alloc, &tree)?)?;
+        assert_eq!(rt; got.as_str(), want, "{body}");
+    }
+    Ok(())
+}
+
+/// The tree of the component `pump`, and its values, or the first breach.
+const PARTS: [(&str, &str); 6] = [
+    (
+        r#"{"speed":7.0,"$metadata":{"z":1},"name":"p"}"#,
+        r#"{"name":"p","speed":7}"#,
+    ),
+    ("{}", "{}"),
+    ("7", " WrongKind"),
+    (r#"{"speed":7,"$metadata":1}"#, "/1 WrongKind"),
+    (r#"{"$etag":1}"#, "/0 UnknownMember"),
+    (r#"{"name":"p","speed":true}"#, "/1 BadValue"),
+];
+
+#[test]
+fn components_are_read(rt: HostRuntime) -> Result<(), Fail> {
+    let alloc = rt.alloc();
+    let model = resolved(alloc)?;
+    for (body, want) in PARTS {
+        let tree = read(alloc, body.as_bytes())?;
+        let got = match read_part(alloc, "pump", &tree, &model) {
+            Ok(values) => shown(alloc, &values)?,
+            Err(BodyEnd::Fault { place, code }) => told(alloc, &place, code)?,
+            Err(BodyEnd::OutOfMemory) => String::new(alloc),
+        };
+        assert_eq!(rt; got.as_str(), want, "{body}");
+    }
+    Ok(())
+}

@@ -1,10 +1,10 @@
-use Rattle.std.proofs.Common.{◌≡◌, refl, subst, Option, Some, None}
+use Rattle.std.proofs.Common.{◌≡◌, subst, Option, Some, None}
 use Rattle.json_tree.specs.View.{view}
 use Rattle.twin_value.specs.Machinery.Views.{role_view}
 use Rattle.twin_value.specs.Breaches.{IsValueBreach}
 use Rattle.twin_value.specs.Machinery.Walks.{FindsFirst}
 use Rattle.twin_value.specs.declared.walk.Found.{Found}
-use Rattle.twin_value.proofs.Answered.{walked, sound_fits, breach_not, placed}
+use Rattle.twin_value.proofs.Answered.{walked, breach_not, placed}
 use Rattle.twin_value.proofs.fit.fit_value.Goals as goal
 
 pub returns-in-Some-clause-first : goal.returns-in-Some-clause-first

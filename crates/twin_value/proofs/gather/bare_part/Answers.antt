@@ -1,4 +1,4 @@
-use Rattle.std.proofs.Common.{[], ap, sym, ◌∙◌, codes, bytes_eq}
+use Rattle.std.proofs.Common.{[], sym, codes, bytes_eq}
 use Rattle.std.specs.Prelude.{not}
 use Rattle.json_tree.specs.View.{members_view}
 use Rattle.twin_value.specs.Twins.{picked, itself}

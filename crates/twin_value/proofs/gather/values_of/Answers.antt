@@ -1,4 +1,4 @@
-use Rattle.std.proofs.Common.{[], ap, ◌∙◌}
+use Rattle.std.proofs.Common.{[]}
 use Rattle.json_tree.specs.View.{members_view}
 use Rattle.twin_value.specs.Twins.{picked, itself, is_value_role}
 use Rattle.twin_value.specs.Machinery.Views.{keys_role}

@@ -1,5 +1,4 @@
-use Rattle.std.proofs.Common.{List, ℕ, Option, bytes_eq, nat_cmp}
-use Rattle.std.specs.Borrow.{Bor}
+use Rattle.std.proofs.Common.{List, ℕ, bytes_eq, nat_cmp}
 use Rattle.std.specs.Cmp.Lexicographic.{slice_cmp}
 use Rattle.std.specs.BTreeMap.{get_by}
 use Rattle.std.proofs.lemmas.Map.Text.{btree_map_updates_str}

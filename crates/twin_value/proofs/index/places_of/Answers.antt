@@ -1,4 +1,3 @@
-use Rattle.std.proofs.Common.{List, ℕ}
 use Rattle.twin_value.specs.Named.{is_called}
 use Rattle.twin_value.proofs.Indexed.{find_more}
 use Rattle.twin_value.proofs.index.places_of.Goals as goal

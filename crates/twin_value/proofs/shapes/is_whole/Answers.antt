@@ -1,4 +1,4 @@
-use Rattle.std.proofs.Common.{◌≡◌, refl, true, false}
+use Rattle.std.proofs.Common.{◌≡◌, true, false}
 use Rattle.json_decimal.specs.Decimals.{number_of}
 use Rattle.json_tree.specs.View.{view}
 use Rattle.twin_value.specs.Fits.{number_in}

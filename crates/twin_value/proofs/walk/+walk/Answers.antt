@@ -1,4 +1,4 @@
-use Rattle.std.proofs.Common.{ap, sym, ◌∙◌, refl, arith}
+use Rattle.std.proofs.Common.{ap, sym, ◌∙◌, arith}
 use Rattle.json_tree.specs.Values.{array, object}
 use Rattle.json_tree.specs.View.{view, elements_view, members_view}
 use Rattle.json_tree.proofs.Views.{view-List, view-Members}

@@ -1,0 +1,120 @@
+//! Breaches that show without a model.
+
+ghost use Rattle.std.specs.Prelude.{◌≡◌, [], None, IfOk, MatchOption};
+ghost use Rattle.json_tree.specs.Values.{object};
+ghost use Rattle.json_tree.specs.View.{view, members_view};
+ghost use Rattle.twin_value.specs.Breaches.{HasNoBreach, IsFirst, IsOuterBreach, IsOuterLinkBreach};
+ghost use Rattle.twin_value.specs.Machinery.Outer.{IsOuter, IsMild, is_undeclared, IsOutermost, FindsOuterBelow};
+ghost use Rattle.twin_value.specs.Machinery.Views.{role_view};
+ghost use Rattle.twin_value.specs.Machinery.Walks.{FindsFirst};
+
+use crate::code::BodyCode;
+use crate::fit::breach_of;
+use crate::judge::broken_by;
+use crate::keys::Keys;
+use crate::library::Library;
+use crate::role::Role;
+use crate::walk::{Found, first_in};
+use dt_base::OutOfMemory;
+use json_tree::{Member, Place, Tree};
+use local_rules::members_in;
+use std::alloc::Global;
+
+/// Whether nothing declares what stands in a role.
+fn is_undeclared(role: Role) -> bool
+    ensures { result ≡ is_undeclared (role_view role.entry) }
+{
+    match role {
+        Role::Undeclared => true,
+        Role::Anything | Role::Text | Role::Object => false,
+        Role::ModelId | Role::TargetId | Role::LinkName | Role::TwinMetadata => false,
+        Role::Twin { .. } => false,
+        Role::Part { .. } => false,
+        Role::Value { .. } => false,
+        Role::Link { .. } => false,
+    }
+}
+
+/// The first breach that shows without a model in a member of a body; none in one that nothing declares.
+fn outer_in_member(tree: &Tree, alloc: Global, role: Role) -> Result<Option<Found>, OutOfMemory>
+    requires { IsMild (role_view role) }
+    ensures { IfOk result (FindsFirst (IsOuter (role_view role.entry) (view tree.now))) }
+{
+    if is_undeclared(role) {
+        return Ok(None);
+    }
+    first_in(tree, alloc, role)
+}
+
+/// The same in all members of a body that breaks nothing itself.
+fn outer_in_members(
+    members: &[Member],
+    alloc: Global,
+    role: Role,
+) -> Result<Option<Found>, OutOfMemory>
+    requires { IsOutermost (role_view role) }
+    ensures { IfOk result (FindsOuterBelow (role_view role.entry) (object (members_view members.now))) }
+{
+    let keys = Keys::of(alloc, role)?;
+    for (at, member) in members.iter().enumerate() {
+        let part = keys.role(member.key.as_str());
+        if let Some(found) = outer_in_member(&member.value, alloc, part)? {
+            let found = found.up(at)?;
+            return Ok(Some(found));
+        }
+    }
+    Ok(None)
+}
+
+/// The same in a body.
+fn outer_in(tree: &Tree, alloc: Global, role: Role) -> Result<Option<Found>, OutOfMemory>
+    requires { IsOutermost (role_view role) }
+    ensures { IfOk result (FindsFirst (IsOuter (role_view role.entry) (view tree.now))) }
+{
+    if let Some(code) = broken_by(role, tree) {
+        return Ok(Some(Found {
+            steps: Vec::new(alloc),
+            code,
+        }));
+    }
+    outer_in_members(members_in(tree), alloc, role)
+}
+
+/// The first breach of the body of a twin that shows without a model (this project's own): `WrongKind`, `MissingKey` or
+/// `BadId` outside components, in preorder and at one place in the order of the codes; None exactly where there is none.
+/// Fails only for want of memory.
+pub fn outer_twin_breach(
+    alloc: Global,
+    tree: &Tree,
+) -> Result<Option<(Place, BodyCode)>, OutOfMemory>
+    ensures { IfOk result (λ found. MatchOption found (HasNoBreach (IsOuterBreach (view tree.now))) (λ b. IsFirst (IsOuterBreach (view tree.now)) b.0.steps b.1)) }
+{
+    let library = Library::empty(alloc)?;
+    let role = Role::Twin {
+        library: &library,
+        contents: &[],
+    };
+    match outer_in(tree, alloc, role)? {
+        Some(found) => Ok(Some(breach_of(found))),
+        None => Ok(None),
+    }
+}
+
+/// The same of the body of a relationship. Fails only for want of memory.
+pub fn outer_link_breach(
+    alloc: Global,
+    tree: &Tree,
+) -> Result<Option<(Place, BodyCode)>, OutOfMemory>
+    ensures { IfOk result (λ found. MatchOption found (HasNoBreach (IsOuterLinkBreach (view tree.now))) (λ b. IsFirst (IsOuterLinkBreach (view tree.now)) b.0.steps b.1)) }
+{
+    let library = Library::empty(alloc)?;
+    let role = Role::Link {
+        library: &library,
+        from: None,
+        properties: &[],
+    };
+    match outer_in(tree, alloc, role)? {
+        Some(found) => Ok(Some(breach_of(found))),
+        None => Ok(None),
+    }
+}
