@@ -7,7 +7,7 @@ use dt_base::List;
 use dtdl_terms::{Interface, Localized, ModelSet};
 use dtmi_name::Dtmi;
 use extend_resolve::is_a;
-use model_resolve::{ancestors, parts, resolve};
+use model_resolve::{Resolutions, ancestors, parts, resolve};
 use std::alloc::Global;
 use std::test::Fail;
 
@@ -58,5 +58,22 @@ fn finds_a_lone_interface(rt: HostRuntime) -> Result<(), Fail> {
     assert_eq!(rt; ancestors.len(), 1);
     let parts = parts(alloc, &set, ancestors.as_slice())?;
     assert!(rt; parts.is_empty());
+    Ok(())
+}
+
+#[test]
+fn holds_a_lone_interface(rt: HostRuntime) -> Result<(), Fail> {
+    let alloc = rt.alloc();
+    let id = Dtmi::read(alloc, "dtmi:a;1")?;
+    let set = lone(alloc, &id)?;
+    let mut held = Resolutions::new(alloc);
+    held.ready(&set, &id)?;
+    held.ready(&set, &id)?;
+    assert_eq!(rt;
+        held.get(&id).map(|resolved| resolved.ancestors.len()),
+        Some(1)
+    );
+    held.remove(&id);
+    assert!(rt; held.get(&id).is_none());
     Ok(())
 }
