@@ -35,12 +35,13 @@ declared_in i = map (λ c. record { from = i.id; content = c }) i.contents
 abbrev pub contents : List Interface → Interface → List ResolvedContent
 contents set i = flat_map declared_in (ancestors set i)
 
+-- What a content is a component of.
+abbrev pub components_in : KindTerm → List Identifier
+components_in (component of) = of ∷ []
+components_in other = []
+
 abbrev pub component_of : Content → List Identifier
-component_of c = named (kind_term c.kind)
-  where
-    named : KindTerm → List Identifier
-    named (component of) = of ∷ []
-    named other = []
+component_of c = components_in (kind_term c.kind)
 
 -- The interfaces of its components.
 abbrev pub parts : List Interface → Interface → List Interface

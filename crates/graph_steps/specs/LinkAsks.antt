@@ -1,5 +1,5 @@
 -- The asks on relationships.
-use Rattle.std.specs.Prelude.{◌≡◌, ℕ, ◌<◌, ◌≤◌, List, [], Bool, Option, Some, None, Result, Ok, Err, IsTrue, length, codes, not, bytes_eq, ◌&&◌}
+use Rattle.std.specs.Prelude.{◌≡◌, ℕ, ◌<◌, ◌≤◌, List, Bool, Option, Some, None, Result, Ok, Err, IsTrue, length, codes, not, bytes_eq, ◌&&◌}
 use Rattle.std.specs.List.{filter}
 use Rattle.dtmi_name.specs.Grammar.{Identifier, dtmi_text, id_eq}
 use Rattle.json_tree.specs.Values.{Json, object}
@@ -11,11 +11,7 @@ use Rattle.rel_graph.specs.Edges.{edge_at, with_edge, without_edge}
 use Rattle.twin_patch.specs.Objects.{sorted_value}
 use Rattle.twin_patch.specs.Operations.{Operation}
 use Rattle.twin_patch.specs.Patched.{patched_from}
-use Rattle.dtdl_terms.specs.Terms.{no_contents}
-use Rattle.twin_value.specs.Breaches.{IsBreach, IsLinkBreach, link_called, link_role_of}
-use Rattle.twin_value.specs.Codes.{code_number}
-use Rattle.twin_value.specs.Roles.{link_body}
-use Rattle.twin_value.specs.declared.code.BodyCode.{BodyCode}
+use Rattle.twin_value.specs.Breaches.{IsLinkBreach, link_called, link_role_of}
 use Rattle.twin_value.specs.Twins.{property_members}
 use Rattle.graph_asks.specs.Answers.{Answer, body}
 use Rattle.graph_asks.specs.declared.refusal.Refusal.{Refusal}
@@ -138,8 +134,3 @@ after_patch_rel s source id os = after (interface_from s source) (link_at source
 
 abbrev pub after_drop_rel : State → List ℕ → List ℕ → State
 after_drop_rel s source id = with_links (without_edge source id s.links) s
-
--- ---- bodies without their models
--- A breach of what the body of any relationship has: the id of its target, and a name.
-abbrev pub IsOuterLinkBreach : Json → List ℕ → BodyCode → Type 0
-IsOuterLinkBreach v place code = IsBreach (link_body (record { named = []; parts = [] }) None no_contents) v place code × (code_number code ≤ 3)

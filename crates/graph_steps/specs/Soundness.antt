@@ -20,13 +20,11 @@ use Rattle.twin_patch.specs.Reading.{IsPatch}
 use Rattle.twin_patch.specs.declared.entry.PatchOf.{PatchOf}
 use Rattle.twin_patch.specs.declared.entry.PatchOf.TheVariants as patches
 use Rattle.twin_patch.specs.declared.patch.Patch.{Patch}
-use Rattle.twin_value.specs.Breaches.{IsTwinId, HasNoBreach, text_under}
+use Rattle.twin_value.specs.Breaches.{IsTwinId, HasNoBreach, IsOuterBreach, IsOuterLinkBreach, text_under}
 use Rattle.twin_value.specs.Twins.{model_text}
 use Rattle.graph_asks.specs.declared.ask.Ask.{Ask}
 use Rattle.graph_asks.specs.declared.ask.Ask.TheVariants as asks
 use Rattle.graph_steps.specs.Typed.{IsSoundInterface}
-use Rattle.graph_steps.specs.TwinAsks.{IsOuterBreach}
-use Rattle.graph_steps.specs.LinkAsks.{IsOuterLinkBreach}
 
 -- ---- identifiers
 -- An identifier of a model: a DTMI that is not reserved, of at most 128 bytes.

@@ -82,19 +82,26 @@ with_links ls s = record { models = s.models; twins = s.twins; links = ls }
 abbrev pub part_value : Json → Json
 part_value v = sorted_value (with_metadata v)
 
-abbrev pub twin_value : Twin → Json
-twin_value t = sorted_value (object
+-- a twin and a relationship, but for the order of members
+abbrev pub twin_object : Twin → Json
+twin_object t = object
     (member (codes "$dtId") (text t.id)
     (member (codes "$metadata") (object (member (codes "$model") (text (dtmi_text t.model)) no_members))
-    (joined (members_in t.values) (picked any_key with_metadata (members_in t.parts))))))
+    (joined (members_in t.values) (picked any_key with_metadata (members_in t.parts)))))
 
-abbrev pub link_value : Link → Json
-link_value l = sorted_value (object
+abbrev pub link_object : Link → Json
+link_object l = object
     (member (codes "$relationshipId") (text l.id)
     (member (codes "$relationshipName") (text l.name)
     (member (codes "$sourceId") (text l.source)
     (member (codes "$targetId") (text l.target)
-    (members_in l.payload))))))
+    (members_in l.payload)))))
+
+abbrev pub twin_value : Twin → Json
+twin_value t = sorted_value (twin_object t)
+
+abbrev pub link_value : Link → Json
+link_value l = sorted_value (link_object l)
 
 -- The canonical text of a twin and of a relationship.
 abbrev pub twin_text : Twin → List ℕ

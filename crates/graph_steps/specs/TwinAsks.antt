@@ -1,5 +1,5 @@
 -- The asks on twins and their components.
-use Rattle.std.specs.Prelude.{◌≡◌, ℕ, ◌<◌, ◌≤◌, List, [], true, false, Option, Some, None, Result, Ok, Err, Contains, IsTrue, length, codes, bytes_eq}
+use Rattle.std.specs.Prelude.{◌≡◌, ℕ, ◌<◌, List, true, false, Option, Some, None, Result, Ok, Err, Contains, IsTrue, length, codes, bytes_eq}
 use Rattle.std.specs.List.{find}
 use Rattle.std.specs.Option.{IsSomeAnd}
 use Rattle.dtmi_name.specs.Grammar.{Identifier, dtmi_text}
@@ -12,9 +12,9 @@ use Rattle.rel_graph.specs.Edges.{key_cmp, key}
 use Rattle.twin_patch.specs.Objects.{sorted_value, with_member}
 use Rattle.twin_patch.specs.Operations.{Operation}
 use Rattle.twin_patch.specs.Patched.{patched_from}
-use Rattle.twin_value.specs.Breaches.{IsFirst, IsBreach, IsTwinBreach, twin_role_of}
-use Rattle.twin_value.specs.Codes.{code_name, code_number}
-use Rattle.twin_value.specs.Roles.{Role, twin_body, member_role}
+use Rattle.twin_value.specs.Breaches.{IsFirst, IsBreach, IsTwinBreach, IsOuterBreach, twin_role_of}
+use Rattle.twin_value.specs.Codes.{code_name}
+use Rattle.twin_value.specs.Roles.{Role, member_role}
 use Rattle.twin_value.specs.Twins.{property_members, component_members, without_metadata, model_text}
 use Rattle.twin_value.specs.declared.code.BodyCode.{BodyCode}
 use Rattle.std.specs.Ordering.{is_lt}
@@ -104,10 +104,6 @@ GivesTwin s id answer = (t : Twin) × (twin_at id s ≡ Some t) × (answer ≡ b
 -- The interface whose identifier this text is.
 abbrev pub interface_named : State → List ℕ → Option Interface
 interface_named s model = find (λ i. bytes_eq (dtmi_text i.id) model) (set_of s)
-
--- A breach of what a body of any model has: `$metadata` with an identifier as `$model`.
-abbrev pub IsOuterBreach : Json → List ℕ → BodyCode → Type 0
-IsOuterBreach v place code = IsBreach (twin_body (record { named = []; parts = [] }) []) v place code × (code_number code ≤ 3)
 
 abbrev pub interface_in : State → Json → Option Interface
 interface_in s v = model_of (model_text v)

@@ -1,12 +1,12 @@
 mod Found
 mod Edits
-mod Ordered
+pub mod Ordered
 mod Moved
 mod Overlays
 mod Merges
 mod Drafts
 mod Fronts
-mod Sorted
+pub mod Sorted
 mod Steps
 mod Tokens
 mod Entries
