@@ -16,8 +16,6 @@ pub mod Puts
 pub mod Parts
 pub mod Sets
 pub mod SetFirsts
-pub mod Gathered
-pub mod Resolvable
 pub mod Models
 pub mod ModelDrops
 pub mod ModelPuts

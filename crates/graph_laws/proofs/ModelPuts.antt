@@ -2,7 +2,7 @@
 use Rattle.std.proofs.Common.{◌≡◌, ℕ, zero, suc, ◌<◌, ◌⊎◌, inl, inr, List, [], ◌∷◌, map, length, Bool, true, false, cond, ◌||◌, bytes_eq, Option, Some, None, refl, sym, ap, ◌∙◌, subst, true≢false, Less, is_eq, arith}
 use Rattle.std.specs.Prelude.{Contains, IsTrue, IsSome}
 use Rattle.std.specs.Option.{option_map, is_some}
-use Rattle.std.specs.List.{AllByRecursion}
+use Rattle.std.specs.List.{AllByRecursion, sum_by}
 use Rattle.std.specs.Ordering.{nat_cmp, is_lt, ordering_reverse}
 use Rattle.std.specs.Cmp.Lexicographic.{slice_cmp}
 use Rattle.std.proofs.lemmas.Cmp.{nat_list_cmp_total}
@@ -29,7 +29,9 @@ use Rattle.graph_asks.specs.declared.refusal.Refusal.TheVariants as refusals
 use Rattle.model_life.specs.Models.{Model, interfaces_of, model_at}
 use Rattle.model_life.specs.Refusals.{AreNew, IsFirstThere}
 use Rattle.model_life.specs.Sums.{model_bytes, AllTake, AreWithinLimits}
+use Rattle.model_life.specs.Machinery.Keeping.{share_of}
 use Rattle.model_life.proofs.Refused.{interfaces_with}
+use Rattle.model_life.proofs.Taking.{all_take}
 use Rattle.graph_steps.specs.States.{State, Twin, Link, set_of, interface_of, twin_at, is_live, is_end}
 use Rattle.graph_steps.specs.Typed.{IsSoundInterface, AreSound, FitsModel, SuitsTarget, FitsSource, HasEnds, TwinIsTyped, LinkIsTyped, WellTyped}
 use Rattle.graph_steps.specs.ModelAsks.{after_uploads, ModelExists, ModelFault, ModelsFull, TwinDoesNotFit, RefusesPutModels}
@@ -40,7 +42,6 @@ use Rattle.graph_laws.proofs.Twins.{twin_there}
 use Rattle.graph_laws.proofs.SetFirsts.{sound_set}
 use Rattle.graph_laws.proofs.Stable.{less_of, twin_stable, link_stable}
 use Rattle.graph_laws.proofs.Sets.{inherited_same, contents_same, is_a_same}
-use Rattle.graph_laws.proofs.Resolvable.{all_take}
 use Rattle.graph_laws.proofs.Models.{fits_by, source_by, suits_by}
 
 -- ---- models that are new
@@ -117,9 +118,10 @@ module _ (s : State) (us : List Uploaded) (w : WellTyped s) (each : AllByRecursi
   }
 
   sized : (n : ℕ) × AllTake (set_of (after_uploads s us)) n
-  sized =
-      all_take (set_of (after_uploads s us)) sound_now.ordered sound_now.rules
-      (all_map IsSoundInterface HasDeclaration (set_of (after_uploads s us)) (λ i h. h.declaration) sound_now.each)
+  sized = (
+    sum_by (share_of (set_of (after_uploads s us))) (set_of (after_uploads s us)),
+    all_take (set_of (after_uploads s us)) sound_now.rules (all_map IsSoundInterface HasDeclaration (set_of (after_uploads s us)) (λ i h. h.declaration) sound_now.each) sound_now.ordered,
+  )
 
   limits_now : AreWithinLimits (after_uploads s us).models
   limits_now =

@@ -15,7 +15,7 @@ use Rattle.model_resolve.proofs.ByKey.{in_contained, in_found, at-spelling}
 use Rattle.twin_patch.specs.Objects.{sorted_value, sorted_members, with_member}
 use Rattle.twin_patch.specs.Operations.{Operation}
 use Rattle.twin_patch.specs.Patched.{patched_from}
-use Rattle.twin_value.specs.Breaches.{HasNoBreach, IsBreach, IsTwinBreach, twin_role_of, library_of}
+use Rattle.twin_value.specs.Breaches.{HasNoBreach, IsBreach, IsOuterBreach, IsTwinBreach, twin_role_of, library_of}
 use Rattle.twin_value.specs.Codes.{code_name}
 use Rattle.twin_value.specs.Roles.{Role, member_role}
 use Rattle.twin_value.specs.Twins.{picked, itself, without_metadata, is_value_role, is_part_role, model_text}
@@ -26,7 +26,7 @@ use Rattle.graph_steps.specs.Inherited.{inherited}
 use Rattle.graph_steps.specs.Refusals.{when}
 use Rattle.graph_steps.specs.States.{State, Twin, Link, set_of, interface_of, twin_at, is_end, twin_value, twin_text, graph_bytes, with_twin}
 use Rattle.graph_steps.specs.Typed.{AllKeys, FitsModel, TwinIsTyped, HasEnds, LinkIsTyped, WellTyped}
-use Rattle.graph_steps.specs.TwinAsks.{TwinNotFound, Frozen, Decommissioned, BodyFault, DoesNotFit, TwinFull, twin_for, with_body, RefusesBody, RefusesPutTwin, after_put_twin, interface_named, interface_in, IsOuterBreach, RefusesNewBody, RefusesPatched, RefusesPatchTwin, with_patched, after_patch_twin}
+use Rattle.graph_steps.specs.TwinAsks.{TwinNotFound, Frozen, Decommissioned, BodyFault, DoesNotFit, TwinFull, twin_for, with_body, RefusesBody, RefusesPutTwin, after_put_twin, interface_named, interface_in, RefusesNewBody, RefusesPatched, RefusesPatchTwin, with_patched, after_patch_twin}
 use Rattle.graph_laws.proofs.Unrefused.{not_first, not_second, not_when, some_there}
 use Rattle.graph_laws.proofs.Lists.{all_at, all_from, found_passes}
 use Rattle.graph_laws.proofs.Keyed.{all-with}
