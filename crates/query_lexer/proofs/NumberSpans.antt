@@ -52,7 +52,7 @@ exponent_are : (o : Option Exponent) → IfSome o IsExponent → AreNumberBytes 
 exponent_are None h = tt
 exponent_are (Some x) h = (mark_is x.mark h.mark, joined (sign_bytes x.sign) x.digits (sign_are x.sign) (digit_bytes x.digits h.digits.digits))
 
-literal_are : (l : Literal) → IsLiteral l → AreNumberBytes (spelling l)
+pub literal_are : (l : Literal) → IsLiteral l → AreNumberBytes (spelling l)
 literal_are l is =
     joined (minus_bytes l.negative) _ (minus_are l.negative)
     (joined l.integer _ (digit_bytes l.integer is.integer.digits)

@@ -6,6 +6,7 @@ mod conditions;
 mod ending;
 mod selecting;
 mod sourcing;
+mod stage;
 mod stepping;
 mod testing;
 mod tests_of_tokens;

@@ -2,6 +2,8 @@
 
 ghost use Rattle.std.specs.Prelude.{◌≡◌, IfOk};
 ghost use Rattle.query_grammar.specs.Machinery.Steps.{step};
+ghost use Rattle.query_steps.specs.Machinery.Stages.{stage};
+ghost use Rattle.query_steps.specs.declared.stage.Stage.TheVariants as stages;
 
 use crate::conditions::{behind, behind_close, behind_factor, factor, field, operand, path};
 use crate::selecting::{
@@ -11,6 +13,7 @@ use crate::sourcing::{
     behind_relationships, behind_twins, join_alias, join_name, join_source, join_target,
     relationships_alias, source, twins_alias,
 };
+use crate::stage::{Stage, stage_of};
 use crate::testing::{behind_list_item, behind_model, exact, list_item, model_start, model_text};
 use crate::tests_of_tokens::{is_mark, is_word, when};
 use dt_base::{List, OutOfMemory};
@@ -19,13 +22,15 @@ use query_terms::{Cond, Projection};
 use query_tokens::{Mark, Token, Word};
 use std::alloc::Global;
 
-/// The state behind one token more; none where no query begins with the tokens up to it.
-pub fn step(
+/// The state behind one token more of what is selected, up to the first item.
+#[inline(never)]
+fn in_selection(
     alloc: Global,
     state: State,
     at: u32,
     token: Token,
 ) -> Result<Option<State>, OutOfMemory>
+    requires { stage state ≡ stages.Selecting }
     ensures { IfOk result (λ s. s ≡ step state at token) }
 {
     match state {
@@ -43,6 +48,22 @@ pub fn step(
         State::BehindSelect(notes, select) => {
             Ok(when(is_word(Word::From, &token), State::Source(notes, select)))
         }
+        _ => unreachable!(),
+    }
+}
+
+/// The state behind one token more of the items.
+#[inline(never)]
+fn in_items(
+    alloc: Global,
+    state: State,
+    at: u32,
+    token: Token,
+) -> Result<Option<State>, OutOfMemory>
+    requires { stage state ≡ stages.Items }
+    ensures { IfOk result (λ s. s ≡ step state at token) }
+{
+    match state {
         State::ItemStart(notes, top, items) => item_start(alloc, notes, top, items, at, token),
         State::ItemPath(notes, top, items, path, last) => {
             item_path(alloc, notes, top, items, path, last, token)
@@ -54,6 +75,22 @@ pub fn step(
             alloc, notes, top, items, path, at, token,
         ),
         State::BehindItem(notes, top, items) => Ok(behind_item(notes, top, items, token)),
+        _ => unreachable!(),
+    }
+}
+
+/// The state behind one token more of where rows come from.
+#[inline(never)]
+fn in_source(
+    alloc: Global,
+    state: State,
+    at: u32,
+    token: Token,
+) -> Result<Option<State>, OutOfMemory>
+    requires { stage state ≡ stages.Sourcing }
+    ensures { IfOk result (λ s. s ≡ step state at token) }
+{
+    match state {
         State::Source(notes, select) => Ok(source(notes, select, token)),
         State::RelationshipsAlias(notes, select) => {
             relationships_alias(alloc, notes, select, at, token)
@@ -63,6 +100,22 @@ pub fn step(
         }
         State::TwinsAlias(notes, select) => twins_alias(alloc, notes, select, at, token),
         State::BehindTwins(notes, head) => Ok(behind_twins(alloc, notes, head, token)),
+        _ => unreachable!(),
+    }
+}
+
+/// The state behind one token more of the joins.
+#[inline(never)]
+fn in_joins(
+    alloc: Global,
+    state: State,
+    at: u32,
+    token: Token,
+) -> Result<Option<State>, OutOfMemory>
+    requires { stage state ≡ stages.Joining }
+    ensures { IfOk result (λ s. s ≡ step state at token) }
+{
+    match state {
         State::JoinTarget(notes, head) => join_target(alloc, notes, head, at, token),
         State::JoinRelated(notes, head, target) => {
             Ok(when(
@@ -85,18 +138,61 @@ pub fn step(
         State::JoinAlias(notes, head, target, source, name) => {
             join_alias(alloc, notes, head, target, source, name, at, token)
         }
+        _ => unreachable!(),
+    }
+}
+
+/// The state behind one token more of a path in a condition.
+#[inline(never)]
+fn in_path(alloc: Global, state: State, at: u32, token: Token) -> Result<Option<State>, OutOfMemory>
+    requires { stage state ≡ stages.Paths }
+    ensures { IfOk result (λ s. s ≡ step state at token) }
+{
+    match state {
+        State::Path(notes, around, goal, names) => path(alloc, notes, around, goal, names, token),
+        State::Field(notes, around, goal, names) => field(notes, around, goal, names, token),
+        _ => unreachable!(),
+    }
+}
+
+/// The state behind one token more of an operand, or of what stands before and behind operands.
+#[inline(never)]
+fn in_operands(
+    alloc: Global,
+    state: State,
+    at: u32,
+    token: Token,
+) -> Result<Option<State>, OutOfMemory>
+    requires { stage state ≡ stages.Operands }
+    ensures { IfOk result (λ s. s ≡ step state at token) }
+{
+    match state {
         State::Factor(notes, around) => factor(alloc, notes, around, at, token),
+        State::Operand(notes, around, goal) => operand(alloc, notes, around, goal, at, token),
+        State::Behind(notes, around, goal, operand) => {
+            behind(alloc, notes, around, goal, operand, token)
+        }
+        _ => unreachable!(),
+    }
+}
+
+/// The state behind one token more of a list, or behind a function's name or a factor.
+#[inline(never)]
+fn in_lists(
+    alloc: Global,
+    state: State,
+    at: u32,
+    token: Token,
+) -> Result<Option<State>, OutOfMemory>
+    requires { stage state ≡ stages.Lists }
+    ensures { IfOk result (λ s. s ≡ step state at token) }
+{
+    match state {
         State::FunctionOpen(notes, around, goal) => {
             Ok(when(
                 is_mark(Mark::Open, &token),
                 State::Operand(notes, around, goal),
             ))
-        }
-        State::Operand(notes, around, goal) => operand(alloc, notes, around, goal, at, token),
-        State::Path(notes, around, goal, names) => path(alloc, notes, around, goal, names, token),
-        State::Field(notes, around, goal, names) => field(notes, around, goal, names, token),
-        State::Behind(notes, around, goal, operand) => {
-            behind(alloc, notes, around, goal, operand, token)
         }
         State::ListOpen(notes, around, operand, within) => {
             let next = State::ListItem(notes, around, operand, within, List::new(alloc));
@@ -108,6 +204,25 @@ pub fn step(
         State::BehindListItem(notes, around, operand, within, literals) => {
             behind_list_item(alloc, notes, around, operand, within, literals, token)
         }
+        State::BehindFactor(notes, head, before, built, chains, room) => {
+            behind_factor(alloc, notes, head, before, built, chains, room, token)
+        }
+        _ => unreachable!(),
+    }
+}
+
+/// The state behind one token more of a test for a model.
+#[inline(never)]
+fn in_model_test(
+    alloc: Global,
+    state: State,
+    at: u32,
+    token: Token,
+) -> Result<Option<State>, OutOfMemory>
+    requires { stage state ≡ stages.Model }
+    ensures { IfOk result (λ s. s ≡ step state at token) }
+{
+    match state {
         State::ModelOpen(notes, around, spot) => {
             Ok(when(
                 is_mark(Mark::Open, &token),
@@ -136,8 +251,27 @@ pub fn step(
             };
             behind_close(alloc, notes, around, Built { cond }, token)
         }
-        State::BehindFactor(notes, head, before, built, chains, room) => {
-            behind_factor(alloc, notes, head, before, built, chains, room, token)
-        }
+        _ => unreachable!(),
+    }
+}
+
+/// The state behind one token more; none where no query begins with the tokens up to it.
+pub fn step(
+    alloc: Global,
+    state: State,
+    at: u32,
+    token: Token,
+) -> Result<Option<State>, OutOfMemory>
+    ensures { IfOk result (λ s. s ≡ step state at token) }
+{
+    match stage_of(&state) {
+        Stage::Selecting => in_selection(alloc, state, at, token),
+        Stage::Items => in_items(alloc, state, at, token),
+        Stage::Sourcing => in_source(alloc, state, at, token),
+        Stage::Joining => in_joins(alloc, state, at, token),
+        Stage::Paths => in_path(alloc, state, at, token),
+        Stage::Operands => in_operands(alloc, state, at, token),
+        Stage::Lists => in_lists(alloc, state, at, token),
+        Stage::Model => in_model_test(alloc, state, at, token),
     }
 }

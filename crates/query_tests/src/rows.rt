@@ -279,7 +279,7 @@ const ALIASES: [(&str, &str); 15] = [
 ];
 
 /// What stands before a piece, the piece, how often it stands, what stands behind it, and the answer.
-const LENGTHS: [(&str, &str, u32, &str, &str); 16] = [
+const LENGTHS: [(&str, &str, u32, &str, &str); 20] = [
     ("SELECT * FROM DIGITALTWINS", " ", 8166, "", "query"),
     ("SELECT * FROM DIGITALTWINS", " ", 8167, "", "TooLong"),
     ("", "!", 8192, "", "Byte 0"),
@@ -353,6 +353,34 @@ const LENGTHS: [(&str, &str, u32, &str, &str); 16] = [
         38,
         "",
         "query",
+    ),
+    (
+        "SELECT * FROM DIGITALTWINS WHERE x = 1e9",
+        "0",
+        2,
+        "",
+        "query",
+    ),
+    (
+        "SELECT * FROM DIGITALTWINS WHERE x = 1e9",
+        "0",
+        1,
+        "1",
+        "Byte 41",
+    ),
+    (
+        "SELECT * FROM DIGITALTWINS WHERE x = 1e-9",
+        "0",
+        2,
+        "",
+        "query",
+    ),
+    (
+        "SELECT * FROM DIGITALTWINS WHERE x = 1e-9",
+        "0",
+        1,
+        "1",
+        "Byte 42",
     ),
     (
         "SELECT * FROM DIGITALTWINS WHERE a=1",

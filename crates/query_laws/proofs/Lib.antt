@@ -1,0 +1,16 @@
+pub mod Forms
+pub mod Names
+pub mod Given
+pub mod GivenOperands
+pub mod GivenConditions
+pub mod GivenQueries
+pub mod Standing
+pub mod Fronts
+pub mod Tokens
+pub mod OperandForms
+pub mod TestForms
+pub mod Levels
+pub mod PrintedQueries
+pub mod SameNames
+pub mod ReadsBack
+pub mod Again
