@@ -49,7 +49,7 @@ fn applied(alloc: Global, tree: &Tree, patch: &Patch) -> Result<String, Fail>
 }
 
 /// The examples of RFC 6902, appendix A. Lists are no targets here.
-const EXAMPLES: [(&str, &str, &str); 11] = [
+const EXAMPLES: [(&str, &str, &str); 15] = [
     // RFC 6902, appendix A: A.1, A.3, A.5, A.10, A.11, A.12
     (
         r#"{"foo":"bar"}"#,
@@ -81,7 +81,7 @@ const EXAMPLES: [(&str, &str, &str); 11] = [
         r#"[{"op":"add","path":"/baz/bat","value":"qux"}]"#,
         "NoTarget 0",
     ),
-    // A.2, A.4, A.16: lists are no targets here; A.6, A.8, A.13: other operations
+    // A.2, A.4, A.16: lists are no targets here; A.6 to A.9, A.14 and A.15: other operations
     (
         r#"{"foo":["bar","baz"]}"#,
         r#"[{"op":"add","path":"/foo/1","value":"qux"}]"#,
@@ -103,8 +103,28 @@ const EXAMPLES: [(&str, &str, &str); 11] = [
         "BadOp 0",
     ),
     (
+        r#"{"foo":["all","grass","cows","eat"]}"#,
+        r#"[{"op":"move","from":"/foo/1","path":"/foo/3"}]"#,
+        "BadOp 0",
+    ),
+    (
+        r#"{"baz":"qux","foo":["a",2,"c"]}"#,
+        r#"[{"op":"test","path":"/baz","value":"qux"},{"op":"test","path":"/foo/1","value":2}]"#,
+        "BadOp 0",
+    ),
+    (
         r#"{"baz":"qux"}"#,
         r#"[{"op":"test","path":"/baz","value":"bar"}]"#,
+        "BadOp 0",
+    ),
+    (
+        r#"{"/":9,"~1":10}"#,
+        r#"[{"op":"test","path":"/~01","value":10}]"#,
+        "BadOp 0",
+    ),
+    (
+        r#"{"/":9,"~1":10}"#,
+        r#"[{"op":"test","path":"/~01","value":"10"}]"#,
         "BadOp 0",
     ),
 ];
@@ -203,8 +223,65 @@ const VECTORS: [(&str, &str, &str); 18] = [
     ),
 ];
 
+/// Further ones, and paths of escaped and of empty keys.
+const FURTHER: [(&str, &str, &str); 13] = [
+    (r#"{"foo":1}"#, "[]", r#"{"foo":1}"#),
+    (r#"{"foo":1,"bar":2}"#, "[]", r#"{"bar":2,"foo":1}"#),
+    (
+        r#"{"foo":1}"#,
+        r#"[{"op":"add","path":"/bar","value":true}]"#,
+        r#"{"bar":true,"foo":1}"#,
+    ),
+    (
+        r#"{"foo":1}"#,
+        r#"[{"op":"add","path":"/bar","value":false}]"#,
+        r#"{"bar":false,"foo":1}"#,
+    ),
+    (
+        r#"{"foo":1,"baz":[{"qux":"hello"}]}"#,
+        r#"[{"op":"replace","path":"/foo","value":[1,2,3,4]}]"#,
+        r#"{"baz":[{"qux":"hello"}],"foo":[1,2,3,4]}"#,
+    ),
+    (
+        r#"{"foo":1,"baz":[{"qux":"hello"}]}"#,
+        r#"[{"op":"remove","path":"/baz/0/qux"}]"#,
+        "NoTarget 0",
+    ),
+    (
+        r#"{"q":{"bar":2}}"#,
+        r#"[{"op":"add","path":"/a/b","value":1}]"#,
+        "NoTarget 0",
+    ),
+    (r#"{}"#, r#"[{"op":"add","value":"bar"}]"#, "BadPath 0"),
+    (
+        r#"{}"#,
+        r#"[{"op":"add","path":null,"value":"bar"}]"#,
+        "BadPath 0",
+    ),
+    (
+        r#"{}"#,
+        r#"[{"op":"replace","path":"/0"}]"#,
+        "MissingValue 0",
+    ),
+    (
+        r#"{"/":9,"~1":10}"#,
+        r#"[{"op":"replace","path":"/~01","value":11},{"op":"remove","path":"/~1"}]"#,
+        r#"{"~1":11}"#,
+    ),
+    (
+        r#"{"":{"":1},"a":1}"#,
+        r#"[{"op":"remove","path":"//"}]"#,
+        r#"{"":{},"a":1}"#,
+    ),
+    (
+        r#"{"b":{"c":1},"a":1}"#,
+        r#"[{"op":"replace","path":"/b","value":1},{"op":"add","path":"/b/c","value":1}]"#,
+        "NoTarget 1",
+    ),
+];
+
 /// Patches, what they are for, and the least fault.
-const FAULTS: [(&str, PatchOf, &str); 11] = [
+const FAULTS: [(&str, PatchOf, &str); 15] = [
     ("{}", PatchOf::Twin, "NotAList 0"),
     ("[1]", PatchOf::Rel, "NotAnObject 0"),
     (
@@ -244,10 +321,27 @@ const FAULTS: [(&str, PatchOf, &str); 11] = [
         PatchOf::Twin,
         "Protected 1",
     ),
+    // In the order of the codes at one index, and by the index before that.
+    (
+        r#"[{"op":"add","path":"/$a/~2"}]"#,
+        PatchOf::Rel,
+        "BadPath 0",
+    ),
+    (r#"[{"op":"copy","path":5}]"#, PatchOf::Model, "BadOp 0"),
+    (
+        r#"[{"op":"remove","path":"/$a"},{"op":"copy"}]"#,
+        PatchOf::Part,
+        "Protected 0",
+    ),
+    (
+        r#"[{"op":"remove","path":"/$metadata"}]"#,
+        PatchOf::Model,
+        "Protected 0",
+    ),
 ];
 
 /// The same for protected members and marks, and patches that are applied.
-const OUTCOMES: [(&str, PatchOf, &str); 12] = [
+const OUTCOMES: [(&str, PatchOf, &str); 14] = [
     (
         r#"[{"op":"remove","path":"/$metadata/$model"}]"#,
         PatchOf::Twin,
@@ -267,6 +361,16 @@ const OUTCOMES: [(&str, PatchOf, &str); 12] = [
         r#"[{"op":"replace","path":"/$metadata/$model","value":1}]"#,
         PatchOf::Twin,
         "NoTarget 0",
+    ),
+    (
+        r#"[{"op":"replace","path":"/$metadata/$model","value":1}]"#,
+        PatchOf::Part,
+        "Protected 0",
+    ),
+    (
+        r#"[{"op":"add","path":"/b/$metadata","value":{}}]"#,
+        PatchOf::Twin,
+        r#"{"a":{"~/":0},"b":{"$metadata":{},"c":2,"d":1}}"#,
     ),
     ("[]", PatchOf::Model, "NotAMark 0"),
     (
@@ -328,7 +432,8 @@ fn judges(rt: &impl Abort, alloc: Global, rows: &[(&str, PatchOf, &str)]) -> Res
 #[test]
 fn applies_as_the_public_vectors_say(rt: HostRuntime) -> Result<(), Fail> {
     applies(&rt, rt.alloc(), &EXAMPLES)?;
-    applies(&rt, rt.alloc(), &VECTORS)
+    applies(&rt, rt.alloc(), &VECTORS)?;
+    applies(&rt, rt.alloc(), &FURTHER)
 }
 
 #[test]
