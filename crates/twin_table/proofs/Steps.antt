@@ -1,0 +1,222 @@
+-- The fields of the twins after one was put in, put over another, handed back or taken out.
+use Rattle.std.proofs.Common.{◌≡◌, ℕ, ◌+◌, ◌-◌, List, Bool, true, false, true≢false, ◌&&◌, cond, Option, Some, None, length, unwrap_or, refl, sym, ap, ◌∙◌, subst, is_eq, arith, ⊎_elim}
+use Rattle.std.specs.Option.{option_map}
+use Rattle.std.specs.List.Sorted.{IsStrictlySortedBy}
+use Rattle.std.specs.Map.{remove_entry, keys_of, values_of}
+use Rattle.std.specs.BTreeMap.{is_at, insert_entry}
+use Rattle.std.proofs.lemmas.Bool.{cases_Bool}
+use Rattle.std.proofs.lemmas.Cmp.{tied_itself, eq_by_cmp_equiv}
+use Rattle.std.proofs.lemmas.Map.Lookups.{exact_bytes}
+use Rattle.dtmi_name.specs.Grammar.{Identifier, id_cmp}
+use Rattle.ordered_table.proofs.Flat.{C, c_total}
+use Rattle.ordered_table.proofs.Ordered.{unlike, lookup-insert}
+use Rattle.ordered_table.proofs.Kept.{sorted-insert, sorted-remove, lookup-removed}
+use Rattle.twin_table.specs.declared.held.Held.{Held}
+use Rattle.twin_table.specs.Held.{id_of, keyed, is_of, total_bytes}
+use Rattle.twin_table.specs.Machinery.Rows.{Rows, has_id}
+use Rattle.twin_table.specs.Machinery.Keeping.{under, is_there_of, IsKept}
+use Rattle.twin_table.proofs.Rows.{models_total}
+use Rattle.twin_table.proofs.Keyed.{insert-keyed, remove-keyed}
+use Rattle.twin_table.proofs.Kept.{own_id, total-inserted, total-removed}
+
+tied : (id : List ℕ) → is_eq (C id id) ≡ true
+tied id = ap is_eq (tied_itself c_total id)
+
+-- ---- the index at an id, and at others
+and_true : (b : Bool) → (b && true) ≡ b
+and_true true = refl
+and_true false = refl
+
+and_false : (b : Bool) → (b && false) ≡ false
+and_false true = refl
+and_false false = refl
+
+module _ (rows rows' : Rows) (model : Identifier) (id : List ℕ) (b : Bool) (changed : (m : Identifier) (q : List ℕ) → has_id m q rows' ≡ cond (is_eq (id_cmp m model) && is_eq (C q id)) b (has_id m q rows)) where
+  pub has_here : (m : Identifier) → has_id m id rows' ≡ cond (is_eq (id_cmp m model)) b (has_id m id rows)
+  has_here m = changed m id ∙ ap (λ t. cond (is_eq (id_cmp m model) && t) b (has_id m id rows)) (tied id) ∙ ap (λ t. cond t b (has_id m id rows)) (and_true (is_eq (id_cmp m model)))
+
+  pub has_else : (m : Identifier) (q : List ℕ) → is_eq (C q id) ≡ false → has_id m q rows' ≡ has_id m q rows
+  has_else m q h = changed m q ∙ ap (λ t. cond (is_eq (id_cmp m model) && t) b (has_id m q rows)) h ∙ ap (λ t. cond t b (has_id m q rows)) (and_false (is_eq (id_cmp m model)))
+
+-- entries and rows that changed at one id
+module _ (entries entries' : List (List ℕ × Held)) (rows rows' : Rows) (id : List ℕ) (now : Option Held)
+    (moved : (q : List ℕ) → under entries' q ≡ cond (is_eq (C q id)) now (under entries q))
+    (here : (m : Identifier) → has_id m id rows' ≡ is_there_of m now)
+    (else_where : (m : Identifier) (q : List ℕ) → is_eq (C q id) ≡ false → has_id m q rows' ≡ has_id m q rows)
+    (indexed : (m : Identifier) (q : List ℕ) → has_id m q rows ≡ is_there_of m (under entries q)) where
+  pub indexed-step : (m : Identifier) (q : List ℕ) → has_id m q rows' ≡ is_there_of m (under entries' q)
+  indexed-step m q =
+      ⊎_elim
+      (λ t. ap (λ k. has_id m k rows') (exact_bytes q id (unlike (C q id) t)) ∙ here m ∙ ap (is_there_of m) (sym (moved q ∙ ap (λ b. cond b now (under entries q)) t)))
+      (λ t. else_where m q t ∙ indexed m q ∙ ap (is_there_of m) (sym (moved q ∙ ap (λ b. cond b now (under entries q)) t)))
+      (cases_Bool (is_eq (C q id)))
+
+-- ---- models that tie
+of_same : (m a b : Identifier) → is_eq (id_cmp a b) ≡ true → is_eq (id_cmp m a) ≡ is_eq (id_cmp m b)
+of_same m a b h =
+    (eq_by_cmp_equiv models_total).symm m a ∙ ap is_eq (models_total.congr a b m (unlike (id_cmp a b) h)) ∙ (eq_by_cmp_equiv models_total).symm b m
+
+only_new : (n o : Bool) → (n ≡ true → o ≡ true → ⊥) → cond o false (cond n true o) ≡ n
+only_new true true h = absurd (h refl refl)
+only_new true false h = refl
+only_new false true h = refl
+only_new false false h = refl
+
+or_same : (n o : Bool) → n ≡ o → cond n true o ≡ n
+or_same true o h = refl
+or_same false o h = sym h
+
+not_both : (m a b : Identifier) → is_eq (id_cmp a b) ≡ false → is_eq (id_cmp m a) ≡ true → is_eq (id_cmp m b) ≡ true → ⊥
+not_both m a b h p q =
+    true≢false (sym q ∙ (ap is_eq (models_total.congr m a b (unlike (id_cmp m a) p))) ∙ h)
+
+gone : (n : Bool) → cond n false (cond n true false) ≡ false
+gone true = refl
+gone false = refl
+
+left : (n : Bool) → cond n false n ≡ false
+left true = refl
+left false = refl
+
+or_false : (n : Bool) → cond n true false ≡ n
+or_false true = refl
+or_false false = refl
+
+module _ (entries : List (List ℕ × Held)) (rows : Rows) (len bytes : ℕ) (kept : IsKept entries rows len bytes) where
+  -- the same twins, and an index that says the same
+  pub kept-same : (rows' : Rows) → ((m : Identifier) (q : List ℕ) → has_id m q rows' ≡ has_id m q rows) → IsKept entries rows' len bytes
+  kept-same rows' h = record {
+    sorted = kept.sorted;
+    own = kept.own;
+    indexed = λ m q. h m q ∙ kept.indexed m q;
+    counted = kept.counted;
+    summed = kept.summed;
+  }
+
+  -- ---- with a twin that is entered
+  module _ (h : Held) (rows1 : Rows) (entered : (m : Identifier) (q : List ℕ) → has_id m q rows1 ≡ cond (is_eq (id_cmp m h.twin.model) && is_eq (C q (id_of h))) true (has_id m q rows)) where
+    entered_here : (m : Identifier) (o : Option Held) → under entries (id_of h) ≡ o → has_id m (id_of h) rows1 ≡ cond (is_of m h) true (is_there_of m o)
+    entered_here m o e = has_here rows rows1 h.twin.model (id_of h) true entered m ∙ ap (cond (is_of m h) true) (kept.indexed m (id_of h) ∙ ap (is_there_of m) e)
+
+    entered_else : (m : Identifier) (q : List ℕ) → is_eq (C q (id_of h)) ≡ false → has_id m q rows1 ≡ has_id m q rows
+    entered_else = has_else rows rows1 h.twin.model (id_of h) true entered
+
+    -- and leaves again
+    pub kept-back : (rows2 : Rows) → ((m : Identifier) (q : List ℕ) → has_id m q rows2 ≡ cond (is_eq (id_cmp m h.twin.model) && is_eq (C q (id_of h))) false (has_id m q rows1))
+        → under entries (id_of h) ≡ None → IsKept entries rows2 len bytes
+    kept-back rows2 leaves absent = kept-same rows2 (λ m q.
+        ⊎_elim
+        (λ t. let same : q ≡ id_of h = exact_bytes q (id_of h) (unlike (C q (id_of h)) t) in
+        ap (λ k. has_id m k rows2) same
+        ∙ has_here rows1 rows2 h.twin.model (id_of h) false leaves m
+        ∙ ap (cond (is_of m h) false) (entered_here m None absent)
+        ∙ gone (is_of m h)
+        ∙ sym (kept.indexed m (id_of h) ∙ ap (is_there_of m) absent)
+        ∙ ap (λ k. has_id m k rows) (sym same))
+        (λ t. has_else rows1 rows2 h.twin.model (id_of h) false leaves m q t ∙ entered_else m q t)
+        (cases_Bool (is_eq (C q (id_of h)))))
+
+    module _ (entries' : List (List ℕ × Held)) (put : entries' ≡ insert_entry C entries (id_of h) h) where
+      moved1 : (q : List ℕ) → under entries' q ≡ cond (is_eq (C q (id_of h))) (Some h) (under entries q)
+      moved1 q = ap (λ es. under es q) put ∙ lookup-insert c_total q (id_of h) h entries
+
+      own1 : entries' ≡ keyed (values_of entries')
+      own1 = put ∙ ap (λ es. insert_entry C es (id_of h) h) kept.own ∙ insert-keyed id_of h (values_of entries)
+          ∙ ap (λ es. keyed (values_of (insert_entry C es (id_of h) h))) (sym kept.own) ∙ ap (λ es. keyed (values_of es)) (sym put)
+
+      -- where none had its id
+      pub kept-new : under entries (id_of h) ≡ None → length entries' ≡ len + 1 → IsKept entries' rows1 (len + 1) (bytes + h.bytes)
+      kept-new absent longer = record {
+        sorted = subst (λ es. IsStrictlySortedBy C (keys_of es)) (sym put) (sorted-insert c_total (id_of h) h entries kept.sorted);
+        own = own1;
+        indexed = indexed-step entries entries' rows rows1 (id_of h) (Some h) moved1 (λ m. entered_here m None absent ∙ or_false (is_of m h)) entered_else kept.indexed;
+        counted = sym longer;
+        summed =
+            let a = total-inserted entries (id_of h) h kept.sorted in
+            let b : unwrap_or (option_map (λ (x : Held). x.bytes) (under entries (id_of h))) 0 ≡ 0 = ap (λ o. unwrap_or (option_map (λ (x : Held). x.bytes) o) 0) absent in
+            let d : total_bytes (values_of entries') ≡ total_bytes (values_of (insert_entry C entries (id_of h) h)) = ap (λ es. total_bytes (values_of es)) put in
+            let e = kept.summed in
+            omega arith;
+      }
+
+      -- where another had it, of the same model, or of another that it has left
+      module _ (old : Held) (there : under entries (id_of h) ≡ Some old) (as_long : length entries' ≡ len) where
+        summed1 : bytes + h.bytes - old.bytes ≡ total_bytes (values_of entries')
+        summed1 =
+            let a = total-inserted entries (id_of h) h kept.sorted in
+            let b : unwrap_or (option_map (λ (x : Held). x.bytes) (under entries (id_of h))) 0 ≡ old.bytes = ap (λ o. unwrap_or (option_map (λ (x : Held). x.bytes) o) 0) there in
+            let d : total_bytes (values_of entries') ≡ total_bytes (values_of (insert_entry C entries (id_of h) h)) = ap (λ es. total_bytes (values_of es)) put in
+            let e = kept.summed in
+            omega arith
+
+        over : (rows2 : Rows) → ((m : Identifier) → has_id m (id_of h) rows2 ≡ is_of m h) → ((m : Identifier) (q : List ℕ) → is_eq (C q (id_of h)) ≡ false → has_id m q rows2 ≡ has_id m q rows)
+            → IsKept entries' rows2 len (bytes + h.bytes - old.bytes)
+        over rows2 here else_where = record {
+          sorted = subst (λ es. IsStrictlySortedBy C (keys_of es)) (sym put) (sorted-insert c_total (id_of h) h entries kept.sorted);
+          own = own1;
+          indexed = indexed-step entries entries' rows rows2 (id_of h) (Some h) moved1 here else_where kept.indexed;
+          counted = sym as_long;
+          summed = summed1;
+        }
+
+        pub kept-stays : is_of h.twin.model old ≡ true → IsKept entries' rows1 len (bytes + h.bytes - old.bytes)
+        kept-stays same = over rows1 (λ m. entered_here m (Some old) there ∙ or_same (is_of m h) (is_of m old) (of_same m h.twin.model old.twin.model same)) entered_else
+
+        pub kept-moves : is_of h.twin.model old ≡ false → (rows2 : Rows) → ((m : Identifier) (q : List ℕ) → has_id m q rows2 ≡ cond (is_eq (id_cmp m old.twin.model) && is_eq (C q (id_of old))) false (has_id m q rows1))
+            → IsKept entries' rows2 len (bytes + h.bytes - old.bytes)
+        kept-moves other rows2 leaves =
+            let own_old : id_of old ≡ id_of h = own_id entries kept.own (id_of h) old there in
+            let leaves_h : (m : Identifier) (q : List ℕ) → has_id m q rows2 ≡ cond (is_eq (id_cmp m old.twin.model) && is_eq (C q (id_of h))) false (has_id m q rows1) =
+            λ m q. leaves m q ∙ ap (λ k. cond (is_eq (id_cmp m old.twin.model) && is_eq (C q k)) false (has_id m q rows1)) own_old in
+            over rows2
+            (λ m. has_here rows1 rows2 old.twin.model (id_of h) false leaves_h m ∙ ap (cond (is_of m old) false) (entered_here m (Some old) there) ∙ only_new (is_of m h) (is_of m old) (not_both m h.twin.model old.twin.model other))
+            (λ m q t. has_else rows1 rows2 old.twin.model (id_of h) false leaves_h m q t ∙ entered_else m q t)
+
+  -- ---- without a twin
+  module _ (id : List ℕ) (entries' : List (List ℕ × Held)) (taken : entries' ≡ remove_entry (is_at (C id)) entries) where
+    sorted2 : IsStrictlySortedBy C (keys_of entries')
+    sorted2 = subst (λ es. IsStrictlySortedBy C (keys_of es)) (sym taken) (sorted-remove c_total (is_at (C id)) entries kept.sorted)
+
+    own2 : entries' ≡ keyed (values_of entries')
+    own2 = taken ∙ ap (remove_entry (is_at (C id))) kept.own ∙ remove-keyed id_of (is_at (C id)) (values_of entries)
+        ∙ ap (λ es. keyed (values_of (remove_entry (is_at (C id)) es))) (sym kept.own) ∙ ap (λ es. keyed (values_of es)) (sym taken)
+
+    moved2 : (q : List ℕ) → under entries' q ≡ cond (is_eq (C q id)) None (under entries q)
+    moved2 q = ap (λ es. under es q) taken ∙ lookup-removed c_total q id entries kept.sorted
+
+    -- there was none
+    pub kept-none : under entries id ≡ None → length entries' ≡ len → IsKept entries' rows len bytes
+    kept-none absent as_long = record {
+      sorted = sorted2;
+      own = own2;
+      indexed = indexed-step entries entries' rows rows id None moved2 (λ m. kept.indexed m id ∙ ap (is_there_of m) absent) (λ m q t. refl) kept.indexed;
+      counted = sym as_long;
+      summed =
+          let a = total-removed entries id in
+          let b : unwrap_or (option_map (λ (x : Held). x.bytes) (under entries id)) 0 ≡ 0 = ap (λ o. unwrap_or (option_map (λ (x : Held). x.bytes) o) 0) absent in
+          let d : total_bytes (values_of entries') ≡ total_bytes (values_of (remove_entry (is_at (C id)) entries)) = ap (λ es. total_bytes (values_of es)) taken in
+          let e = kept.summed in
+          omega arith;
+    }
+
+    pub kept-out : (old : Held) → under entries id ≡ Some old → length entries' + 1 ≡ len → (rows2 : Rows)
+        → ((m : Identifier) (q : List ℕ) → has_id m q rows2 ≡ cond (is_eq (id_cmp m old.twin.model) && is_eq (C q (id_of old))) false (has_id m q rows))
+        → IsKept entries' rows2 (len - 1) (bytes - old.bytes)
+    kept-out old there shorter rows2 leaves =
+        let own_old : id_of old ≡ id = own_id entries kept.own id old there in
+        let leaves_id : (m : Identifier) (q : List ℕ) → has_id m q rows2 ≡ cond (is_eq (id_cmp m old.twin.model) && is_eq (C q id)) false (has_id m q rows) =
+        λ m q. leaves m q ∙ ap (λ k. cond (is_eq (id_cmp m old.twin.model) && is_eq (C q k)) false (has_id m q rows)) own_old in
+        record {
+          sorted = sorted2;
+          own = own2;
+          indexed = indexed-step entries entries' rows rows2 id None moved2
+              (λ m. has_here rows rows2 old.twin.model id false leaves_id m ∙ ap (cond (is_of m old) false) (kept.indexed m id ∙ ap (is_there_of m) there) ∙ left (is_of m old))
+              (has_else rows rows2 old.twin.model id false leaves_id) kept.indexed;
+          counted = omega arith;
+          summed =
+              let a = total-removed entries id in
+              let b : unwrap_or (option_map (λ (x : Held). x.bytes) (under entries id)) 0 ≡ old.bytes = ap (λ o. unwrap_or (option_map (λ (x : Held). x.bytes) o) 0) there in
+              let d : total_bytes (values_of entries') ≡ total_bytes (values_of (remove_entry (is_at (C id)) entries)) = ap (λ es. total_bytes (values_of es)) taken in
+              let e = kept.summed in
+              omega arith;
+        }

@@ -1,0 +1,59 @@
+-- Twins as a list in the order of the bytes of their ids, each with a size.
+use Rattle.std.specs.Prelude.{ℕ, List, Bool, true, Option, Some, None, map, slice_get, bytes_eq}
+use Rattle.std.specs.Option.{option_map}
+use Rattle.std.specs.Ordering.{nat_cmp, is_eq, is_lt}
+use Rattle.std.specs.Cmp.Lexicographic.{slice_cmp}
+use Rattle.std.specs.List.{filter, find, sum_by}
+use Rattle.std.specs.List.Sorted.{IsStrictlySortedBy}
+use Rattle.std.specs.Map.{remove_entry, values_of}
+use Rattle.std.specs.BTreeMap.{is_at, insert_entry}
+use Rattle.dtmi_name.specs.Grammar.{Identifier, id_cmp}
+use Rattle.twin_value.specs.declared.twin.Twin.{Twin}
+use Rattle.twin_table.specs.declared.held.Held.{Held}
+
+abbrev pub id_of : Held → List ℕ
+id_of h = h.twin.id
+
+-- each under its id
+abbrev pub keyed : List Held → List (List ℕ × Held)
+keyed hs = map (λ h. (id_of h, h)) hs
+
+-- the ids ascend, so that no two are equal
+abbrev pub InOrder : List Held → Type 0
+InOrder hs = IsStrictlySortedBy (slice_cmp nat_cmp) (map id_of hs)
+
+-- the one with this id
+abbrev pub held_at : List ℕ → List Held → Option Held
+held_at id hs = find (λ h. bytes_eq (id_of h) id) hs
+
+abbrev pub twin_at : List ℕ → List Held → Option Twin
+twin_at id hs = option_map (λ h. h.twin) (held_at id hs)
+
+-- the id is past this one; past none each is
+abbrev pub is_past : Option (List ℕ) → Held → Bool
+is_past None h = true
+is_past (Some id) h = is_lt (slice_cmp nat_cmp id (id_of h))
+
+-- the first twin past an id, or the first of all
+abbrev pub next_past : Option (List ℕ) → List Held → Option Twin
+next_past id hs = option_map (λ h. h.twin) (slice_get (filter (is_past id) hs) 0)
+
+-- with one at its place, or in the place of the one with its id
+abbrev pub with_held : Held → List Held → List Held
+with_held h hs = values_of (insert_entry (slice_cmp nat_cmp) (keyed hs) (id_of h) h)
+
+-- without the one with this id
+abbrev pub without_held : List ℕ → List Held → List Held
+without_held id hs = values_of (remove_entry (is_at (slice_cmp nat_cmp id)) (keyed hs))
+
+-- the twin is of this model
+abbrev pub is_of : Identifier → Held → Bool
+is_of model h = is_eq (id_cmp model h.twin.model)
+
+-- the twins of a model
+abbrev pub of_model : Identifier → List Held → List Twin
+of_model model hs = map (λ h. h.twin) (filter (is_of model) hs)
+
+-- the sum of the sizes
+abbrev pub total_bytes : List Held → ℕ
+total_bytes hs = sum_by (λ h. h.bytes) hs

@@ -1,0 +1,3 @@
+-- Words of private clauses and of proofs: no public contract speaks of them.
+pub mod Rows
+pub mod Keeping

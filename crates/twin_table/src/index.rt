@@ -1,0 +1,144 @@
+//! The ids of the twins under their models.
+
+ghost use Rattle.std.specs.Prelude.{◌≡◌, ℕ, List, [], ◌&&◌, true, false, Some, cond, unwrap_or, OnErr, OnOk};
+ghost use Rattle.std.specs.Ordering.{nat_cmp, is_eq};
+ghost use Rattle.std.specs.Cmp.Lexicographic.{slice_cmp};
+ghost use Rattle.std.specs.List.Sorted.{IsStrictlySortedBy};
+ghost use Rattle.std.specs.Map.{keys_of, lookup, remove_entry};
+ghost use Rattle.std.specs.BTreeMap.{get, is_at, IsOrdered};
+ghost use Rattle.dtmi_name.specs.Grammar.{Identifier, id_cmp};
+ghost use Rattle.twin_table.specs.Machinery.Rows.{ids_of, has_id};
+
+use crate::ids::Ids;
+use dt_base::{OutOfMemory, Text};
+use dtmi_name::Dtmi;
+use std::alloc::Global;
+use std::collections::BTreeMap;
+use std::collections::btree_map::Range;
+use std::marker::Model;
+
+/// Under each model the ids of its twins, which contracts see as a list of rows in the order of the models.
+#[derive(Drop)]
+pub struct Index {
+    alloc: Global,
+    rows: BTreeMap<Dtmi, Ids>,
+}
+
+impl Model for Index {
+    ghost use Rattle.std.specs.Prelude.{List, ℕ};
+    ghost use Rattle.dtmi_name.specs.Grammar.{Identifier};
+
+    ghost Value = { List (Identifier × List (List ℕ × Unit {0})) };
+
+    ghost use Rattle.std.specs.BTreeMap.{IsOrdered};
+    ghost use Rattle.dtmi_name.specs.Grammar.{id_cmp};
+
+    ghost view = { λ i. i.rows.entries };
+
+    ghost invariant = { λ i. IsOrdered id_cmp i.rows };
+}
+
+/// Whether there is a row of a model, and it has no ids.
+fn is_hollow(rows: &BTreeMap<Dtmi, Ids>, model: &Dtmi) -> bool
+    ensures { result ≡ true → get id_cmp rows.now model.now ≡ Some [] }
+{
+    match rows.get(model) {
+        Some(row) => row.is_empty(),
+        None => false,
+    }
+}
+
+/// Takes out the row of a model.
+fn give_up(rows: &mut BTreeMap<Dtmi, Ids>, model: &Dtmi)
+    ensures entries { rows.new.entries ≡ remove_entry (is_at (id_cmp model.now)) rows.old.entries }
+    ensures ordered { IsOrdered id_cmp rows.new }
+{
+    let _row = rows.remove(model);
+}
+
+impl Index {
+    /// No rows. Takes no memory.
+    pub fn new(alloc: Global) -> Index
+        ensures { result ≡ [] }
+    {
+        Index {
+            alloc,
+            rows: BTreeMap::new(alloc),
+        }
+    }
+
+    /// The ids under a model, in their order; `None` is as no ids. Takes no memory.
+    pub fn row(&self, model: &Dtmi) -> Option<Range<'_, Text, ()>>
+        ensures ids { unwrap_or result [] ≡ ids_of model.now self.now }
+        ensures ordered { IsStrictlySortedBy (slice_cmp nat_cmp) (keys_of (ids_of model.now self.now)) }
+    {
+        match self.rows.get(model) {
+            Some(row) => Some(row.entries()),
+            None => None,
+        }
+    }
+
+    /// Makes a row without ids where there is none of a model.
+    fn open(&mut self, model: &Dtmi) -> Result<(), OutOfMemory>
+        ensures { (m : Identifier) → ids_of m self.new ≡ ids_of m self.old }
+    {
+        if self.rows.contains_key(model) {
+            return Ok(());
+        }
+        let key = model.copy(self.alloc)?;
+        self.rows.insert(key, Ids::new(self.alloc))?;
+        Ok(())
+    }
+
+    /// Gives up the row of a model where it has no ids. Takes no memory.
+    fn close(&mut self, model: &Dtmi)
+        ensures { (m : Identifier) → ids_of m self.new ≡ ids_of m self.old }
+    {
+        if is_hollow(&self.rows, model) {
+            give_up(&mut self.rows, model);
+        }
+    }
+
+    /// Puts an id into the row of a model, which fails too where there is none.
+    fn put(&mut self, model: &Dtmi, id: Text) -> Result<(), OutOfMemory>
+        ensures ok { OnOk result ((m : Identifier) (q : List ℕ) → has_id m q self.new ≡ cond (is_eq (id_cmp m model.now) && is_eq (slice_cmp nat_cmp q id)) true (has_id m q self.old)) }
+        ensures err { OnErr result ((m : Identifier) → ids_of m self.new ≡ ids_of m self.old) }
+    {
+        let Some(row) = self.rows.get_mut(model) else {
+            return Err(OutOfMemory);
+        };
+        row.insert(id)
+    }
+
+    /// Takes an id out of the row of a model. Takes no memory.
+    fn take(&mut self, model: &Dtmi, id: &Text)
+        ensures { (m : Identifier) (q : List ℕ) → has_id m q self.new ≡ cond (is_eq (id_cmp m model.now) && is_eq (slice_cmp nat_cmp q id.now)) false (has_id m q self.old) }
+    {
+        let Some(row) = self.rows.get_mut(model) else {
+            return;
+        };
+        row.remove(id);
+    }
+
+    /// Puts an id under a model. `Err` is want of memory: under no model an id comes or goes.
+    pub fn enter(&mut self, model: &Dtmi, id: &Text) -> Result<(), OutOfMemory>
+        ensures ok { OnOk result ((m : Identifier) (q : List ℕ) → has_id m q self.new ≡ cond (is_eq (id_cmp m model.now) && is_eq (slice_cmp nat_cmp q id.now)) true (has_id m q self.old)) }
+        ensures err { OnErr result ((m : Identifier) (q : List ℕ) → has_id m q self.new ≡ has_id m q self.old) }
+    {
+        let copy = id.copy(self.alloc)?;
+        self.open(model)?;
+        let end = self.put(model, copy);
+        if end.is_err() {
+            self.close(model);
+        }
+        end
+    }
+
+    /// Takes an id from under a model. Takes no memory.
+    pub fn leave(&mut self, model: &Dtmi, id: &Text)
+        ensures { (m : Identifier) (q : List ℕ) → has_id m q self.new ≡ cond (is_eq (id_cmp m model.now) && is_eq (slice_cmp nat_cmp q id.now)) false (has_id m q self.old) }
+    {
+        self.take(model, id);
+        self.close(model);
+    }
+}

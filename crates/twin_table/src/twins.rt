@@ -1,0 +1,203 @@
+//! The twins of a graph.
+
+ghost use Rattle.std.specs.Prelude.{◌≡◌, [], length, slice_get, IfOk, IfErr, OnErr, OnOk};
+ghost use Rattle.std.specs.Option.{option_copied, option_map};
+ghost use Rattle.std.specs.Map.{values_of};
+ghost use Rattle.twin_table.specs.Held.{InOrder, held_at, twin_at, next_past, with_held, without_held, of_model, total_bytes};
+ghost use Rattle.twin_table.specs.Machinery.Keeping.{under, is_there_of};
+
+use crate::held::{Held, PutEnd};
+use crate::index::Index;
+use crate::listing::OfModel;
+use dt_base::Text;
+use dtmi_name::Dtmi;
+use std::alloc::Global;
+use std::collections::BTreeMap;
+use std::collections::btree_map::Range;
+use std::marker::Model;
+use std::ops::Bound;
+use twin_value::Twin;
+
+/// Twins, each with a size that is given with it, which contracts see as a list in the order of the bytes of their ids,
+/// no two with one id.
+#[derive(Drop)]
+pub struct Twins {
+    alloc: Global,
+    len: u64,
+    bytes: u64,
+    twins: BTreeMap<Text, Held>,
+    index: Index,
+}
+
+impl Model for Twins {
+    ghost use Rattle.std.specs.Prelude.{List};
+    ghost use Rattle.std.specs.Coded.{coded_list};
+    ghost use Rattle.twin_table.specs.contracts.held.Held as held;
+    ghost use Rattle.twin_table.specs.declared.held.Held.{Held};
+
+    ghost Value = { List Held };
+
+    ghost coded = { coded_list held.the_row.coded };
+
+    ghost use Rattle.std.specs.Map.{values_of};
+    ghost use Rattle.twin_table.specs.Machinery.Keeping.{IsKept};
+
+    ghost view = { λ t. values_of t.twins.entries };
+
+    ghost invariant = { λ t. IsKept t.twins.entries t.index t.len t.bytes };
+}
+
+impl Twins {
+    /// No twins. Takes no memory.
+    pub fn new(alloc: Global) -> Twins
+        ensures { result ≡ [] }
+    {
+        Twins {
+            alloc,
+            len: 0,
+            bytes: 0,
+            twins: BTreeMap::new(alloc),
+            index: Index::new(alloc),
+        }
+    }
+
+    /// How many twins there are. Takes no memory.
+    pub fn len(&self) -> u64
+        ensures len { result ≡ length self.now }
+        ensures ordered { InOrder self.now }
+    {
+        self.len
+    }
+
+    /// The sum of the sizes, which is below 2⁶⁴ since `put` lets none pass it. Takes no memory.
+    pub fn bytes(&self) -> u64
+        ensures { result ≡ total_bytes self.now }
+    {
+        self.bytes
+    }
+
+    /// The twin with an id. Takes no memory.
+    pub fn get(&self, id: &Text) -> Option<&Twin>
+        ensures { option_copied result ≡ twin_at id.now self.now }
+    {
+        match self.twins.get(id) {
+            Some(held) => Some(&held.twin),
+            None => None,
+        }
+    }
+
+    /// The size that was given with the twin with an id. Takes no memory.
+    pub fn bytes_of(&self, id: &Text) -> Option<u64>
+        ensures { result ≡ option_map (λ h. h.bytes) (held_at id.now self.now) }
+    {
+        match self.twins.get(id) {
+            Some(held) => Some(held.bytes),
+            None => None,
+        }
+    }
+
+    /// The twin with the least id past a given one, or with the least of all; `None` exactly where there is none. Takes no
+    /// memory.
+    pub fn after(&self, id: Option<&Text>) -> Option<&Twin>
+        ensures { option_copied result ≡ next_past (option_copied id.entry) self.now }
+    {
+        match id {
+            Some(id) => first_of(self.twins.range((Bound::Excluded(id), Bound::Unbounded))),
+            None => first_of(self.twins.range(..)),
+        }
+    }
+
+    /// The twins of a model, in the order of their ids. Takes no memory.
+    pub fn of_model(&self, model: &Dtmi) -> OfModel<'_>
+        ensures { result ≡ of_model model.now self.now }
+    {
+        OfModel {
+            twins: &self.twins,
+            ids: self.index.row(model),
+        }
+    }
+
+    /// Puts a twin with its size at its place, and gives the one with its id that was there.
+    ///
+    /// `Err` is want of memory, or that the number of the twins or the sum of the sizes, with that of the one whose place
+    /// would be taken, would pass 64 bits: it hands the twin back, and nothing changes.
+    pub fn put(&mut self, twin: Twin, bytes: u64) -> Result<Option<Twin>, PutEnd>
+        ensures old { IfOk result (λ old. old ≡ twin_at twin.id self.old) }
+        ensures ok { OnOk result (self.new ≡ with_held (record { twin = twin; bytes = bytes }) self.old) }
+        ensures back { IfErr result (λ end. end.back ≡ twin) }
+        ensures err { OnErr result (self.new ≡ self.old) }
+    {
+        if self.len == u64::MAX {
+            return Err(PutEnd { back: twin });
+        }
+        if bytes > u64::MAX - self.bytes {
+            return Err(PutEnd { back: twin });
+        }
+        let Ok(id) = twin.id.copy(self.alloc) else {
+            return Err(PutEnd { back: twin });
+        };
+        let stays = is_of(&self.twins, &twin);
+        let Ok(()) = self.index.enter(&twin.model, &twin.id) else {
+            return Err(PutEnd { back: twin });
+        };
+        match self.twins.insert(id, Held { twin, bytes }) {
+            Ok(None) => {
+                self.len += 1;
+                self.bytes += bytes;
+                Ok(None)
+            }
+            Ok(Some(old)) => {
+                let Held {
+                    twin: old,
+                    bytes: less,
+                } = old;
+                self.bytes = (self.bytes + bytes).saturating_sub(less);
+                if stays {
+                    return Ok(Some(old));
+                }
+                self.index.leave(&old.model, &old.id);
+                Ok(Some(old))
+            }
+            Err(failed) => {
+                let (_id, held) = failed.value;
+                self.index.leave(&held.twin.model, &held.twin.id);
+                Err(PutEnd { back: held.twin })
+            }
+        }
+    }
+
+    /// Takes out the twin with an id, and gives it. Takes no memory.
+    pub fn remove(&mut self, id: &Text) -> Option<Twin>
+        ensures value { result ≡ twin_at id.now self.old }
+        ensures twins { self.new ≡ without_held id.now self.old }
+    {
+        let Some(held) = self.twins.remove(id) else {
+            return None;
+        };
+        let Held { twin, bytes } = held;
+        self.index.leave(&twin.model, &twin.id);
+        self.len = self.len.saturating_sub(1);
+        self.bytes = self.bytes.saturating_sub(bytes);
+        Some(twin)
+    }
+}
+
+/// Whether there is a twin with the id and the model of this one.
+fn is_of(twins: &BTreeMap<Text, Held>, twin: &Twin) -> bool
+    ensures { result ≡ is_there_of twin.now.model (under twins.now.entries twin.now.id) }
+{
+    match twins.get(&twin.id) {
+        Some(held) => twin.model == held.twin.model,
+        None => false,
+    }
+}
+
+/// The first twin that is left.
+fn first_of<'a>(mut rest: Range<'a, Text, Held>) -> Option<&'a Twin>
+    ensures { option_copied result ≡ option_map (λ h. h.twin) (slice_get (values_of rest.entry) 0) }
+{
+    match rest.next() {
+        Some((_, held)) => Some(&held.twin),
+        None => None,
+    }
+}
