@@ -2,8 +2,7 @@
 use Rattle.std.proofs.Common.{◌≡◌, ◌↔◌, ℕ, ◌⊎◌, inl, inr, List, [], ◌∷◌, codes, Bool, true, false, bytes_eq, map, Option, Some, None, refl, sym, ap, subst, ◌∙◌}
 use Rattle.std.specs.Prelude.{if◌then◌else◌}
 use Rattle.std.specs.Option.{IsSomeAnd, option_and_then}
-use Rattle.json_decimal.specs.Number.{Number}
-use Rattle.json_tree.specs.Values.{Json, null, truth, number, text, array, object, Members}
+use Rattle.json_tree.specs.Values.{Json, null, truth, number, text, array, object}
 use Rattle.local_rules.specs.Members.{members_in}
 use Rattle.dtmi_name.specs.Grammar.{Identifier, NameText}
 use Rattle.dtdl_terms.specs.Terms.{SchemaTerm, KindTerm, telemetry, property, command, relationship, component, ContentTerm, ContentTerms}
@@ -15,10 +14,10 @@ use Rattle.dtdl_terms.specs.declared.resolved.ResolvedContent.{ResolvedContent}
 use Rattle.extend_resolve.specs.Breaches.{BreaksNoRule}
 use Rattle.model_resolve.specs.Resolving.{IsResolved}
 use Rattle.model_resolve.specs.Machinery.Families.{IsThere}
-use Rattle.twin_value.specs.Named.{content_called, property_called, named_of, part_of}
-use Rattle.twin_value.specs.Roles.{Library, Role, anything, undeclared, any_text, any_object, twin_metadata, target_id, link_name, twin_body, part_body, link_body, value_of, member_role, element_role, schemas_in, schemas_from, contents_in, declared_role, twin_declared_role, twin_content_role, part_content_role, link_property_role, twin_role, part_role, link_role, kind_of}
-use Rattle.twin_value.specs.Breaches.{Breaks, HasPart, IsBreach, IsTwinBreach, IsLinkBreach, NamesNone, as_link, link_called, link_of, link_source, link_properties, body_role, library_of, twin_role_of, link_role_of, text_under, position_of}
-use Rattle.twin_value.specs.Twins.{picked, itself, without_metadata, is_value_role, is_part_role, property_members, component_members}
+use Rattle.twin_value.specs.Named.{content_called, property_called, part_of}
+use Rattle.twin_value.specs.Roles.{Library, Role, anything, any_text, any_object, twin_metadata, target_id, link_name, twin_body, part_body, link_body, value_of, member_role, element_role, schemas_in, schemas_from, contents_in, declared_role, twin_declared_role, twin_content_role, part_content_role, link_property_role, twin_role, part_role, link_role, kind_of}
+use Rattle.twin_value.specs.Breaches.{Breaks, HasPart, IsBreach, IsTwinBreach, IsLinkBreach, NamesNone, as_link, link_called, link_of, link_source, link_properties, body_role, library_of, twin_role_of, link_role_of, text_under}
+use Rattle.twin_value.specs.Twins.{itself, without_metadata, is_value_role, is_part_role, property_members, component_members}
 use Rattle.twin_value.specs.declared.code.BodyCode.{BodyCode}
 use Rattle.twin_value.specs.declared.code.BodyCode.TheVariants as code
 use Rattle.twin_value.proofs.Gathered.{picked_same}

@@ -1,17 +1,17 @@
 -- Breaches stand somewhere, and the refusals that name them.
-use Rattle.std.proofs.Common.{◌≡◌, ◌↔◌, ℕ, zero, suc, ◌⊎◌, inl, inr, List, [], ◌∷◌, codes, Bool, true, false, bytes_eq, Option, Some, None, Result, Ok, Err, refl, sym, ap, subst, ◌∙◌}
+use Rattle.std.proofs.Common.{◌≡◌, ◌↔◌, ℕ, suc, inl, inr, List, [], ◌∷◌, codes, Bool, true, false, bytes_eq, Option, Some, None, Result, Ok, Err, refl, sym, ap, subst}
 use Rattle.std.specs.Prelude.{if◌then◌else◌, MatchOption, IfSome}
 use Rattle.std.specs.Result.{IfOk}
 use Rattle.std.specs.Option.{IsSomeAnd, option_and_then}
 use Rattle.json_decimal.specs.Number.{Number}
 use Rattle.json_tree.specs.Values.{Json, null, truth, number, text, array, object, Members, no_members, member}
-use Rattle.json_tree.specs.Places.{IsPart, StandsAt, member_at}
+use Rattle.json_tree.specs.Places.{IsPart, member_at}
 use Rattle.json_tree.specs.declared.places.Place.{Place}
 use Rattle.local_rules.specs.Members.{members_in, value_at, text_in}
 use Rattle.dtmi_name.specs.Grammar.{NameText}
 use Rattle.dtdl_terms.specs.declared.resolved.Resolved.{Resolved}
 use Rattle.twin_value.specs.Roles.{Role}
-use Rattle.twin_value.specs.Breaches.{HasPart, IsBreach, IsLinkBreach, NamesNone, link_called, link_role_of, IsFirst, EndsBy, HasNoBreach, position_of, text_under}
+use Rattle.twin_value.specs.Breaches.{HasPart, IsBreach, IsLinkBreach, NamesNone, link_called, link_role_of, IsFirst, EndsBy, HasNoBreach, position_of}
 use Rattle.twin_value.specs.declared.code.BodyCode.{BodyCode}
 use Rattle.twin_value.specs.declared.end.BodyEnd.{BodyEnd}
 use Rattle.twin_value.specs.declared.end.BodyEnd.TheVariants as ends

@@ -1,25 +1,22 @@
 -- What a graph keeps of a body can be printed.
-use Rattle.std.proofs.Common.{◌≡◌, ℕ, List, [], codes, Bool, true, false, bytes_eq, Option, Some, None, refl, sym, ap, subst, ◌∙◌}
+use Rattle.std.proofs.Common.{◌≡◌, ℕ, List, codes, true, false, bytes_eq, Some, refl, sym, ◌∙◌}
 use Rattle.std.specs.Prelude.{not, IsTrue}
 use Rattle.std.proofs.lemmas.Slice.Eq.{bytes_eq-Decides}
 use Rattle.json_decimal.specs.Number.{Number}
-use Rattle.json_tree.specs.Values.{Json, text, object, Members, no_members, member, LacksKey, HasDistinctKeys, MembersHaveDistinctKeys}
-use Rattle.json_tree.specs.Sorting.{IsSortedOf}
+use Rattle.json_tree.specs.Values.{Json, object, Members, LacksKey, HasDistinctKeys, MembersHaveDistinctKeys}
 use Rattle.local_rules.specs.Members.{members_in}
 use Rattle.dtmi_name.specs.Grammar.{Identifier}
 use Rattle.dtdl_terms.specs.declared.resolved.Resolved.{Resolved}
 use Rattle.twin_patch.specs.Objects.{sorted_value, sorted_members}
 use Rattle.twin_patch.specs.Machinery.Orders.{IsInOrder}
 use Rattle.twin_patch.proofs.Ordered.{sorted_order, members_order}
-use Rattle.twin_patch.proofs.Sorted.{sorted_is}
 use Rattle.twin_value.specs.Roles.{Role, anything, undeclared, any_text, any_object, model_id, target_id, link_name, twin_metadata, twin_body, part_body, link_body, value, member_role}
 use Rattle.twin_value.specs.Breaches.{twin_role_of, link_role_of}
 use Rattle.twin_value.specs.Twins.{picked, joined, itself, any_key, is_value_role, is_part_role, property_members, component_members, without_metadata, with_metadata}
-use Rattle.graph_steps.specs.States.{Twin, Link, twin_object, link_object}
+use Rattle.graph_steps.specs.States.{Twin}
 use Rattle.graph_steps.specs.TwinAsks.{component_at}
-use Rattle.graph_steps.specs.Typed.{AllKeys}
 use Rattle.graph_bodies.specs.Kept.{IsKeptTwin, IsKeptLink, IsKeptPart}
-use Rattle.graph_bodies.proofs.Keys.{order_distinct, order_sorted, members_distinct, sorted_again, sorted_in_order, lacks_sorted, lacks_picked, lacks_failing, lacks_joined, lacks_sorted_value, AllValues, keys_sorted, keys_weaker, keys_picked, values_sorted, values_picked, values_weaker, values_distinct, value_has, distinct_picked, distinct_joined, distinct_right, distinct_values, members_of_distinct, members_in_order, values_in_order}
+use Rattle.graph_bodies.proofs.Keys.{order_distinct, order_sorted, members_distinct, sorted_again, sorted_in_order, lacks_sorted, lacks_picked, lacks_failing, lacks_joined, lacks_sorted_value, keys_sorted, keys_weaker, keys_picked, values_sorted, values_picked, values_weaker, values_distinct, value_has, distinct_picked, distinct_joined, distinct_right, distinct_values, members_of_distinct, members_in_order, values_in_order}
 
 -- two texts that are not one
 differ : (a b : List ℕ) → bytes_eq a b ≡ false → a ≡ b → ⊥

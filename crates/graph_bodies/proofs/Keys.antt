@@ -1,17 +1,16 @@
 -- Keys and values of members, of sorted ones too.
-use Rattle.std.proofs.Common.{◌≡◌, ◌≢◌, ℕ, ◌⊎◌, List, [], ◌∷◌, codes, Bool, true, false, cond, bytes_eq, Option, Some, None, refl, sym, ap, subst, ◌∙◌}
-use Rattle.std.specs.Prelude.{if◌then◌else◌, not, IsTrue}
+use Rattle.std.proofs.Common.{◌≡◌, ℕ, List, Bool, true, false, bytes_eq, Some, refl, sym, ap, subst, ◌∙◌}
+use Rattle.std.specs.Prelude.{if◌then◌else◌, IsTrue}
 use Rattle.std.specs.Ordering.{match_ordering}
 use Rattle.std.specs.declared.cmp.Ordering.{Ordering}
 use Rattle.std.specs.declared.cmp.Ordering.TheVariants.{Less, Equal, Greater}
-use Rattle.std.proofs.lemmas.Map.Lookups.{exact_bytes}
 use Rattle.json_decimal.specs.Number.{Number}
 use Rattle.json_tree.specs.Values.{Json, null, truth, number, text, array, object, Elements, no_elements, element, Members, no_members, member, LacksKey, HasDistinctKeys, ElementsHaveDistinctKeys, MembersHaveDistinctKeys}
 use Rattle.local_rules.specs.Members.{members_in, value_at}
 use Rattle.model_resolve.proofs.ByKey.{alike}
 use Rattle.twin_patch.specs.Objects.{with_member, sorted_value, sorted_elements, sorted_members}
 use Rattle.twin_patch.specs.Machinery.Orders.{compared, IsBefore, IsInOrder, ElementsAreInOrder, AreInOrder}
-use Rattle.twin_patch.proofs.Ordered.{sorted_order, members_order}
+use Rattle.twin_patch.proofs.Ordered.{sorted_order}
 use Rattle.twin_value.specs.Twins.{picked, joined}
 use Rattle.graph_steps.specs.Typed.{AllKeys}
 

@@ -1,28 +1,22 @@
 -- Look-ups in what an interface has with all that it inherits: as `resolve` lists it, and as the definitions of the graph do.
-use Rattle.std.proofs.Common.{◌≡◌, ◌↔◌, ℕ, ◌<◌, ◌⊎◌, inl, inr, List, [], ◌∷◌, ◌++◌, length, map, Bool, true, false, cond, Option, Some, None, refl, sym, ap, subst, ◌∙◌, arith}
+use Rattle.std.proofs.Common.{◌≡◌, ◌↔◌, ℕ, ◌⊎◌, inl, inr, List, [], ◌∷◌, ◌++◌, map, Bool, true, false, cond, Option, Some, None, refl, sym, ap, subst, ◌∙◌, arith}
 use Rattle.std.specs.Prelude.{Contains, bytes_eq}
-use Rattle.std.specs.Ordering.{nat_cmp}
-use Rattle.std.specs.Cmp.Lexicographic.{slice_cmp}
 use Rattle.std.specs.List.{find, flat_map}
 use Rattle.std.specs.List.Sorted.{IsStrictlySortedBy}
 use Rattle.std.proofs.lemmas.List.Elements.{Contains-append_left, Contains-append_right, Contains-append_cases}
 use Rattle.std.proofs.lemmas.Option.{same_Some, none-some}
 use Rattle.std.proofs.lemmas.Slice.Eq.{bytes_eq-Decides}
-use Rattle.dtmi_name.specs.Grammar.{Identifier, dtmi_text, id_cmp}
+use Rattle.dtmi_name.specs.Grammar.{Identifier, dtmi_text}
 use Rattle.dtdl_terms.specs.Sets.{interface_at}
 use Rattle.dtdl_terms.specs.Terms.{KindTerm, telemetry, property, command, relationship, component}
 use Rattle.dtdl_terms.specs.TermViews.{kind_term}
-use Rattle.dtdl_terms.specs.declared.content.Content.{Content}
 use Rattle.dtdl_terms.specs.declared.interface.Interface.{Interface}
 use Rattle.dtdl_terms.specs.declared.schema.Schema.{Schema}
 use Rattle.dtdl_terms.specs.declared.resolved.NamedIn.{NamedIn}
 use Rattle.dtdl_terms.specs.declared.resolved.PartOf.{PartOf}
-use Rattle.dtdl_terms.specs.declared.resolved.Resolved.{Resolved}
 use Rattle.dtdl_terms.specs.declared.resolved.ResolvedContent.{ResolvedContent}
 use Rattle.extend_resolve.specs.Breaches.{BreaksNoRule}
-use Rattle.extend_resolve.specs.Chains.{IsAncestor}
-use Rattle.extend_resolve.specs.SetRules.{IsComponentOf}
-use Rattle.model_resolve.specs.Resolving.{Has, HasPart, IsSource, ListsContents, ListsNamed, ListsParts, IsResolved}
+use Rattle.model_resolve.specs.Resolving.{Has, HasPart, IsSource, ListsContents, ListsNamed, ListsParts}
 use Rattle.model_resolve.specs.Machinery.Families.{IsThere, declared_by}
 use Rattle.model_resolve.proofs.ByKey.{C, contains_map, from_contains, in_contained, one_in}
 use Rattle.model_resolve.proofs.Families.{stands, one_there}

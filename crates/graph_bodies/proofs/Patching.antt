@@ -1,15 +1,11 @@
 -- Patches of sorted values.
-use Rattle.std.proofs.Common.{◌≡◌, ℕ, ◌+◌, List, [], ◌∷◌, Option, Some, None, Result, Ok, Err, refl, sym, ap, subst, ◌∙◌}
+use Rattle.std.proofs.Common.{◌≡◌, ℕ, ◌+◌, List, [], ◌∷◌, Option, Some, None, Ok, refl, sym, ap, subst, ◌∙◌}
 use Rattle.std.specs.Prelude.{All}
 use Rattle.json_tree.specs.Values.{Json, HasDistinctKeys}
-use Rattle.json_tree.specs.View.{view}
-use Rattle.json_tree.specs.declared.tree.Tree.{Tree}
 use Rattle.twin_patch.specs.Objects.{sorted_value}
-use Rattle.twin_patch.specs.Operations.{Operation, change_of, operations_of, BringsDistinctKeys}
-use Rattle.twin_patch.specs.Patched.{applied, go_on, patched_from, patched, GivesPatched}
+use Rattle.twin_patch.specs.Operations.{Operation, change_of, BringsDistinctKeys}
+use Rattle.twin_patch.specs.Patched.{applied, go_on, patched_from, patched}
 use Rattle.twin_patch.specs.Machinery.Orders.{IsInOrder}
-use Rattle.twin_patch.specs.declared.application.ApplyEnd.{ApplyEnd}
-use Rattle.twin_patch.specs.declared.application.ApplyEnd.TheVariants as ends
 use Rattle.twin_patch.specs.declared.entry.PatchOf.{PatchOf}
 use Rattle.twin_patch.specs.declared.patch.Op.{Op}
 use Rattle.twin_patch.specs.declared.patch.Patch.{Patch}

@@ -1,6 +1,5 @@
 -- What is read of a body is what the graph's definitions say of it.
-use Rattle.std.proofs.Common.{◌≡◌, ◌↔◌, ℕ, List, Result, Ok, Err, refl, sym, ap, subst, ◌∙◌}
-use Rattle.std.specs.Prelude.{MatchResult}
+use Rattle.std.proofs.Common.{◌≡◌, ℕ, List, sym, ap, subst, ◌∙◌}
 use Rattle.json_decimal.specs.Number.{Number}
 use Rattle.json_tree.specs.Values.{Json, object, Members, HasDistinctKeys}
 use Rattle.json_tree.specs.Sorting.{IsSortedOf}
@@ -15,7 +14,6 @@ use Rattle.twin_patch.proofs.Sorted.{sorted_is}
 use Rattle.twin_value.specs.Breaches.{IsBreach, IsTwinBreach, IsLinkBreach, HasNoBreach, EndsBy, twin_role_of, link_role_of}
 use Rattle.twin_value.specs.Roles.{member_role}
 use Rattle.twin_value.specs.Twins.{IsTwinOf, IsLinkOf, property_members, component_members, without_metadata}
-use Rattle.twin_value.specs.declared.code.BodyCode.{BodyCode}
 use Rattle.twin_value.specs.declared.end.BodyEnd.{BodyEnd}
 use Rattle.twin_value.specs.declared.twin.Twin as values
 use Rattle.graph_steps.specs.Inherited.{inherited}
@@ -23,7 +21,7 @@ use Rattle.graph_steps.specs.LinkAsks.{link_for}
 use Rattle.graph_steps.specs.States.{State, Twin, Link, set_of}
 use Rattle.graph_steps.specs.TwinAsks.{BodyFault, twin_for, part_role_in}
 use Rattle.graph_bodies.specs.Bodies.{IsModelIn, FailsBy}
-use Rattle.graph_bodies.specs.Kept.{twin_view, link_view, IsKeptTwin, IsKeptLink, IsKeptPart}
+use Rattle.graph_bodies.specs.Kept.{IsKeptTwin, IsKeptLink, IsKeptPart}
 use Rattle.graph_bodies.specs.Machinery.Faults.{Tells}
 use Rattle.graph_bodies.specs.declared.failure.BodyFailure.{BodyFailure}
 use Rattle.graph_bodies.proofs.Alike.{twin_alike, link_alike, part_alike, properties_alike, components_alike, payload_alike}

@@ -2,7 +2,6 @@ use Rattle.std.proofs.Common.{subst, sym, ap, ◌∙◌}
 use Rattle.json_tree.specs.View.{view}
 use Rattle.twin_value.specs.Breaches.{IsTwinBreach, twin_role_of}
 use Rattle.twin_value.specs.declared.twin.Twin as values
-use Rattle.graph_steps.specs.States.{Twin}
 use Rattle.graph_bodies.specs.Kept.{twin_view, IsKeptTwin}
 use Rattle.graph_bodies.proofs.Faults.{breach_somewhere, end_somewhere}
 use Rattle.graph_bodies.proofs.Reading.{twin_is_for, twin_kept, twin_clear, twin_fails}
