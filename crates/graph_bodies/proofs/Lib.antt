@@ -1,0 +1,9 @@
+pub mod Reaching
+pub mod Looking
+pub mod Alike
+pub mod Keys
+pub mod Keeping
+pub mod Faults
+pub mod Patching
+pub mod Reading
+pub mod Printed

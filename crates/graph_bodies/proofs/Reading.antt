@@ -1,0 +1,109 @@
+-- What is read of a body is what the graph's definitions say of it.
+use Rattle.std.proofs.Common.{◌≡◌, ℕ, List, sym, ap, subst, ◌∙◌}
+use Rattle.json_decimal.specs.Number.{Number}
+use Rattle.json_tree.specs.Values.{Json, object, Members, HasDistinctKeys}
+use Rattle.json_tree.specs.Sorting.{IsSortedOf}
+use Rattle.json_tree.specs.View.{view}
+use Rattle.json_tree.specs.declared.tree.Tree.{Tree}
+use Rattle.dtmi_name.specs.Grammar.{Identifier}
+use Rattle.dtdl_terms.specs.declared.interface.Interface.{Interface}
+use Rattle.dtdl_terms.specs.declared.resolved.Resolved.{Resolved}
+use Rattle.rel_graph.specs.declared.edge.Edge.{Edge}
+use Rattle.twin_patch.specs.Objects.{sorted_value}
+use Rattle.twin_patch.proofs.Sorted.{sorted_is}
+use Rattle.twin_value.specs.Breaches.{IsBreach, IsTwinBreach, IsLinkBreach, HasNoBreach, EndsBy, twin_role_of, link_role_of}
+use Rattle.twin_value.specs.Roles.{member_role}
+use Rattle.twin_value.specs.Twins.{IsTwinOf, IsLinkOf, property_members, component_members, without_metadata}
+use Rattle.twin_value.specs.declared.end.BodyEnd.{BodyEnd}
+use Rattle.twin_value.specs.declared.twin.Twin as values
+use Rattle.graph_steps.specs.Inherited.{inherited}
+use Rattle.graph_steps.specs.LinkAsks.{link_for}
+use Rattle.graph_steps.specs.States.{State, Twin, Link, set_of}
+use Rattle.graph_steps.specs.TwinAsks.{BodyFault, twin_for, part_role_in}
+use Rattle.graph_bodies.specs.Bodies.{IsModelIn, FailsBy}
+use Rattle.graph_bodies.specs.Kept.{IsKeptTwin, IsKeptLink, IsKeptPart}
+use Rattle.graph_bodies.specs.Machinery.Faults.{Tells}
+use Rattle.graph_bodies.specs.declared.failure.BodyFailure.{BodyFailure}
+use Rattle.graph_bodies.proofs.Alike.{twin_alike, link_alike, part_alike, properties_alike, components_alike, payload_alike}
+use Rattle.graph_bodies.proofs.Keeping.{properties_distinct, components_distinct, payload_distinct, kept_twin, kept_link, bare_distinct, kept_bare}
+use Rattle.graph_bodies.proofs.Faults.{clear_moves, failure_tells}
+
+-- ---- twins
+abbrev pub read_twin_as : Resolved → List ℕ → Identifier → Json → Twin
+read_twin_as r id model v = record {
+  id = id;
+  model = model;
+  values = sorted_value (object (property_members (twin_role_of r) v));
+  parts = sorted_value (object (component_members (twin_role_of r) v));
+}
+
+abbrev twin_of : List ℕ → Identifier → Json → Json → Twin
+twin_of id model vs ps = record { id = id; model = model; values = vs; parts = ps }
+
+pub twin_as_read : (r : Resolved) (id : List ℕ) (v : Json) (t : values.Twin) (model : Identifier) → HasDistinctKeys v → IsTwinOf (twin_role_of r) id v t
+    → twin_of t.id model (view t.values) (view t.parts) ≡ read_twin_as r id model v
+twin_as_read r id v t model d is =
+    ap (λ (x : List ℕ). twin_of x model (view t.values) (view t.parts)) is.id
+    ∙ ap (λ (x : Json). twin_of id model x (view t.parts)) (sorted_is (object (property_members (twin_role_of r) v)) (view t.values) (properties_distinct r v d) is.values)
+    ∙ ap (λ (x : Json). twin_of id model (sorted_value (object (property_members (twin_role_of r) v))) x)
+    (sorted_is (object (component_members (twin_role_of r) v)) (view t.parts) (components_distinct r v d) is.parts)
+
+pub twin_kept : (r : Resolved) (id : List ℕ) (v : Json) (t : values.Twin) (model : Identifier) → HasDistinctKeys v → IsTwinOf (twin_role_of r) id v t → IsKeptTwin (twin_of t.id model (view t.values) (view t.parts))
+twin_kept r id v t model d is = subst IsKeptTwin (sym (twin_as_read r id v t model d is)) (kept_twin r v id model)
+
+module _ (s : State) (i : Interface) (r : Resolved) (is : IsModelIn s i r) where
+  as_twin_for : (id : List ℕ) (v : Json) → read_twin_as r id i.id v ≡ twin_for s id i v
+  as_twin_for id v =
+      ap (λ (ms : Members Number). twin_of id i.id (sorted_value (object ms)) (sorted_value (object (component_members (twin_role_of r) v)))) (properties_alike (set_of s) is.rules i is.there r is.resolved v)
+      ∙ ap (λ (ms : Members Number). twin_of id i.id (sorted_value (object (property_members (twin_role_of (inherited (set_of s) i)) v))) (sorted_value (object ms)))
+      (components_alike (set_of s) is.rules i is.there r is.resolved v)
+
+  pub twin_is_for : (id : List ℕ) (v : Json) (t : values.Twin) → HasDistinctKeys v → IsTwinOf (twin_role_of r) id v t → twin_of t.id i.id (view t.values) (view t.parts) ≡ twin_for s id i v
+  twin_is_for id v t d of = twin_as_read r id v t i.id d of ∙ as_twin_for id v
+
+  pub twin_clear : (v : Json) → HasNoBreach (IsTwinBreach r v) → HasNoBreach (IsTwinBreach (inherited (set_of s) i) v)
+  twin_clear v = clear_moves (IsTwinBreach r v) (IsTwinBreach (inherited (set_of s) i) v) (twin_alike (set_of s) is.rules i is.there r is.resolved v)
+
+  pub twin_fails : (v : Json) (end : BodyEnd) (failure : BodyFailure) → EndsBy (IsTwinBreach r v) end → Tells v end failure → FailsBy (BodyFault (IsTwinBreach (inherited (set_of s) i) v) v) failure
+  twin_fails v = failure_tells (IsTwinBreach r v) (IsTwinBreach (inherited (set_of s) i) v) (twin_alike (set_of s) is.rules i is.there r is.resolved v) v
+
+-- ---- relationships
+abbrev pub link_as : List ℕ → List ℕ → List ℕ → List ℕ → Json → Link
+link_as source id name target payload = record { source = source; id = id; name = name; target = target; payload = payload }
+
+pub link_as_read : (r : Resolved) (source id name target : List ℕ) (v : Json) (e : Edge Tree) → HasDistinctKeys v → IsLinkOf (link_role_of r v) source id v e
+    → link_as e.source e.id name target (view e.payload) ≡ link_as source id name target (sorted_value (object (property_members (link_role_of r v) v)))
+link_as_read r source id name target v e d is =
+    ap (λ (x : List ℕ). link_as x e.id name target (view e.payload)) is.source
+    ∙ ap (λ (x : List ℕ). link_as source x name target (view e.payload)) is.id
+    ∙ ap (λ (x : Json). link_as source id name target x) (sorted_is (object (property_members (link_role_of r v) v)) (view e.payload) (payload_distinct r v d) is.payload)
+
+pub link_kept : (r : Resolved) (source id name target : List ℕ) (v : Json) (e : Edge Tree) → HasDistinctKeys v → IsLinkOf (link_role_of r v) source id v e → IsKeptLink (link_as e.source e.id name target (view e.payload))
+link_kept r source id name target v e d is = subst IsKeptLink (sym (link_as_read r source id name target v e d is)) (kept_link r v source id name target)
+
+module _ (s : State) (i : Interface) (r : Resolved) (is : IsModelIn s i r) where
+  pub link_is_for : (source id name target : List ℕ) (v : Json) (e : Edge Tree) → HasDistinctKeys v → IsLinkOf (link_role_of r v) source id v e
+      → link_as e.source e.id name target (view e.payload) ≡ link_for s i source id name target v
+  link_is_for source id name target v e d of =
+      link_as_read r source id name target v e d of
+      ∙ ap (λ (ms : Members Number). link_as source id name target (sorted_value (object ms))) (payload_alike (set_of s) is.rules i is.there r is.resolved v)
+
+  pub link_clear : (v : Json) → HasNoBreach (IsLinkBreach r v) → HasNoBreach (IsLinkBreach (inherited (set_of s) i) v)
+  link_clear v = clear_moves (IsLinkBreach r v) (IsLinkBreach (inherited (set_of s) i) v) (link_alike (set_of s) is.rules i is.there r is.resolved v)
+
+  pub link_fails : (v : Json) (end : BodyEnd) (failure : BodyFailure) → EndsBy (IsLinkBreach r v) end → Tells v end failure → FailsBy (BodyFault (IsLinkBreach (inherited (set_of s) i) v) v) failure
+  link_fails v = failure_tells (IsLinkBreach r v) (IsLinkBreach (inherited (set_of s) i) v) (link_alike (set_of s) is.rules i is.there r is.resolved v) v
+
+-- ---- components
+pub part_as_read : (v w : Json) → HasDistinctKeys v → IsSortedOf (without_metadata v) w → w ≡ sorted_value (without_metadata v)
+part_as_read v w d is = sorted_is (without_metadata v) w (bare_distinct v d) is
+
+pub part_kept : (v w : Json) → HasDistinctKeys v → IsSortedOf (without_metadata v) w → IsKeptPart w
+part_kept v w d is = subst IsKeptPart (sym (part_as_read v w d is)) (kept_bare v)
+
+module _ (s : State) (i : Interface) (r : Resolved) (is : IsModelIn s i r) (name : List ℕ) where
+  pub part_clear : (v : Json) → HasNoBreach (IsBreach (member_role (twin_role_of r) name) v) → HasNoBreach (IsBreach (part_role_in s i name) v)
+  part_clear v = clear_moves (IsBreach (member_role (twin_role_of r) name) v) (IsBreach (part_role_in s i name) v) (part_alike (set_of s) is.rules i is.there r is.resolved name v)
+
+  pub part_fails : (v : Json) (end : BodyEnd) (failure : BodyFailure) → EndsBy (IsBreach (member_role (twin_role_of r) name) v) end → Tells v end failure → FailsBy (BodyFault (IsBreach (part_role_in s i name) v) v) failure
+  part_fails v = failure_tells (IsBreach (member_role (twin_role_of r) name) v) (IsBreach (part_role_in s i name) v) (part_alike (set_of s) is.rules i is.there r is.resolved name v) v
