@@ -166,19 +166,26 @@ fn is_after_alike(twins: &Twins, plain: &Plain, id: Option<&Text>) -> bool {
     twins.after(id).is_none()
 }
 
-fn is_of_model_alike(twins: &Twins, plain: &Plain, model: &Dtmi) -> bool {
-    let mut listing = twins.of_model(model);
-    for row in &plain.rows {
-        if row.model == *model {
-            let Some(twin) = listing.next() else {
-                return false;
-            };
-            if !is_same(twin, row) {
-                return false;
-            }
+/// The position of the next row of a model, or the number of all rows where there is none.
+fn next_of(rows: &[Row], model: &Dtmi, from: usize) -> usize {
+    for (at, row) in rows.iter().enumerate() {
+        if at >= from && row.model == *model {
+            return at;
         }
     }
-    listing.next().is_none()
+    rows.len()
+}
+
+fn is_of_model_alike(twins: &Twins, plain: &Plain, model: &Dtmi) -> bool {
+    let rows = plain.rows.as_slice();
+    let mut at = next_of(rows, model, 0);
+    for twin in twins.of_model(model) {
+        if at >= rows.len() || !is_same(twin, &rows[at]) {
+            return false;
+        }
+        at = next_of(rows, model, at + 1);
+    }
+    at >= rows.len()
 }
 
 fn are_sums_alike(twins: &Twins, plain: &Plain) -> bool {
@@ -219,12 +226,14 @@ fn step(
     } else {
         put_alike(alloc, twins, plain, state)?
     };
-    Ok(is_changed_alike
-        && is_get_alike(twins, plain, &some)
-        && is_after_alike(twins, plain, Some(&some))
-        && is_after_alike(twins, plain, None)
-        && is_of_model_alike(twins, plain, &of)
-        && are_sums_alike(twins, plain))
+    Ok(
+        is_changed_alike
+            && is_get_alike(twins, plain, &some)
+            && is_after_alike(twins, plain, Some(&some))
+            && is_after_alike(twins, plain, None)
+            && is_of_model_alike(twins, plain, &of)
+            && are_sums_alike(twins, plain),
+    )
 }
 
 #[test]
