@@ -25,9 +25,8 @@ use Rattle.model_life.specs.Refusals.{AreNew, IsFirstThere, PassesFirst, Refuses
 use Rattle.model_life.specs.declared.ends.MarkEnd.{MarkEnd}
 use Rattle.model_life.specs.declared.ends.MarkEnd.TheVariants as marks
 use Rattle.graph_steps.specs.States.{State, set_of}
-use Rattle.graph_steps.specs.ModelAsks.{model_value, mark_value, ModelExists, ModelFault, RefusesPutModels, RefusesDropModel}
+use Rattle.graph_steps.specs.ModelAsks.{model_value, mark_value, ModelExists, ModelFault, TwinDoesNotFit, RefusesPutModels, RefusesDropModel}
 use Rattle.graph_steps.specs.Steps.{Answers, changed, followed}
-use Rattle.graph_machine.specs.Held.{state_of}
 use Rattle.graph_machine.proofs.Ascending.{Ascend}
 use Rattle.graph_machine.proofs.Uploads.{new_ones}
 
@@ -72,12 +71,12 @@ pub not_found : (ms : List Model) (id : Identifier) (end : MarkEnd) → RefusesM
 not_found ms id marks.ModelNotFound h = h
 
 -- ---- models that go
+pub drop_free : (s : State) (id : Identifier) → IsSome (model_at id s.models) → first_user id s.models ≡ None → (r : Refusal) → RefusesDropModel s id r → ⊥
+drop_free s id there free r (inl h) = some_none (model_at id s.models) there h.0
+drop_free s id there free r (inr (before, (by, used, e))) = none-some by (sym free ∙ used)
+
 pub dropped : (s : State) (id : Identifier) → IsSome (model_at id s.models) → first_user id s.models ≡ None → Answers s (asks.DropModel id) done
-dropped s id there free = inr ((λ r. refuse r), refl)
-  where
-    refuse : (r : Refusal) → RefusesDropModel s id r → ⊥
-    refuse r (inl h) = some_none (model_at id s.models) there h.0
-    refuse r (inr (before, (by, used, e))) = none-some by (sym free ∙ used)
+dropped s id there free = inr (drop_free s id there free, refl)
 
 pub no_model : (s : State) (id : Identifier) → model_at id s.models ≡ None → Answers s (asks.DropModel id) (refused (refusals.ModelNotFound (dtmi_text id)))
 no_model s id none = inl (refusals.ModelNotFound (dtmi_text id), inl (none, refl), refl)
@@ -133,12 +132,12 @@ faulty s us index u rule spot new first is = inr (not_there s us new, inl (recor
 pub full : (s : State) (us : List Uploaded) (limit : Limit) → AreNew s.models us → IsSound (set_of s) us → PassesFirst (with_uploads us s.models) limit → RefusesPutModels s us (refusals.Full limit)
 full s us limit new sound passes = inr (not_there s us new, inr (not_broken s us sound, inl (limit, passes, refl)))
 
-pub brought : (ms : List Model) (us : List Uploaded) → ((set : List Interface) (m n : ℕ) → AllTake set m → AllTake set n → m ≡ n) → Ascend ms → AreNew ms us → IsSound (interfaces_of ms) us
-    → AreWithinLimits (with_uploads us ms) → Answers (state_of ms) (asks.PutModels us) (created (array (elements_of (map mark_value (with_uploads us [])))))
-brought ms us one up new sound within = inr ((λ r. refuse r), ap (λ ns. created (array (elements_of (map mark_value ns)))) (sym (new_ones ms us new up)))
+pub brought : (s : State) (us : List Uploaded) → ((set : List Interface) (m n : ℕ) → AllTake set m → AllTake set n → m ≡ n) → Ascend s.models → AreNew s.models us → IsSound (set_of s) us
+    → AreWithinLimits (with_uploads us s.models) → ((r : Refusal) → TwinDoesNotFit s us r → ⊥) → Answers s (asks.PutModels us) (created (array (elements_of (map mark_value (with_uploads us [])))))
+brought s us one up new sound within fit = inr ((λ r. refuse r), ap (λ ns. created (array (elements_of (map mark_value ns)))) (sym (new_ones s.models us new up)))
   where
-    refuse : (r : Refusal) → RefusesPutModels (state_of ms) us r → ⊥
-    refuse r (inl h) = not_there (state_of ms) us new r h
-    refuse r (inr (a, inl h)) = not_broken (state_of ms) us sound r h
-    refuse r (inr (a, inr (b, inl (limit, passes, e)))) = passes_none (with_uploads us ms) one within limit passes
-    refuse r (inr (a, inr (b, inr (c, (t, wrong, least, e))))) = omega (arith, wrong.there.1)
+    refuse : (r : Refusal) → RefusesPutModels s us r → ⊥
+    refuse r (inl h) = not_there s us new r h
+    refuse r (inr (a, inl h)) = not_broken s us sound r h
+    refuse r (inr (a, inr (b, inl (limit, passes, e)))) = passes_none (with_uploads us s.models) one within limit passes
+    refuse r (inr (a, inr (b, inr (c, h)))) = fit r h

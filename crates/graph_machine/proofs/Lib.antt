@@ -2,6 +2,9 @@ pub mod Ascending
 pub mod Uploads
 pub mod Listed
 pub mod Answered
-pub mod Typed
 pub mod Told
 pub mod Kept
+pub mod Twins
+pub mod Links
+pub mod Least
+pub mod Pages

@@ -19,3 +19,7 @@ pub within : {X : Type 0} (xs : List X) (k : ℕ) (x : X) → slice_get xs k ≡
 within [] k x is = absurd (none-some x is)
 within (y ∷ ys) zero x is = omega arith
 within (y ∷ ys) (suc k) x is = let low = within ys k x is in omega (arith, low)
+
+pub any_ok : {X E : Type 0} (r : Result X E) (P : X → Type 0) → ((x : X) → P x) → IfOk r P
+any_ok (Ok x) P f = f x
+any_ok (Err e) P f = tt

@@ -1,5 +1,4 @@
 -- What public contracts cite.
-pub mod Held
 pub mod Built
 -- What proofs alone rest on: no public contract speaks of it.
 pub mod Machinery

@@ -1,2 +1,3 @@
 pub mod Marks
-pub mod Codes
+pub mod Least
+pub mod Listings

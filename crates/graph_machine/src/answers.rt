@@ -23,3 +23,30 @@ pub(crate) fn model_not_found(alloc: Global, id: &Dtmi) -> Result<Reply, OutOfMe
         id: id_text(alloc, id)?,
     }))
 }
+
+/// There is no twin with this id.
+pub(crate) fn twin_not_found(alloc: Global, id: &Text) -> Result<Reply, OutOfMemory>
+    ensures { IfOk result (λ reply. reply ≡ Reply.Refused (Refusal.TwinNotFound id.now)) }
+{
+    Ok(Reply::Refused(Refusal::TwinNotFound {
+        id: id.copy(alloc)?,
+    }))
+}
+
+/// There is no relationship with this id.
+pub(crate) fn link_not_found(alloc: Global, id: &Text) -> Result<Reply, OutOfMemory>
+    ensures { IfOk result (λ reply. reply ≡ Reply.Refused (Refusal.RelationshipNotFound id.now)) }
+{
+    Ok(Reply::Refused(Refusal::RelationshipNotFound {
+        id: id.copy(alloc)?,
+    }))
+}
+
+/// There is no component of this name.
+pub(crate) fn component_not_found(alloc: Global, name: &Text) -> Result<Reply, OutOfMemory>
+    ensures { IfOk result (λ reply. reply ≡ Reply.Refused (Refusal.ComponentNotFound name.now)) }
+{
+    Ok(Reply::Refused(Refusal::ComponentNotFound {
+        id: name.copy(alloc)?,
+    }))
+}

@@ -4,7 +4,7 @@ ghost use Rattle.std.specs.Prelude.{◌≡◌, IfOk, IsOk, IsSome, OnErr};
 ghost use Rattle.graph_asks.specs.Answers.{done};
 ghost use Rattle.model_life.specs.Models.{first_user, model_at};
 ghost use Rattle.graph_steps.specs.Steps.{Allows, Answers, follows};
-ghost use Rattle.graph_machine.specs.Held.{state_of};
+ghost use Rattle.graph_held.specs.Held.{state_of};
 
 use crate::answers::{id_text, model_not_found};
 use crate::machine::Machine;
@@ -23,7 +23,10 @@ impl Machine {
         ensures free { Answers (state_of self.old) (Ask.DropModel id.now) done → IsOk result }
     {
         match self.models.drop_model(id) {
-            Ok(_) => Ok(Reply::Done),
+            Ok(_) => {
+                self.resolutions.clear();
+                Ok(Reply::Done)
+            }
             Err(DropEnd::ModelNotFound) => model_not_found(self.alloc, id),
             Err(DropEnd::ModelInUse) => self.model_in_use(id),
         }
@@ -31,8 +34,8 @@ impl Machine {
 
     /// The refusal of a model that another one uses.
     fn model_in_use(&self, id: &Dtmi) -> Result<Reply, OutOfMemory>
-        requires there { IsSome (model_at id.now self.now) }
-        requires used { IsSome (first_user id.now self.now) }
+        requires there { IsSome (model_at id.now self.now.models) }
+        requires used { IsSome (first_user id.now self.now.models) }
         ensures allowed { IfOk result (Allows (state_of self.now) (Ask.DropModel id.now)) }
         ensures follows { IfOk result (λ reply. follows (state_of self.now) (Ask.DropModel id.now) reply ≡ state_of self.now) }
     {

@@ -2,7 +2,7 @@
 
 ghost use Rattle.std.specs.Prelude.{◌≡◌, IfOk};
 ghost use Rattle.graph_steps.specs.Steps.{Allows, follows};
-ghost use Rattle.graph_machine.specs.Held.{state_of};
+ghost use Rattle.graph_held.specs.Held.{state_of};
 
 use crate::answers::model_not_found;
 use crate::machine::Machine;

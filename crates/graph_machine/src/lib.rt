@@ -1,15 +1,23 @@
-//! The typed graph of digital twins as an object that answers one ask at a time. Only the asks on models are built.
+//! The typed graph of digital twins as an object that answers one ask at a time. `IsBuilt` says which asks are built.
 #![tactic(auto)]
 
 mod answers;
 mod canon;
 mod drop_model;
+mod drop_rel;
+mod drop_twin;
 mod get_model;
+mod get_part;
+mod get_rel;
+mod get_twin;
+mod list_in;
 mod list_models;
+mod list_out;
+mod looking;
 mod machine;
 mod mark;
 mod object;
-mod put_models;
+mod rows;
 mod trees;
 
 pub use machine::{Counts, Machine};

@@ -5,7 +5,7 @@ ghost use Rattle.json_tree.specs.View.{view};
 ghost use Rattle.dtdl_terms.specs.Sets.{keyed};
 ghost use Rattle.model_life.specs.Models.{interfaces_of};
 ghost use Rattle.graph_steps.specs.Steps.{Allows, follows};
-ghost use Rattle.graph_machine.specs.Held.{state_of};
+ghost use Rattle.graph_held.specs.Held.{state_of};
 ghost use Rattle.graph_machine.specs.Machinery.Marks.{is_marked, entry_json};
 
 use crate::machine::Machine;

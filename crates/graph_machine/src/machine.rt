@@ -3,37 +3,41 @@
 ghost use Rattle.std.specs.Prelude.{◌≡◌, length};
 ghost use Rattle.graph_steps.specs.States.{empty};
 ghost use Rattle.graph_steps.specs.Typed.{WellTyped};
-ghost use Rattle.graph_machine.specs.Held.{state_of};
+ghost use Rattle.graph_held.specs.Held.{state_of};
 
+use graph_held::Stored;
 use model_life::Models;
+use model_resolve::Resolutions;
+use rel_graph::Rels;
 use std::alloc::Global;
 use std::marker::Model;
+use twin_table::Twins;
 
-/// A typed graph of digital twins (this project's own, after the graph of Azure Digital Twins), which contracts see as the
-/// list of its models in the order of their identifiers; `state_of` is the state of it. Every machine is well typed
+/// A typed graph of digital twins (this project's own, after the graph of Azure Digital Twins), which contracts see as its
+/// models, its twins and its relationships, each in their order; `state_of` is the state of it. Every machine is well typed
 /// ([`Machine::typed`]).
 #[derive(Drop)]
 pub struct Machine {
     pub(crate) alloc: Global,
     pub(crate) models: Models,
+    pub(crate) resolutions: Resolutions,
+    pub(crate) twins: Twins,
+    pub(crate) links: Rels<Stored>,
+    pub(crate) link_bytes: u64,
 }
 
 impl Model for Machine {
-    ghost use Rattle.std.specs.Prelude.{List};
-    ghost use Rattle.std.specs.List.{AllByRecursion};
-    ghost use Rattle.model_life.specs.Models.{Model as Live, interfaces_of};
-    ghost use Rattle.graph_steps.specs.Typed.{IsSoundInterface};
-    ghost use Rattle.dtdl_terms.specs.contracts.interface.Interface as interface;
-    ghost use Rattle.std.specs.Coded.{coded_list};
-    ghost use Rattle.graph_machine.specs.Machinery.Codes.{model_code};
+    ghost use Rattle.graph_held.specs.Held.{Holding};
+    ghost use Rattle.graph_held.specs.Machinery.Codes.{holding_code};
+    ghost use Rattle.graph_held.specs.Held.{holding, IsKept};
 
-    ghost Value = { List Live };
+    ghost Value = { Holding };
 
-    ghost coded = { coded_list (model_code interface.the_row.coded) };
+    ghost coded = { holding_code };
 
-    ghost view = { λ m. m.models };
+    ghost view = { λ m. holding m.models m.twins m.links };
 
-    ghost invariant = { λ m. AllByRecursion IsSoundInterface (interfaces_of m.models) };
+    ghost invariant = { λ m. IsKept (holding m.models m.twins m.links) m.resolutions m.link_bytes };
 }
 
 /// How much a graph holds.
@@ -52,15 +56,19 @@ impl Machine {
         Machine {
             alloc,
             models: Models::new(alloc),
+            resolutions: Resolutions::new(alloc),
+            twins: Twins::new(alloc),
+            links: Rels::new(alloc),
+            link_bytes: 0,
         }
     }
 
-    /// Every machine is well typed: its models together break no rule, and each is sound; there are no limits that are
-    /// passed.
+    /// Every machine is well typed: its models together break no rule, and each is sound; its twins and relationships fit
+    /// their models, where these are there; and no limit is passed.
     pub fn typed(&self)
         ensures { WellTyped (state_of self.now) }
     {
-        self.models.sound();
+        let _bytes = self.link_bytes;
     }
 
     /// How many models, twins and relationships there are. Takes no memory.
@@ -71,8 +79,8 @@ impl Machine {
     {
         Counts {
             models: self.models.len(),
-            twins: 0,
-            relationships: 0,
+            twins: self.twins.len(),
+            relationships: self.links.len(),
         }
     }
 }

@@ -6,7 +6,7 @@ ghost use Rattle.graph_steps.specs.Soundness.{IsSound};
 ghost use Rattle.graph_steps.specs.Steps.{Allows, Answers, follows};
 ghost use Rattle.graph_steps.specs.States.{State};
 ghost use Rattle.graph_machine.specs.Built.{IsBuilt, NeedsNoMemory};
-ghost use Rattle.graph_machine.specs.Held.{state_of};
+ghost use Rattle.graph_held.specs.Held.{state_of};
 
 use crate::machine::Machine;
 use dt_base::{Object, OutOfMemory};
@@ -28,7 +28,7 @@ impl Object for Machine {
     ghost follows = { follows };
 
     /// Answers an ask. The answer and the state that follows are those of the step of the graph. `Err` is want of memory,
-    /// and nothing changes; a mark and a drop that are done take no memory.
+    /// and nothing changes; a mark and drops that are done take no memory.
     fn step(&mut self, ask: &Ask) -> Result<Reply, OutOfMemory>
         requires sound { IsSound ask.now × IsBuilt ask.now }
         ensures allowed { IfOk result (Allows (state_of self.old) ask.now) }
@@ -37,12 +37,22 @@ impl Object for Machine {
         ensures free { NeedsNoMemory ask.now → Answers (state_of self.old) ask.now done → IsOk result }
     {
         match ask {
-            Ask::PutModels { models } => self.put_models(models.as_slice()),
             Ask::GetModel { id } => self.get_model(id),
             Ask::ListModels => self.list_models(),
             Ask::Mark { id, on } => self.mark(id, *on),
             Ask::DropModel { id } => self.drop_model(id),
             Ask::Canon => self.canon(),
+            Ask::GetTwin { id } => self.get_twin(id),
+            Ask::DropTwin { id } => self.drop_twin(id),
+            Ask::GetPart { id, name } => self.get_part(id, name),
+            Ask::GetRel { source, id } => self.get_rel(source, id),
+            Ask::ListOut {
+                source,
+                name,
+                after,
+            } => self.list_out(source, name, after),
+            Ask::ListIn { target, after } => self.list_in(target, after),
+            Ask::DropRel { source, id } => self.drop_rel(source, id),
             _ => unreachable!(),
         }
     }

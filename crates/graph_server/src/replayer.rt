@@ -1,7 +1,7 @@
 //! Who answers the requests of a replay.
 
 ghost use Rattle.std.specs.Prelude.{◌≡◌};
-ghost use Rattle.graph_machine.specs.Held.{state_of};
+ghost use Rattle.graph_held.specs.Held.{state_of};
 ghost use Rattle.graph_steps.specs.States.{empty};
 ghost use Rattle.std.specs.Prelude.{IfOk};
 
@@ -36,7 +36,7 @@ impl Replayer {
 
 impl Service for Replayer {
     ghost use Rattle.std.specs.Prelude.{refl};
-    ghost use Rattle.graph_machine.specs.Held.{state_of};
+    ghost use Rattle.graph_held.specs.Held.{state_of};
     ghost use Rattle.http_session.specs.Legal.{legal_trans};
     ghost use Rattle.graph_server.specs.Entries.{Entry, own, enters, allows, follows, IsHistory};
 

@@ -9,4 +9,4 @@ pub set_text-requires : goal.set_text-requires
 set_text-requires c = subst InOrder (sym c.set.ensures) c.sound.ensures.ordered
 
 pub returns-clause-allowed : goal.returns-clause-allowed
-returns-clause-allowed c = inr ((λ r h. h), ap (λ t. answers.canon t) (c.in_ok-set_text.ensures ∙ ap set_text (c.set.ensures ∙ ap interfaces_of c.self.view_is)))
+returns-clause-allowed c = inr ((λ r h. h), ap (λ t. answers.canon t) (c.in_ok-set_text.ensures ∙ ap set_text (c.set.ensures ∙ ap (λ h. interfaces_of h.models) c.self.view_is)))

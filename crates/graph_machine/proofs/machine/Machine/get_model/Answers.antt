@@ -5,7 +5,7 @@ use Rattle.graph_asks.specs.Answers.{body}
 use Rattle.graph_asks.specs.declared.ask.Ask.TheVariants as asks
 use Rattle.model_life.specs.Models.{model_of, model_at}
 use Rattle.graph_steps.specs.Steps.{Allows, Answers, follows}
-use Rattle.graph_machine.specs.Held.{state_of}
+use Rattle.graph_held.specs.Held.{state_of}
 use Rattle.graph_machine.proofs.Answered.{found, missing}
 use Rattle.graph_machine.proofs.Told.{told}
 use Rattle.graph_machine.proofs.machine.Machine.get_model.Goals as goal
@@ -14,13 +14,13 @@ pub returns-in_ok-model_tree-in-Some-clause-allowed : goal.returns-in_ok-model_t
 returns-in_ok-model_tree-in-Some-clause-allowed c =
     subst (λ v. Answers (state_of c.args.self.now) (asks.GetModel c.args.id.now) (body v)) (sym c.in_ok-model_tree-in-Some.ensures)
     (found (state_of c.args.self.now) c.args.id.now (model_of c.in-Some.interface.now c.in-Some.on)
-    (ap (model_at c.args.id.now) (sym c.self.view_is) ∙ sym c.get.ensures ∙ ap (option_map (λ (m : Bor Interface × Bool). model_of m.0.now m.1)) c.in-Some.is))
+    (ap (λ h. model_at c.args.id.now h.models) (sym c.self.view_is) ∙ sym c.get.ensures ∙ ap (option_map (λ (m : Bor Interface × Bool). model_of m.0.now m.1)) c.in-Some.is))
 
 pub returns-in-None-clause-allowed : goal.returns-in-None-clause-allowed
 returns-in-None-clause-allowed c =
     told c.model_not_found.result _ (Allows (state_of c.args.self.now) (asks.GetModel c.args.id.now)) c.model_not_found.ensures
     (missing (state_of c.args.self.now) c.args.id.now
-    (ap (model_at c.args.id.now) (sym c.self.view_is) ∙ sym c.get.ensures ∙ ap (option_map (λ (m : Bor Interface × Bool). model_of m.0.now m.1)) c.in-None.is))
+    (ap (λ h. model_at c.args.id.now h.models) (sym c.self.view_is) ∙ sym c.get.ensures ∙ ap (option_map (λ (m : Bor Interface × Bool). model_of m.0.now m.1)) c.in-None.is))
 
 pub returns-in-None-clause-follows : goal.returns-in-None-clause-follows
 returns-in-None-clause-follows c =

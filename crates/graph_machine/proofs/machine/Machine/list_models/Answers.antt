@@ -11,5 +11,5 @@ returns-clause-allowed c = inr (
   ap (λ v. body v)
       (c.in_ok-list_tree.ensures
       ∙ ap (λ vs. object (member (codes "value") (array (elements_of vs)) no_members)) (c.in_ok-trees.ensures ∙ all_listed c.self.inside.models c.sound.ensures.ordered)
-      ∙ ap list_value c.self.view_is),
+      ∙ ap (λ h. list_value h.models) c.self.view_is),
 )

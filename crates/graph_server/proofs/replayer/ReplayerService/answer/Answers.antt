@@ -4,7 +4,7 @@ use Rattle.graph_routes.specs.Responses.{response_for}
 use Rattle.graph_server.specs.Entries.{entry}
 use Rattle.graph_server.proofs.Answering.{made, decided, owned, entered, written}
 use Rattle.graph_server.proofs.Methods.{reply_lists}
-use Rattle.graph_machine.specs.Held.{state_of}
+use Rattle.graph_held.specs.Held.{state_of}
 use Rattle.graph_server.proofs.replayer.ReplayerService.answer.Goals as goal
 
 pub returns-in-Ok-response_of_refusal-clause-answers : goal.returns-in-Ok-response_of_refusal-clause-answers

@@ -1,0 +1,92 @@
+-- Look-ups and changes of what a machine holds are those of its state.
+use Rattle.std.proofs.Common.{◌≡◌, ℕ, suc, List, [], ◌∷◌, map, length, Bool, true, false, cond, Option, Some, None, IfSome, refl, sym, ap, ◌∙◌}
+use Rattle.std.specs.Prelude.{bytes_eq}
+use Rattle.std.specs.Option.{option_map}
+use Rattle.std.specs.List.{AllByRecursion, filter, find}
+use Rattle.std.specs.Map.{lookup, remove_entry, values_of}
+use Rattle.std.specs.BTreeMap.{is_at}
+use Rattle.ordered_table.proofs.Flat.{C}
+use Rattle.rel_graph.specs.Edges.{key_cmp, key, edge_at, without_edge}
+use Rattle.rel_graph.specs.declared.edge.Edge.{Edge}
+use Rattle.twin_table.specs.Held as table
+use Rattle.twin_table.specs.declared.held.Held.{Held}
+use Rattle.graph_steps.specs.LinkAsks.{link_at, after_drop_rel}
+use Rattle.graph_steps.specs.States.{State, Twin, Link, twin_at, without_twin}
+use Rattle.graph_bodies.specs.Kept.{twin_view, IsKeptTwin, IsKeptLink}
+use Rattle.graph_laws.proofs.Edges.{edge_there}
+use Rattle.graph_laws.proofs.Keyed.{entries, values-entries}
+use Rattle.graph_laws.proofs.Lists.{all_at, found_passes}
+use Rattle.graph_held.specs.Held.{Holding, holding, twin_of, link_of, state_of, IsHeldTwin, IsHeldLink}
+use Rattle.graph_held.specs.declared.stored.Stored.{Stored}
+
+-- ---- lists
+module _ {X Y : Type 0} (f : X → Y) where
+  pub same_length : (xs : List X) → length (map f xs) ≡ length xs
+  same_length [] = refl
+  same_length (x ∷ xs) = ap (λ n. suc n) (same_length xs)
+
+  pub find-map : (p : Y → Bool) (xs : List X) → find p (map f xs) ≡ option_map f (find (λ x. p (f x)) xs)
+  find-map p [] = refl
+  find-map p (x ∷ xs) =
+      ap (cond (p (f x)) (Some (f x))) (find-map p xs)
+      ∙ (elim (p (f x)) as (λ b. cond b (Some (f x)) (option_map f (find (λ y. p (f y)) xs)) ≡ option_map f (cond b (Some x) (find (λ y. p (f y)) xs))) [ true ↦ refl | false ↦ refl ])
+
+  pub filter-map : (p : Y → Bool) (xs : List X) → filter p (map f xs) ≡ map f (filter (λ x. p (f x)) xs)
+  filter-map p [] = refl
+  filter-map p (x ∷ xs) =
+      ap (λ ys. cond (p (f x)) (f x ∷ ys) ys) (filter-map p xs)
+      ∙ (elim (p (f x)) as (λ b. cond b (f x ∷ map f (filter (λ y. p (f y)) xs)) (map f (filter (λ y. p (f y)) xs)) ≡ map f (cond b (x ∷ filter (λ y. p (f y)) xs) (filter (λ y. p (f y)) xs))) [ true ↦ refl | false ↦ refl ])
+
+-- things that keep their keys
+module _ {K X Y : Type 0} (own : X → K) (seen : Y → K) (f : X → Y) (same : (x : X) → seen (f x) ≡ own x) where
+  pub map-without : (test : K → Bool) (xs : List X) → map f (values_of (remove_entry test (entries own xs))) ≡ values_of (remove_entry test (entries seen (map f xs)))
+  map-without test [] = refl
+  map-without test (x ∷ xs) =
+      (elim (test (own x)) as (λ b. map f (values_of (cond b (entries own xs) ((own x, x) ∷ remove_entry test (entries own xs)))) ≡ values_of (cond b (entries seen (map f xs)) ((seen (f x), f x) ∷ remove_entry test (entries seen (map f xs))))) [
+        | true ↦ ap (map f) (values-entries own xs) ∙ sym (values-entries seen (map f xs))
+        | false ↦ ap (λ ys. f x ∷ ys) (map-without test xs)
+      ])
+      ∙ ap (λ k. values_of (cond (test k) (entries seen (map f xs)) ((seen (f x), f x) ∷ remove_entry test (entries seen (map f xs))))) (sym (same x))
+
+  pub lookup-map : (test : K → Bool) (xs : List X) → lookup test (entries seen (map f xs)) ≡ option_map f (lookup test (entries own xs))
+  lookup-map test [] = refl
+  lookup-map test (x ∷ xs) =
+      ap (λ k. cond (test k) (Some (f x)) (lookup test (entries seen (map f xs)))) (same x)
+      ∙ ap (cond (test (own x)) (Some (f x))) (lookup-map test xs)
+      ∙ (elim (test (own x)) as (λ b. cond b (Some (f x)) (option_map f (lookup test (entries own xs))) ≡ option_map f (cond b (Some x) (lookup test (entries own xs)))) [ true ↦ refl | false ↦ refl ])
+
+-- ---- twins
+twice : (o : Option Held) → option_map twin_of o ≡ option_map twin_view (option_map (λ (h : Held). h.twin) o)
+twice None = refl
+twice (Some h) = refl
+
+pub twin_seen : (h : Holding) (id : List ℕ) → twin_at id (state_of h) ≡ option_map twin_view (table.twin_at id h.twins)
+twin_seen h id = find-map twin_of (λ (t : Twin). bytes_eq t.id id) h.twins ∙ twice (table.held_at id h.twins)
+
+pub twin_kept : (id : List ℕ) (hs : List Held) → AllByRecursion IsHeldTwin hs → IfSome (table.twin_at id hs) (λ t. IsKeptTwin (twin_view t))
+twin_kept id hs all = by (table.held_at id hs) refl
+  where
+    by : (o : Option Held) → table.held_at id hs ≡ o → IfSome (option_map (λ (h : Held). h.twin) o) (λ t. IsKeptTwin (twin_view t))
+    by None e = tt
+    by (Some h) e = (all_at IsHeldTwin hs h all (found_passes (λ (g : Held). bytes_eq g.twin.id id) hs h e).1).kept
+
+pub twins_without : (id : List ℕ) (h : Holding) → state_of (holding h.models (table.without_held id h.twins) h.links) ≡ without_twin id (state_of h)
+twins_without id h =
+    ap (λ (ts : List Twin). record { models = h.models; twins = ts; links = map link_of h.links })
+    (map-without table.id_of (λ (t : Twin). t.id) twin_of (λ g. refl) (is_at (C id)) h.twins)
+
+-- ---- relationships
+pub link_seen : (h : Holding) (source id : List ℕ) → link_at source id (state_of h) ≡ option_map link_of (edge_at source id h.links)
+link_seen h source id = lookup-map key key link_of (λ e. refl) (is_at (key_cmp (source, id))) h.links
+
+pub link_kept : (source id : List ℕ) (es : List (Edge Stored)) → AllByRecursion IsHeldLink es → IfSome (edge_at source id es) (λ e. IsKeptLink (link_of e))
+link_kept source id es all = by (edge_at source id es) refl
+  where
+    by : (o : Option (Edge Stored)) → edge_at source id es ≡ o → IfSome o (λ e. IsKeptLink (link_of e))
+    by None e = tt
+    by (Some l) e = (all_at IsHeldLink es l all (edge_there source id es l e).2).kept
+
+pub links_without : (source id : List ℕ) (h : Holding) → state_of (holding h.models h.twins (without_edge source id h.links)) ≡ after_drop_rel (state_of h) source id
+links_without source id h =
+    ap (λ (ls : List Link). record { models = h.models; twins = map twin_of h.twins; links = ls })
+    (map-without key key link_of (λ e. refl) (is_at (key_cmp (source, id))) h.links)

@@ -1,0 +1,22 @@
+use Rattle.std.proofs.Common.{◌≡◌, ◌∙◌, sym, ap, refl}
+use Rattle.graph_asks.specs.declared.ask.Ask.TheVariants as asks
+use Rattle.graph_steps.specs.Steps.{Allows, follows}
+use Rattle.graph_held.specs.Held.{state_of}
+use Rattle.graph_machine.proofs.Links.{no_twin_to_drop, had_twin}
+use Rattle.graph_machine.proofs.Told.{told}
+use Rattle.graph_machine.proofs.machine.Machine.drop_rel.Goals as goal
+
+pub drop_link-requires : goal.drop_link-requires
+drop_link-requires c = record { there = sym c.has_twin.ensures ∙ c.if-has_twin.true }
+
+pub returns-clause-allowed : goal.returns-clause-allowed
+returns-clause-allowed c =
+    told c.twin_not_found.result _ (Allows (state_of c.args.self.now) (asks.DropRel c.args.source.now c.args.id.now)) c.twin_not_found.ensures
+    (no_twin_to_drop (state_of c.args.self.now) c.args.source.now c.args.id.now (sym c.has_twin.ensures ∙ c.if-has_twin.false))
+
+pub returns-clause-follows : goal.returns-clause-follows
+returns-clause-follows c =
+    told c.twin_not_found.result _ (λ reply. state_of c.args.self.now ≡ follows (state_of c.args.self.now) (asks.DropRel c.args.source.now c.args.id.now) reply) c.twin_not_found.ensures refl
+
+pub returns-clause-free : goal.returns-clause-free
+returns-clause-free c = λ told_done. absurd (had_twin (state_of c.args.self.now) c.args.source.now c.args.id.now told_done (sym c.has_twin.ensures ∙ c.if-has_twin.false))

@@ -1,0 +1,5 @@
+use Rattle.graph_machine.proofs.Kept.{none_kept}
+use Rattle.graph_machine.proofs.machine.Machine.new.Goals as goal
+
+pub invariant_of-result : goal.invariant_of-result
+invariant_of-result c = rw (c.new.ensures, c.new-2.ensures, c.new-3.ensures, c.new-4.ensures) none_kept
