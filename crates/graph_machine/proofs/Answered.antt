@@ -25,7 +25,7 @@ use Rattle.model_life.specs.Refusals.{AreNew, IsFirstThere, PassesFirst, Refuses
 use Rattle.model_life.specs.declared.ends.MarkEnd.{MarkEnd}
 use Rattle.model_life.specs.declared.ends.MarkEnd.TheVariants as marks
 use Rattle.graph_steps.specs.States.{State, set_of}
-use Rattle.graph_steps.specs.ModelAsks.{model_value, mark_value, ModelExists, ModelFault, TwinDoesNotFit, RefusesPutModels, RefusesDropModel}
+use Rattle.graph_steps.specs.ModelAsks.{model_value, mark_value, ModelExists, ModelFault, ModelsFull, TwinDoesNotFit, RefusesPutModels, RefusesDropModel}
 use Rattle.graph_steps.specs.Steps.{Answers, changed, followed}
 use Rattle.graph_machine.proofs.Ascending.{Ascend}
 use Rattle.graph_machine.proofs.Uploads.{new_ones}
@@ -132,12 +132,19 @@ faulty s us index u rule spot new first is = inr (not_there s us new, inl (recor
 pub full : (s : State) (us : List Uploaded) (limit : Limit) → AreNew s.models us → IsSound (set_of s) us → PassesFirst (with_uploads us s.models) limit → RefusesPutModels s us (refusals.Full limit)
 full s us limit new sound passes = inr (not_there s us new, inr (not_broken s us sound, inl (limit, passes, refl)))
 
-pub brought : (s : State) (us : List Uploaded) → ((set : List Interface) (m n : ℕ) → AllTake set m → AllTake set n → m ≡ n) → Ascend s.models → AreNew s.models us → IsSound (set_of s) us
-    → AreWithinLimits (with_uploads us s.models) → ((r : Refusal) → TwinDoesNotFit s us r → ⊥) → Answers s (asks.PutModels us) (created (array (elements_of (map mark_value (with_uploads us [])))))
-brought s us one up new sound within fit = inr ((λ r. refuse r), ap (λ ns. created (array (elements_of (map mark_value ns)))) (sym (new_ones s.models us new up)))
-  where
-    refuse : (r : Refusal) → RefusesPutModels s us r → ⊥
-    refuse r (inl h) = not_there s us new r h
-    refuse r (inr (a, inl h)) = not_broken s us sound r h
-    refuse r (inr (a, inr (b, inl (limit, passes, e)))) = passes_none (with_uploads us s.models) one within limit passes
-    refuse r (inr (a, inr (b, inr (c, h)))) = fit r h
+module _ (s : State) (us : List Uploaded) (one : (set : List Interface) (m n : ℕ) → AllTake set m → AllTake set n → m ≡ n) (new : AreNew s.models us) (sound : IsSound (set_of s) us)
+    (within : AreWithinLimits (with_uploads us s.models)) where
+  not_full : (r : Refusal) → ModelsFull s us r → ⊥
+  not_full r (limit, passes, e) = passes_none (with_uploads us s.models) one within limit passes
+
+  pub misfit : (r : Refusal) → TwinDoesNotFit s us r → RefusesPutModels s us r
+  misfit r h = inr (not_there s us new, inr (not_broken s us sound, inr (not_full, h)))
+
+  pub uploads_free : ((r : Refusal) → TwinDoesNotFit s us r → ⊥) → (r : Refusal) → RefusesPutModels s us r → ⊥
+  uploads_free fit r (inl h) = not_there s us new r h
+  uploads_free fit r (inr (a, inl h)) = not_broken s us sound r h
+  uploads_free fit r (inr (a, inr (b, inl h))) = not_full r h
+  uploads_free fit r (inr (a, inr (b, inr (c, h)))) = fit r h
+
+pub brought : (s : State) (us : List Uploaded) → Ascend s.models → AreNew s.models us → ((r : Refusal) → RefusesPutModels s us r → ⊥) → Answers s (asks.PutModels us) (created (array (elements_of (map mark_value (with_uploads us [])))))
+brought s us up new free = inr (free, ap (λ ns. created (array (elements_of (map mark_value ns)))) (sym (new_ones s.models us new up)))
