@@ -31,10 +31,6 @@ use Rattle.graph_held.specs.declared.stored.Stored.{Stored}
 
 -- ---- lists
 module _ {X Y : Type 0} (f : X → Y) where
-  pub same_length : (xs : List X) → length (map f xs) ≡ length xs
-  same_length [] = refl
-  same_length (x ∷ xs) = ap (λ n. suc n) (same_length xs)
-
   pub find-map : (p : Y → Bool) (xs : List X) → find p (map f xs) ≡ option_map f (find (λ x. p (f x)) xs)
   find-map p [] = refl
   find-map p (x ∷ xs) =

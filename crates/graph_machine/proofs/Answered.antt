@@ -148,3 +148,19 @@ module _ (s : State) (us : List Uploaded) (one : (set : List Interface) (m n : �
 
 pub brought : (s : State) (us : List Uploaded) → Ascend s.models → AreNew s.models us → ((r : Refusal) → RefusesPutModels s us r → ⊥) → Answers s (asks.PutModels us) (created (array (elements_of (map mark_value (with_uploads us [])))))
 brought s us up new free = inr (free, ap (λ ns. created (array (elements_of (map mark_value ns)))) (sym (new_ones s.models us new up)))
+
+-- ---- models that do not come, from what is known of the models alone
+module _ (s : State) (ms : List Model) (us : List Uploaded) (same : s.models ≡ ms) where
+  pub exists_in : (index : ℕ) (u : Uploaded) → IsFirstThere ms us index → slice_get us index ≡ Some u → RefusesPutModels s us (refusals.ModelExists (dtmi_text u.interface.id))
+  exists_in index u first is = exists s us index u (subst (λ (x : List Model). IsFirstThere x us index) (sym same) first) is
+
+  pub faulty_in : (index : ℕ) (u : Uploaded) (rule : SetRule) (spot : Spot) → AreNew ms us × IsFirstBreach (interfaces_of ms) us (record { index = index; rule = rule; spot = spot }) → slice_get us index ≡ Some u
+      → RefusesPutModels s us (refusals.ModelFault (places.Pointer (u.base ++ spot_text u.parents_as_text spot)) (rule_code rule))
+  faulty_in index u rule spot both is =
+      let h = subst (λ (x : List Model). AreNew x us × IsFirstBreach (interfaces_of x) us (record { index = index; rule = rule; spot = spot })) (sym same) both in
+      faulty s us index u rule spot h.0 h.1 is
+
+  pub full_in : (limit : Limit) → AreNew ms us × IsSound (interfaces_of ms) us × PassesFirst (with_uploads us ms) limit → RefusesPutModels s us (refusals.Full limit)
+  full_in limit all =
+      let h = subst (λ (x : List Model). AreNew x us × IsSound (interfaces_of x) us × PassesFirst (with_uploads us x) limit) (sym same) all in
+      full s us limit h.0 h.1 h.2
