@@ -1,5 +1,5 @@
 -- Look-ups and changes of what a machine holds are those of its state.
-use Rattle.std.proofs.Common.{◌≡◌, ℕ, suc, ◌+◌, List, [], ◌∷◌, map, length, sum, Bool, true, false, cond, Option, Some, None, IfSome, refl, sym, ap, ◌∙◌, subst, Ordering, Less, Equal, Greater}
+use Rattle.std.proofs.Common.{◌≡◌, ℕ, ◌+◌, List, [], ◌∷◌, map, length, sum, Bool, true, false, cond, Option, Some, None, IfSome, refl, sym, ap, ◌∙◌, subst, Ordering, Less, Equal, Greater}
 use Rattle.std.specs.Prelude.{bytes_eq}
 use Rattle.std.specs.Option.{option_map}
 use Rattle.std.specs.List.{AllByRecursion, filter, find, sum_by}
@@ -26,7 +26,7 @@ use Rattle.std.proofs.lemmas.Option.{same_Some}
 use Rattle.graph_laws.proofs.Edges.{edge_there}
 use Rattle.graph_laws.proofs.Keyed.{entries, values-entries}
 use Rattle.graph_laws.proofs.Lists.{all_at, found_passes}
-use Rattle.graph_held.specs.Held.{Holding, holding, twin_of, link_of, state_of, link_bytes, IsHeldTwin, IsHeldLink, IsHeldRight}
+use Rattle.graph_held.specs.Held.{Holding, holding, twin_of, link_of, state_of, IsHeldTwin, IsHeldLink, IsHeldRight}
 use Rattle.graph_held.specs.declared.stored.Stored.{Stored}
 
 -- ---- lists

@@ -1,4 +1,4 @@
-use Rattle.std.proofs.Common.{◌∙◌, sym, ap}
+use Rattle.std.proofs.Common.{◌∙◌, ap}
 use Rattle.dtdl_terms.specs.Sets.{interface_at}
 use Rattle.graph_steps.specs.States.{interface_of}
 use Rattle.graph_held.specs.Held.{state_of}
