@@ -11,6 +11,7 @@ mod get_model;
 mod get_part;
 mod get_rel;
 mod get_twin;
+mod growing;
 mod list_in;
 mod list_models;
 mod list_out;
@@ -26,6 +27,5 @@ mod put_rel;
 mod put_twin;
 mod rows;
 mod trees;
-mod uploads;
 
 pub use machine::{Counts, Machine};

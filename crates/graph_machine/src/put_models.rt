@@ -15,7 +15,7 @@ ghost use Rattle.graph_machine.specs.Machinery.Marks.{id_text_of, unmarked};
 use crate::answers::failed;
 use crate::machine::Machine;
 use crate::trees::mark_tree;
-use crate::uploads::models_come;
+use crate::growing::models_come;
 use dt_base::{List, OutOfMemory};
 use dtdl_terms::Uploaded;
 use dtmi_name::Dtmi;

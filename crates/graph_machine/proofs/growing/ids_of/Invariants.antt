@@ -1,5 +1,5 @@
 use Rattle.std.proofs.Common.{◌≡◌, ◌++◌, map, drop}
-use Rattle.graph_machine.proofs.uploads.ids_of.Given as goal
+use Rattle.graph_machine.proofs.growing.ids_of.Given as goal
 
 -- the identifiers so far, and those that are still to come
 abbrev pub invariant-new : goal.invariant-new

@@ -145,7 +145,7 @@ pub(crate) fn models_come(
         Ok(None) => Ok(()),
         Ok(Some(id)) => {
             give_back(models, resolutions, ids.as_slice());
-            Err(BodyFailure::Refused(Refusal::TwinDoesNotFit { id }))
+            Err(BodyFailure::Refused(Refusal::TwinDoesNotFit { twin: id }))
         }
         Err(_) => {
             give_back(models, resolutions, ids.as_slice());
