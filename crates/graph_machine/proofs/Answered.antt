@@ -25,7 +25,7 @@ use Rattle.model_life.specs.Refusals.{AreNew, IsFirstThere, PassesFirst, Refuses
 use Rattle.model_life.specs.declared.ends.MarkEnd.{MarkEnd}
 use Rattle.model_life.specs.declared.ends.MarkEnd.TheVariants as marks
 use Rattle.graph_steps.specs.States.{State, set_of}
-use Rattle.graph_steps.specs.ModelAsks.{model_value, mark_value, ModelExists, ModelFault, TwinDoesNotFit, RefusesPutModels, RefusesDropModel}
+use Rattle.graph_steps.specs.ModelAsks.{model_value, mark_value, ModelExists, ModelFault, ModelsFull, TwinDoesNotFit, RefusesPutModels, RefusesDropModel}
 use Rattle.graph_steps.specs.Steps.{Answers, changed, followed}
 use Rattle.graph_machine.proofs.Ascending.{Ascend}
 use Rattle.graph_machine.proofs.Uploads.{new_ones}
@@ -132,12 +132,35 @@ faulty s us index u rule spot new first is = inr (not_there s us new, inl (recor
 pub full : (s : State) (us : List Uploaded) (limit : Limit) → AreNew s.models us → IsSound (set_of s) us → PassesFirst (with_uploads us s.models) limit → RefusesPutModels s us (refusals.Full limit)
 full s us limit new sound passes = inr (not_there s us new, inr (not_broken s us sound, inl (limit, passes, refl)))
 
-pub brought : (s : State) (us : List Uploaded) → ((set : List Interface) (m n : ℕ) → AllTake set m → AllTake set n → m ≡ n) → Ascend s.models → AreNew s.models us → IsSound (set_of s) us
-    → AreWithinLimits (with_uploads us s.models) → ((r : Refusal) → TwinDoesNotFit s us r → ⊥) → Answers s (asks.PutModels us) (created (array (elements_of (map mark_value (with_uploads us [])))))
-brought s us one up new sound within fit = inr ((λ r. refuse r), ap (λ ns. created (array (elements_of (map mark_value ns)))) (sym (new_ones s.models us new up)))
-  where
-    refuse : (r : Refusal) → RefusesPutModels s us r → ⊥
-    refuse r (inl h) = not_there s us new r h
-    refuse r (inr (a, inl h)) = not_broken s us sound r h
-    refuse r (inr (a, inr (b, inl (limit, passes, e)))) = passes_none (with_uploads us s.models) one within limit passes
-    refuse r (inr (a, inr (b, inr (c, h)))) = fit r h
+module _ (s : State) (us : List Uploaded) (one : (set : List Interface) (m n : ℕ) → AllTake set m → AllTake set n → m ≡ n) (new : AreNew s.models us) (sound : IsSound (set_of s) us)
+    (within : AreWithinLimits (with_uploads us s.models)) where
+  not_full : (r : Refusal) → ModelsFull s us r → ⊥
+  not_full r (limit, passes, e) = passes_none (with_uploads us s.models) one within limit passes
+
+  pub misfit : (r : Refusal) → TwinDoesNotFit s us r → RefusesPutModels s us r
+  misfit r h = inr (not_there s us new, inr (not_broken s us sound, inr (not_full, h)))
+
+  pub uploads_free : ((r : Refusal) → TwinDoesNotFit s us r → ⊥) → (r : Refusal) → RefusesPutModels s us r → ⊥
+  uploads_free fit r (inl h) = not_there s us new r h
+  uploads_free fit r (inr (a, inl h)) = not_broken s us sound r h
+  uploads_free fit r (inr (a, inr (b, inl h))) = not_full r h
+  uploads_free fit r (inr (a, inr (b, inr (c, h)))) = fit r h
+
+pub brought : (s : State) (us : List Uploaded) → Ascend s.models → AreNew s.models us → ((r : Refusal) → RefusesPutModels s us r → ⊥) → Answers s (asks.PutModels us) (created (array (elements_of (map mark_value (with_uploads us [])))))
+brought s us up new free = inr (free, ap (λ ns. created (array (elements_of (map mark_value ns)))) (sym (new_ones s.models us new up)))
+
+-- ---- models that do not come, from what is known of the models alone
+module _ (s : State) (ms : List Model) (us : List Uploaded) (same : s.models ≡ ms) where
+  pub exists_in : (index : ℕ) (u : Uploaded) → IsFirstThere ms us index → slice_get us index ≡ Some u → RefusesPutModels s us (refusals.ModelExists (dtmi_text u.interface.id))
+  exists_in index u first is = exists s us index u (subst (λ (x : List Model). IsFirstThere x us index) (sym same) first) is
+
+  pub faulty_in : (index : ℕ) (u : Uploaded) (rule : SetRule) (spot : Spot) → AreNew ms us × IsFirstBreach (interfaces_of ms) us (record { index = index; rule = rule; spot = spot }) → slice_get us index ≡ Some u
+      → RefusesPutModels s us (refusals.ModelFault (places.Pointer (u.base ++ spot_text u.parents_as_text spot)) (rule_code rule))
+  faulty_in index u rule spot both is =
+      let h = subst (λ (x : List Model). AreNew x us × IsFirstBreach (interfaces_of x) us (record { index = index; rule = rule; spot = spot })) (sym same) both in
+      faulty s us index u rule spot h.0 h.1 is
+
+  pub full_in : (limit : Limit) → AreNew ms us × IsSound (interfaces_of ms) us × PassesFirst (with_uploads us ms) limit → RefusesPutModels s us (refusals.Full limit)
+  full_in limit all =
+      let h = subst (λ (x : List Model). AreNew x us × IsSound (interfaces_of x) us × PassesFirst (with_uploads us x) limit) (sym same) all in
+      full s us limit h.0 h.1 h.2

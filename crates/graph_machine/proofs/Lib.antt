@@ -8,3 +8,5 @@ pub mod Twins
 pub mod Links
 pub mod Least
 pub mod Pages
+pub mod Brought
+pub mod Taken

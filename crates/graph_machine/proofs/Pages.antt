@@ -1,5 +1,8 @@
 -- The relationships that decide pages, and the pages that they decide.
-use Rattle.std.proofs.Common.{◌≡◌, ℕ, zero, suc, Bor, List, [], ◌∷◌, map, take, Bool, true, Option, Some, None, refl, sym, ap, ◌∙◌, subst}
+use Rattle.std.proofs.Common.{◌≡◌, ◌≤◌, ℕ, zero, suc, Bor, List, [], ◌∷◌, ◌++◌, map, take, length, Bool, true, Option, Some, None, refl, sym, ap, ◌∙◌, subst}
+use Rattle.std.proofs.Math.Seq.{take-append_seam}
+use Rattle.std.proofs.lemmas.List.{append-nil, length-map}
+use Rattle.twin_value.proofs.Enumerated.{take-whole}
 use Rattle.std.specs.List.{AllByRecursion, filter}
 use Rattle.json_tree.specs.Values.{Json}
 use Rattle.json_tree.specs.View.{view}
@@ -109,3 +112,14 @@ pub rows_on_page : (key : Link → List (List ℕ)) (first : Firsts)
 rows_on_page key first =
     sym (map-take (λ (e : List (List ℕ) × Json). e.1) 100 (map (λ (e : Bor (Edge Stored)). (key (link_of e.now), link_value (link_of e.now))) first)
     ∙ ap (take 100) (map-both (λ (e : Bor (Edge Stored)). (key (link_of e.now), link_value (link_of e.now))) (λ (e : List (List ℕ) × Json). e.1) first))
+
+-- ---- its rows
+-- as many as a page has at most were printed, or all
+pub first_page : {X Y Z : Type 0} (f : X → Z) (g : Y → Z) (trees : List X) (rest whole : List Y) → map f trees ++ map g rest ≡ map g whole → length trees ≡ 100 → map f trees ≡ take 100 (map g whole)
+first_page f g trees rest whole is full =
+    sym (take-append_seam (map f trees) (map g rest)) ∙ ap (λ n. take n (map f trees ++ map g rest)) (length-map trees f ∙ full) ∙ ap (take 100) is
+
+pub whole_page : {X Y Z : Type 0} (f : X → Z) (g : Y → Z) (trees : List X) (rest whole : List Y) → map f trees ++ map g rest ≡ map g whole → rest ≡ [] → length trees ≤ 100 → map f trees ≡ take 100 (map g whole)
+whole_page f g trees rest whole is none few =
+    sym (take-whole (map f trees) 100 (subst (λ n. n ≤ 100) (sym (length-map trees f)) few))
+    ∙ ap (take 100) (sym (append-nil (map f trees)) ∙ ap (λ r. map f trees ++ map g r) (sym none) ∙ is)

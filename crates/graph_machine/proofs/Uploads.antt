@@ -110,7 +110,7 @@ keeps_all old (u ∷ us) ms new up =
     ∙ ap (with_models us) (keeps_one old u.interface ms (ap is_none new.0) up)
 
 -- No model that is there is new.
-known : (ms : List Model) → AllByRecursion (λ m. is_new ms m ≡ false) ms
+pub known : (ms : List Model) → AllByRecursion (λ m. is_new ms m ≡ false) ms
 known [] = tt
 known (m ∷ ms) = (
   ap (λ o. is_none (cond (is_eq o) (Some m) (model_at m.interface.id ms))) (alike (dtmi_text m.interface.id)),

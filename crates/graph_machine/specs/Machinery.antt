@@ -1,3 +1,4 @@
 pub mod Marks
 pub mod Least
 pub mod Listings
+pub mod Brought

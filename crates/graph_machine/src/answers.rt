@@ -2,10 +2,12 @@
 
 ghost use Rattle.std.specs.Prelude.{◌≡◌, IfOk};
 ghost use Rattle.dtmi_name.specs.Grammar.{dtmi_text};
+ghost use Rattle.graph_asks.specs.declared.refusal.Refusal.{Refusal as Refusals};
 
 use dt_base::{OutOfMemory, Text};
 use dtmi_name::Dtmi;
 use graph_asks::{Refusal, Reply};
+use graph_bodies::BodyFailure;
 use std::alloc::Global;
 
 /// The text of an identifier.
@@ -49,4 +51,14 @@ pub(crate) fn component_not_found(alloc: Global, name: &Text) -> Result<Reply, O
     Ok(Reply::Refused(Refusal::ComponentNotFound {
         id: name.copy(alloc)?,
     }))
+}
+
+/// What is answered where a judge lets nothing come: its refusal, unless memory is wanting.
+pub(crate) fn failed(failure: BodyFailure) -> Result<Reply, OutOfMemory>
+    ensures { IfOk result (λ reply. (r : Refusals) × (failure ≡ BodyFailure.Refused r) × (reply ≡ Reply.Refused r)) }
+{
+    match failure {
+        BodyFailure::Refused(refusal) => Ok(Reply::Refused(refusal)),
+        BodyFailure::OutOfMemory => Err(OutOfMemory),
+    }
 }

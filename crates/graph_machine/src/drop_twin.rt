@@ -1,6 +1,6 @@
 //! The ask that lets a twin go.
 
-ghost use Rattle.std.specs.Prelude.{◌≡◌, IfOk, IsOk, OnErr, None, Some, true};
+ghost use Rattle.std.specs.Prelude.{◌≡◌, IfOk, IsOk, OnErr, None, Some, slice_get, true};
 ghost use Rattle.std.specs.List.{find};
 ghost use Rattle.std.specs.Option.{is_some, option_copied, option_map};
 ghost use Rattle.std.specs.Ordering.{is_lt};
@@ -16,7 +16,7 @@ use crate::machine::Machine;
 use graph_held::Stored;
 use dt_base::{OutOfMemory, Text};
 use graph_asks::{Ask, Refusal, Reply};
-use rel_graph::{Edge, Rels};
+use rel_graph::{Edge, Listing, Rels};
 use std::alloc::Global;
 use std::cmp::Ordering;
 
@@ -48,6 +48,13 @@ fn least_of<'a>(
         return into;
     }
     out
+}
+
+/// The first relationship of a listing.
+fn first_of<'a, K>(mut listing: Listing<'a, K, Stored>) -> Option<&'a Edge<Stored>>
+    ensures { option_copied result ≡ slice_get listing.entry 0 }
+{
+    listing.next()
 }
 
 /// A twin is an end of this relationship.
@@ -94,9 +101,9 @@ impl Machine {
         ensures { option_map link_of (option_copied result) ≡ find (is_end id.now) (state_of self.now).links }
     {
         let _many = self.links.len();
-        let mut out = self.links.out(id);
-        let mut into = Rels::into(&self.links, id);
-        least_of(out.next(), into.next())
+        let out = first_of(self.links.out(id));
+        let into = first_of(Rels::into(&self.links, id));
+        least_of(out, into)
     }
 
     /// Takes out a twin that is an end of no relationship. Takes no memory.

@@ -7,10 +7,10 @@ ghost use Rattle.graph_steps.specs.Steps.{Allows, follows};
 ghost use Rattle.graph_held.specs.Held.{state_of};
 
 use crate::answers::{link_not_found, twin_not_found};
-use crate::looking::stored_tree;
 use crate::machine::Machine;
 use dt_base::{OutOfMemory, Text};
 use graph_asks::{Ask, Reply};
+use graph_held::stored_tree;
 
 impl Machine {
     /// A relationship, as it is printed; refused where its source is not there, and where this has no such relationship.

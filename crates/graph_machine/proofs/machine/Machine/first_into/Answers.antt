@@ -20,7 +20,7 @@ pub returns-clause-kept : goal.returns-clause-kept
 returns-clause-kept c =
     weaker c.first_called.result _ _ (λ first is.
     kept_into c.args.target.now c.args.after.now c.args.self.now.links first.items
-    (subst (λ g. AllByRecursion IsHeldLink g.links) c.self.view_is c.self.invariant.links)
+    (subst (λ g. AllByRecursion IsHeldLink g.links) c.self.view_is c.self.invariant.held.links)
     (is
     ∙ ap (λ l. take 101 (filter (rows.is_called None) l)) c.all_into.ensures))
     c.first_called.ensures

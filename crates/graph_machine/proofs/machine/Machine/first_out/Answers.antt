@@ -22,7 +22,7 @@ pub returns-clause-kept : goal.returns-clause-kept
 returns-clause-kept c =
     weaker c.first_called.result _ _ (λ first is.
     kept_out c.args.source.now c.args.name.now c.args.after.now c.args.self.now.links first.items
-    (subst (λ g. AllByRecursion IsHeldLink g.links) c.self.view_is c.self.invariant.links)
+    (subst (λ g. AllByRecursion IsHeldLink g.links) c.self.view_is c.self.invariant.held.links)
     (is
     ∙ ap (λ l. take 101 (filter (rows.is_called (option_copied c.as_ref.result)) l)) c.all_out.ensures
     ∙ ap (λ n. take 101 (filter (rows.is_called n) (raw_out c.args.source.now c.args.after.now c.args.self.now.links))) c.as_ref.ensures.value))

@@ -13,4 +13,4 @@ returns-clause-at c =
     ∙ ap (λ g. link_at c.args.source.now c.args.id.now (state_of g)) c.self.view_is
 
 pub returns-clause-kept : goal.returns-clause-kept
-returns-clause-kept c = subst (λ o. IfSome o (λ e. IsKeptLink (link_of e))) (sym c.get.ensures) (link_kept c.args.source.now c.args.id.now c.self.inside.links c.self.invariant.links)
+returns-clause-kept c = subst (λ o. IfSome o (λ e. IsKeptLink (link_of e))) (sym c.get.ensures) (link_kept c.args.source.now c.args.id.now c.self.inside.links c.self.invariant.held.links)

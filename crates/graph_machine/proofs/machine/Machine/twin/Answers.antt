@@ -13,4 +13,4 @@ returns-clause-at c =
     ∙ ap (λ g. twin_at c.args.id.now (state_of g)) c.self.view_is
 
 pub returns-clause-kept : goal.returns-clause-kept
-returns-clause-kept c = subst (λ o. IfSome o (λ t. IsKeptTwin (twin_view t))) (sym c.get.ensures) (twin_kept c.args.id.now c.self.inside.twins c.self.invariant.twins)
+returns-clause-kept c = subst (λ o. IfSome o (λ t. IsKeptTwin (twin_view t))) (sym c.get.ensures) (twin_kept c.args.id.now c.self.inside.twins c.self.invariant.held.twins)

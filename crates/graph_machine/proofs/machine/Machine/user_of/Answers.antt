@@ -1,12 +1,12 @@
-use Rattle.std.proofs.Common.{◌≡◌, ◌∙◌, sym, ap}
+use Rattle.std.proofs.Common.{◌∙◌, sym, ap}
 use Rattle.std.specs.Prelude.{slice_get}
 use Rattle.std.specs.List.{find}
 use Rattle.std.specs.Option.{option_map, option_copied}
-use Rattle.rel_graph.specs.Edges.{out_of, into_of}
+use Rattle.rel_graph.specs.Edges.{out_of}
 use Rattle.graph_steps.specs.States.{is_end}
 use Rattle.graph_held.specs.Held.{state_of, link_of}
 use Rattle.graph_machine.specs.Machinery.Least.{least_of}
-use Rattle.graph_machine.proofs.Least.{least_first, first_given}
+use Rattle.graph_machine.proofs.Least.{least_first}
 use Rattle.graph_held.proofs.Viewed.{find-map}
 use Rattle.graph_machine.proofs.machine.Machine.user_of.Goals as goal
 
@@ -14,12 +14,10 @@ pub returns : goal.returns
 returns c =
     let es = c.self.inside.links in
     let id = c.args.id.now in
-    let out : option_copied c.next.result ≡ slice_get (out_of id es) 0 = first_given _ _ c.next.result c.next.ensures ∙ ap (λ l. slice_get l 0) c.out.ensures in
-    let into : option_copied c.next-2.result ≡ slice_get (into_of id es) 0 = first_given _ _ c.next-2.result c.next-2.ensures ∙ ap (λ l. slice_get l 0) c.into.ensures in
     ap (option_map link_of)
     (c.least_of.ensures
-    ∙ ap (λ o. least_of o (option_copied c.next-2.result)) out
-    ∙ ap (λ o. least_of (slice_get (out_of id es) 0) o) into
+    ∙ ap (λ o. least_of o (option_copied c.first_of-2.result)) (c.first_of.ensures ∙ ap (λ l. slice_get l 0) c.out.ensures)
+    ∙ ap (λ o. least_of (slice_get (out_of id es) 0) o) (c.first_of-2.ensures ∙ ap (λ l. slice_get l 0) c.into.ensures)
     ∙ sym (least_first id es c.len.ensures.ordered))
     ∙ sym (find-map link_of (is_end id) es)
     ∙ ap (λ g. find (is_end id) (state_of g).links) c.self.view_is
