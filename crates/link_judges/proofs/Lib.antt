@@ -1,8 +1,8 @@
 pub mod Contained
 pub mod Glued
-pub mod Limits
+pub mod Passed
 pub mod Counts
-pub mod Targets
-pub mod Contents
-pub mod Putting
-pub mod Patching
+pub mod Suited
+pub mod Declared
+pub mod Puts
+pub mod Patches

@@ -5,7 +5,7 @@ use Rattle.graph_steps.specs.LinkAsks.{Multiplicity, WrongTarget}
 use Rattle.graph_bodies.specs.Kept.{link_view}
 use Rattle.graph_held.specs.Held.{state_of}
 use Rattle.link_judges.specs.Machinery.Refused.{RefusesDeclared, Tells}
-use Rattle.link_judges.proofs.Contents.{none_declared}
+use Rattle.link_judges.proofs.Declared.{none_declared}
 use Rattle.link_judges.proofs.Glued.{told_first, told_later}
 use Rattle.link_judges.proofs.contents.content_refusal.Goals as goal
 

@@ -1,7 +1,7 @@
 use Rattle.std.proofs.Common.{◌≡◌, ◌∙◌, sym, ap}
 use Rattle.std.specs.Option.{option_copied}
 use Rattle.rel_graph.specs.Edges.{edge_at}
-use Rattle.link_judges.proofs.Limits.{size_there, size_none}
+use Rattle.link_judges.proofs.Passed.{size_there, size_none}
 use Rattle.link_judges.proofs.limits.bytes_at.Goals as goal
 
 pub returns-in-Some : goal.returns-in-Some

@@ -3,7 +3,7 @@ use Rattle.std.specs.Option.{option_copied, option_map}
 use Rattle.std.proofs.lemmas.List.{length-map}
 use Rattle.graph_bodies.specs.Kept.{link_view}
 use Rattle.graph_held.specs.Held.{link_of, state_of}
-use Rattle.link_judges.proofs.Limits.{links_over, links_new}
+use Rattle.link_judges.proofs.Passed.{links_over, links_new}
 use Rattle.link_judges.proofs.limits.links_with.Goals as goal
 
 pub returns-in-Some : goal.returns-in-Some

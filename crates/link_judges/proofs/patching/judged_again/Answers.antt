@@ -10,7 +10,7 @@ use Rattle.graph_held.specs.Held.{link_of, state_of}
 use Rattle.link_judges.specs.Judged.{Unrefused}
 use Rattle.link_judges.specs.declared.new_link.NewLink.{NewLink}
 use Rattle.link_judges.proofs.Glued.{first_fails, later}
-use Rattle.link_judges.proofs.Putting.{no_fault}
+use Rattle.link_judges.proofs.Puts.{no_fault}
 use Rattle.link_judges.proofs.patching.judged_again.Goals as goal
 
 pub returns-in-Ok-clause-judged : goal.returns-in-Ok-clause-judged

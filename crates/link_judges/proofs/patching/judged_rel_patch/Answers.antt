@@ -11,8 +11,8 @@ use Rattle.graph_bodies.specs.Kept.{twin_view, IsKeptLink}
 use Rattle.graph_held.specs.Held.{link_of, state_of}
 use Rattle.link_judges.specs.declared.new_link.NewLink.{NewLink}
 use Rattle.link_judges.proofs.Glued.{refused_by}
-use Rattle.link_judges.proofs.Patching.{key_patched, link_missing, patch_judged, source_frozen, source_missing}
-use Rattle.link_judges.proofs.Targets.{own_there}
+use Rattle.link_judges.proofs.Patches.{key_patched, link_missing, patch_judged, source_frozen, source_missing}
+use Rattle.link_judges.proofs.Suited.{own_there}
 use Rattle.link_judges.proofs.patching.judged_rel_patch.Goals as goal
 
 pub returns-in_default-clause-judged : goal.returns-in_default-clause-judged

@@ -8,7 +8,7 @@ use Rattle.graph_steps.specs.States.{link_object, link_value}
 use Rattle.graph_bodies.proofs.Keys.{sorted_again}
 use Rattle.graph_held.specs.Held.{link_of, state_of}
 use Rattle.link_judges.specs.declared.new_link.NewLink.{NewLink}
-use Rattle.link_judges.proofs.Patching.{fault_so, patched_so}
+use Rattle.link_judges.proofs.Patches.{fault_so, patched_so}
 use Rattle.link_judges.proofs.patching.patched_link.Goals as goal
 
 pub patched-requires-clause-sorted : goal.patched-requires-clause-sorted

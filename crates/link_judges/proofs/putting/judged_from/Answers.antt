@@ -11,7 +11,7 @@ use Rattle.link_judges.specs.Judged.{Unrefused}
 use Rattle.link_judges.specs.Machinery.Refused.{RefusesEnds}
 use Rattle.link_judges.specs.declared.new_link.NewLink.{NewLink}
 use Rattle.link_judges.proofs.Glued.{first_fails, later}
-use Rattle.link_judges.proofs.Putting.{no_fault}
+use Rattle.link_judges.proofs.Puts.{no_fault}
 use Rattle.link_judges.proofs.putting.judged_from.Goals as goal
 
 pub returns-in-Ok-clause-judged : goal.returns-in-Ok-clause-judged

@@ -9,8 +9,8 @@ use Rattle.graph_bodies.specs.Kept.{twin_view}
 use Rattle.graph_held.specs.Held.{link_of, state_of}
 use Rattle.link_judges.specs.declared.new_link.NewLink.{NewLink}
 use Rattle.link_judges.proofs.Glued.{refused_by}
-use Rattle.link_judges.proofs.Putting.{key_of, put_judged, source_frozen, source_missing}
-use Rattle.link_judges.proofs.Targets.{own_there}
+use Rattle.link_judges.proofs.Puts.{key_of, put_judged, source_frozen, source_missing}
+use Rattle.link_judges.proofs.Suited.{own_there}
 use Rattle.link_judges.proofs.putting.judged_rel.Goals as goal
 
 pub returns-in_default-clause-judged : goal.returns-in_default-clause-judged

@@ -10,7 +10,7 @@ use Rattle.graph_held.specs.Held.{link_of, state_of}
 use Rattle.link_judges.specs.Machinery.Refused.{RefusesEnds, RefusesPlace}
 use Rattle.link_judges.specs.declared.new_link.NewLink.{NewLink}
 use Rattle.link_judges.proofs.Glued.{refused_by, later}
-use Rattle.link_judges.proofs.Putting.{has_source}
+use Rattle.link_judges.proofs.Puts.{has_source}
 use Rattle.link_judges.proofs.putting.leading.Goals as goal
 
 pub returns-in_default-clause-judged : goal.returns-in_default-clause-judged

@@ -9,7 +9,7 @@ use Rattle.graph_steps.specs.States.{interface_of, set_of}
 use Rattle.graph_bodies.specs.Kept.{twin_view}
 use Rattle.graph_held.specs.Held.{state_of}
 use Rattle.model_life.specs.Models.{interfaces_of}
-use Rattle.link_judges.proofs.Targets.{own_there}
+use Rattle.link_judges.proofs.Suited.{own_there}
 use Rattle.link_judges.proofs.targets.misses.Goals as goal
 
 pub is_model_a-requires-clause-rules : goal.is_model_a-requires-clause-rules

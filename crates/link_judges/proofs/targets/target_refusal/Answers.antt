@@ -3,7 +3,7 @@ use Rattle.std.specs.Option.{option_copied}
 use Rattle.graph_bodies.specs.Kept.{twin_view}
 use Rattle.graph_held.specs.Held.{state_of}
 use Rattle.graph_steps.specs.LinkAsks.{WrongTarget}
-use Rattle.link_judges.proofs.Targets.{no_target, missed, suits}
+use Rattle.link_judges.proofs.Suited.{no_target, missed, suits}
 use Rattle.link_judges.proofs.targets.target_refusal.Goals as goal
 
 pub returns-in_default : goal.returns-in_default

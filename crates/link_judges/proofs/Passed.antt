@@ -56,8 +56,8 @@ sum-put f e es o = sum_by-insert_entry f keys_total (keyed es) (key e) e (sorted
 abbrev text_size : Link → ℕ
 text_size l = length (link_text l)
 
-abbrev twin_size : Twin → ℕ
-twin_size t = length (twin_text t)
+abbrev each : Link → ℕ
+each l = 1
 
 module _ (s : State) (w : WellTyped s) (l : Link) where
   pub bytes_put : graph_bytes (with_link l s) + unwrap_or (option_map text_size (link_at l.source l.id s)) 0 ≡ graph_bytes s + length (link_text l)
@@ -67,9 +67,9 @@ module _ (s : State) (w : WellTyped s) (l : Link) where
       let old = sum-map text_size s.links in
       omega (arith, put, new, old)
 
-  links_put : length (with_link l s).links + unwrap_or (option_map (λ (x : Link). 1) (link_at l.source l.id s)) 0 ≡ length s.links + 1
+  links_put : length (with_link l s).links + unwrap_or (option_map each (link_at l.source l.id s)) 0 ≡ length s.links + 1
   links_put =
-      let put = sum-put (λ (x : Link). 1) l s.links w.links in
+      let put = sum-put each l s.links w.links in
       let new = length_as_sum (with_edge l s.links) in
       let old = length_as_sum s.links in
       omega (arith, put, new, old)
@@ -77,13 +77,13 @@ module _ (s : State) (w : WellTyped s) (l : Link) where
   pub links_over : (old : Link) → link_at l.source l.id s ≡ Some old → length s.links ≡ length (with_link l s).links
   links_over old found =
       let put = links_put in
-      let one : unwrap_or (option_map (λ (x : Link). 1) (link_at l.source l.id s)) 0 ≡ 1 = ap (λ o. unwrap_or (option_map (λ (x : Link). 1) o) 0) found in
+      let one : unwrap_or (option_map each (link_at l.source l.id s)) 0 ≡ 1 = ap (λ o. unwrap_or (option_map each o) 0) found in
       omega (arith, put, one)
 
   pub links_new : link_at l.source l.id s ≡ None → length s.links + 1 ≡ length (with_link l s).links
   links_new none =
       let put = links_put in
-      let zero_there : unwrap_or (option_map (λ (x : Link). 1) (link_at l.source l.id s)) 0 ≡ 0 = ap (λ o. unwrap_or (option_map (λ (x : Link). 1) o) 0) none in
+      let zero_there : unwrap_or (option_map each (link_at l.source l.id s)) 0 ≡ 0 = ap (λ o. unwrap_or (option_map each o) 0) none in
       omega (arith, put, zero_there)
 
 -- ---- what is kept of the size of a relationship

@@ -19,7 +19,7 @@ use Rattle.graph_laws.proofs.Rels.{from_twin}
 use Rattle.link_judges.specs.Judged.{Unrefused}
 use Rattle.link_judges.specs.Machinery.Refused.{IsPatched}
 use Rattle.link_judges.proofs.Glued.{fails_so}
-use Rattle.link_judges.proofs.Putting.{has_source, is_frozen, not_frozen}
+use Rattle.link_judges.proofs.Puts.{has_source, is_frozen, not_frozen}
 
 -- ---- the patch of one relationship
 module _ (s : State) (i : Interface) (l : Link) where
