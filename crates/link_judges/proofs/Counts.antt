@@ -126,8 +126,21 @@ module _ {P : Type 0} where
     count_else x e called = let with_none = count_with x false e called in omega (arith, with_none)
 
 -- the others of what is held are those of its state
-pub others_seen : (h : Holding) (source id name : List ℕ) → length (others_named (state_of h) source id name) ≡ length (filter (is_other source id name) h.links)
+others_seen : (h : Holding) (source id name : List ℕ) → length (others_named (state_of h) source id name) ≡ length (filter (is_other source id name) h.links)
 others_seen h source id name = ap length (filter-map link_of (is_other source id name) h.links) ∙ length-map (filter (is_other source id name) h.links) link_of
+
+module _ (h : Holding) (source id name : List ℕ) (es : List (Edge Stored)) (same : es ≡ h.links) (o : InOrder es) where
+  seen : length (filter (is_other source id name) es) ≡ length (others_named (state_of h) source id name)
+  seen = ap (λ (xs : List (Edge Stored)). length (filter (is_other source id name) xs)) same ∙ sym (others_seen h source id name)
+
+  pub held_free : edge_at source id es ≡ None → named source name es ≡ length (others_named (state_of h) source id name)
+  held_free none = count_free source id name es o none ∙ seen
+
+  pub held_same : (x : Edge Stored) → edge_at source id es ≡ Some x → bytes_eq x.name name ≡ true → named source name es ≡ length (others_named (state_of h) source id name) + 1
+  held_same x found called = count_same source id name es o x found called ∙ ap (λ n. n + 1) seen
+
+  pub held_else : (x : Edge Stored) → edge_at source id es ≡ Some x → bytes_eq x.name name ≡ false → named source name es ≡ length (others_named (state_of h) source id name)
+  held_else x found called = count_else source id name es o x found called ∙ seen
 
 -- ---- the refusal
 module _ (s : State) (c : ResolvedContent) (source id name : List ℕ) where

@@ -22,5 +22,5 @@ returns-clause-judged c =
     let s = state_of c.args.lent.now in
     let l = link_view c.args.link in
     let k = link_called c.args.link.name (contents (set_of s) c.args.interface.now) in
-    of_both (WrongTarget s k l.target) (Multiplicity s k l.source l.id l.name) (LinkFull (with_link l s) l) (subst (λ o. Tells (RefusesDeclared s k l) o) c.in-None.is c.in_ok-found.ensures.refusal)
+    of_both (WrongTarget s k l.target) (Multiplicity s k l.source l.id l.name) (LinkFull (with_link l s) l) (subst (λ o. Tells (RefusesDeclared s k l) o) c.in_default.is c.in_ok-found.ensures.refusal)
     (λ (new : NewLink). link_of new.edge ≡ l) c.admitted.result c.admitted.ensures.judged
