@@ -1,5 +1,5 @@
 -- Relationships of a source and a name, without the one that has an id.
-use Rattle.std.proofs.Common.{◌≡◌, ℕ, ◌+◌, ◌<◌, ◌≤◌, List, [], ◌∷◌, map, length, Bool, true, false, cond, not, ◌&&◌, bytes_eq, Option, Some, None, unwrap_or, refl, sym, ap, ◌∙◌, is_eq, arith}
+use Rattle.std.proofs.Common.{◌≡◌, ℕ, ◌+◌, ◌<◌, ◌≤◌, List, [], ◌∷◌, length, Bool, true, false, cond, not, ◌&&◌, bytes_eq, Option, Some, None, unwrap_or, refl, sym, ap, ◌∙◌, is_eq, arith}
 use Rattle.std.specs.Option.{option_map}
 use Rattle.std.specs.List.{AllByRecursion, filter, count_by, sum_by}
 use Rattle.std.specs.Map.{lookup, values_of}
@@ -11,19 +11,17 @@ use Rattle.std.proofs.lemmas.Map.Entries.{sum_by-remove_entry}
 use Rattle.std.proofs.lemmas.Option.{same_Some, none-some}
 use Rattle.std.proofs.lemmas.Slice.Eq.{bytes_eq-Decides}
 use Rattle.ordered_table.proofs.Kept.{all_by_lookups}
-use Rattle.ordered_table.proofs.Flat.{C}
 use Rattle.dtdl_terms.specs.TermViews.{kind_term}
 use Rattle.dtdl_terms.specs.declared.resolved.ResolvedContent.{ResolvedContent}
 use Rattle.rel_graph.specs.declared.edge.Edge.{Edge}
 use Rattle.rel_graph.specs.Edges.{key_cmp, key, keyed, InOrder, edge_at, without_edge, is_named, named}
 use Rattle.rel_graph.proofs.Tallies.{keys_total}
-use Rattle.graph_asks.specs.declared.refusal.Refusal.{Refusal}
 use Rattle.graph_asks.specs.declared.refusal.Refusal.TheVariants as refusals
 use Rattle.graph_steps.specs.LinkAsks.{Multiplicity, others_named}
-use Rattle.graph_steps.specs.States.{State, Link}
+use Rattle.graph_steps.specs.States.{State}
 use Rattle.graph_steps.specs.Typed.{most_of}
 use Rattle.graph_laws.proofs.Edges.{is_other, named_test, edge_there, in-order-without}
-use Rattle.graph_laws.proofs.Keyed.{sorted-keys, values-entries, at-without, tests}
+use Rattle.graph_laws.proofs.Keyed.{sorted-keys, values-entries, at-without}
 use Rattle.graph_held.specs.Held.{Holding, link_of, state_of}
 use Rattle.graph_held.specs.declared.stored.Stored.{Stored}
 use Rattle.graph_held.proofs.Viewed.{filter-map}
@@ -77,11 +75,10 @@ module _ {P : Type 0} where
 
     others_left : (ls : List (Edge P)) → AllByRecursion (λ (e : Edge P). is_eq (key_cmp (source, id) (key e)) ≡ false) ls → AllByRecursion (λ l. is_named (source, name) l ≡ is_other source id name l) ls
     others_left [] all = tt
-    others_left (l ∷ ls) all =
-        (
-          named_test source name l ∙ past_id (bytes_eq l.source source) (bytes_eq l.name name) (bytes_eq l.id id) (sym (both_eq source id l.source l.id) ∙ all.0),
-          others_left ls all.1,
-        )
+    others_left (l ∷ ls) all = (
+      named_test source name l ∙ past_id (bytes_eq l.source source) (bytes_eq l.name name) (bytes_eq l.id id) (sym (both_eq source id l.source l.id) ∙ all.0),
+      others_left ls all.1,
+    )
 
     -- the one with the id, where there is one, is no other
     not_other : (found : Option (Edge P)) → edge_at source id es ≡ found → unwrap_or (option_map (one (is_other source id name)) found) 0 ≡ 0

@@ -1,10 +1,7 @@
 -- Limits with one relationship more, or with one in the place of another.
-use Rattle.std.proofs.Common.{◌≡◌, ℕ, ◌+◌, ◌<◌, ◌≤◌, inl, inr, List, length, map, Option, Some, None, unwrap_or, refl, sym, ap, ◌∙◌, arith}
-use Rattle.std.specs.Prelude.{sum}
+use Rattle.std.proofs.Common.{◌≡◌, ℕ, ◌+◌, ◌<◌, ◌≤◌, inl, inr, List, length, Some, None, unwrap_or, refl, sym, ap, ◌∙◌, arith}
 use Rattle.std.specs.Option.{option_map}
 use Rattle.std.specs.List.{AllByRecursion, sum_by}
-use Rattle.std.specs.Map.{lookup}
-use Rattle.std.specs.BTreeMap.{is_at}
 use Rattle.std.proofs.lemmas.List.Sums.{sum-map}
 use Rattle.std.proofs.lemmas.Map.Entries.{sum_by-insert_entry}
 use Rattle.dtdl_terms.specs.declared.limit.Limit.TheVariants as limits
@@ -15,7 +12,7 @@ use Rattle.rel_graph.proofs.Steps.{length_as_sum}
 use Rattle.graph_asks.specs.declared.refusal.Refusal.{Refusal}
 use Rattle.graph_asks.specs.declared.refusal.Refusal.TheVariants as refusals
 use Rattle.graph_steps.specs.LinkAsks.{LinkFull, link_at, with_link}
-use Rattle.graph_steps.specs.States.{State, Twin, Link, twin_text, link_text, graph_bytes}
+use Rattle.graph_steps.specs.States.{State, Link, link_text, graph_bytes}
 use Rattle.graph_steps.specs.Typed.{WellTyped}
 use Rattle.graph_laws.proofs.Edges.{edge_there}
 use Rattle.graph_laws.proofs.Keyed.{sorted-keys, values-entries}

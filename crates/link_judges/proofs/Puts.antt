@@ -1,5 +1,5 @@
 -- A relationship that is put, from what is judged of it.
-use Rattle.std.proofs.Common.{◌≡◌, ℕ, inl, inr, List, Bool, true, false, true≢false, Option, Some, None, Result, Ok, Err, refl, sym, ap, ◌∙◌, subst}
+use Rattle.std.proofs.Common.{◌≡◌, ℕ, inl, inr, List, true≢false, Some, None, Result, Ok, Err, refl, sym, ap, ◌∙◌, subst}
 use Rattle.std.specs.Prelude.{MatchResult, IfOk}
 use Rattle.std.specs.Option.{is_some}
 use Rattle.std.proofs.lemmas.Option.{same_Some, none-some}
@@ -10,8 +10,7 @@ use Rattle.twin_value.specs.Breaches.{HasNoBreach}
 use Rattle.twin_value.specs.declared.code.BodyCode.{BodyCode}
 use Rattle.graph_asks.specs.declared.refusal.Refusal.{Refusal}
 use Rattle.graph_asks.specs.declared.refusal.Refusal.TheVariants as refusals
-use Rattle.graph_steps.specs.LinkAsks.{RefusesLink, RefusesPutRel, after_put_rel, interface_from, link_for, with_link}
-use Rattle.graph_steps.specs.Refusals.{or_else}
+use Rattle.graph_steps.specs.LinkAsks.{RefusesLink, RefusesPutRel, after_put_rel, link_for, with_link}
 use Rattle.graph_steps.specs.States.{State, Twin, Link, interface_of, twin_at, is_live}
 use Rattle.graph_steps.specs.TwinAsks.{TwinNotFound, Frozen, BodyFault}
 use Rattle.graph_bodies.specs.Bodies.{FailsBy}

@@ -1,16 +1,12 @@
 -- Targets that are what a content declares, or are not.
-use Rattle.std.proofs.Common.{◌≡◌, ℕ, List, Bool, true, false, true≢false, not, bytes_eq, Option, Some, None, refl, sym, ap, ◌∙◌, subst}
-use Rattle.std.specs.Prelude.{IsTrue}
+use Rattle.std.proofs.Common.{◌≡◌, ℕ, List, true, false, true≢false, Some, None, refl, sym, ap, ◌∙◌}
 use Rattle.std.proofs.lemmas.Option.{same_Some, none-some}
 use Rattle.dtmi_name.specs.Grammar.{Identifier, dtmi_text}
-use Rattle.dtdl_terms.specs.Sets.{interface_at}
 use Rattle.dtdl_terms.specs.TermViews.{kind_term}
 use Rattle.dtdl_terms.specs.declared.interface.Interface.{Interface}
 use Rattle.dtdl_terms.specs.declared.resolved.ResolvedContent.{ResolvedContent}
 use Rattle.model_resolve.proofs.Families.{stands}
-use Rattle.graph_asks.specs.declared.refusal.Refusal.{Refusal}
 use Rattle.graph_asks.specs.declared.refusal.Refusal.TheVariants as refusals
-use Rattle.graph_steps.specs.Inherited.{is_a}
 use Rattle.graph_steps.specs.LinkAsks.{WrongTarget, misses}
 use Rattle.graph_steps.specs.States.{State, Twin, set_of, interface_of, twin_at}
 use Rattle.graph_steps.specs.Typed.{target_of}

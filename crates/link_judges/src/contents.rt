@@ -71,13 +71,7 @@ fn content_refusal(
     if let Some(refusal) = target_refusal(lent, content, &link.target, twin)? {
         return Ok(Some(refusal));
     }
-    Ok(count_refusal(
-        lent,
-        content,
-        &link.source,
-        &link.id,
-        &link.name,
-    ))
+    Ok(count_refusal(lent, content, &link.source, &link.id, &link.name))
 }
 
 /// The refusal of a relationship to this twin by what an interface, which is the source's, declares of its name. Fails only

@@ -59,16 +59,7 @@ pub fn judged_rel(
     let Some(interface) = lent.interface(&twin.model) else {
         return Err(frozen(lent.alloc(), twin));
     };
-    judged_from(
-        lent,
-        resolutions,
-        interface,
-        source,
-        id,
-        name,
-        target,
-        tree,
-    )
+    judged_from(lent, resolutions, interface, source, id, name, target, tree)
 }
 
 /// The same out of a twin of this interface.
@@ -94,16 +85,7 @@ fn judged_from(
     ensures held { IfOk result (λ new. IsHeldLink new.edge) }
     ensures tree { IfOk result (λ new. view new.tree ≡ link_value (link_of new.edge)) }
 {
-    match judged_link(
-        lent,
-        resolutions,
-        source,
-        id,
-        name,
-        target,
-        interface,
-        tree,
-    ) {
+    match judged_link(lent, resolutions, source, id, name, target, interface, tree) {
         Ok(link) => leading(lent, resolutions, interface, link),
         Err(failure) => Err(failure),
     }

@@ -1,12 +1,11 @@
-use Rattle.std.proofs.Common.{◌≡◌, ◌∙◌, IfOk, Option, None, Some, sym, ap, subst}
+use Rattle.std.proofs.Common.{None, Some, sym, subst}
 use Rattle.std.specs.Option.{option_copied}
-use Rattle.dtdl_terms.specs.declared.resolved.ResolvedContent.{ResolvedContent}
 use Rattle.graph_steps.specs.LinkAsks.{Multiplicity, WrongTarget}
 use Rattle.graph_bodies.specs.Kept.{link_view}
 use Rattle.graph_held.specs.Held.{state_of}
 use Rattle.link_judges.specs.Machinery.Refused.{RefusesDeclared, Tells}
 use Rattle.link_judges.proofs.Declared.{none_declared}
-use Rattle.link_judges.proofs.Glued.{told_first, told_later}
+use Rattle.link_judges.proofs.Glued.{told_later}
 use Rattle.link_judges.proofs.contents.content_refusal.Goals as goal
 
 pub returns-in_default : goal.returns-in_default

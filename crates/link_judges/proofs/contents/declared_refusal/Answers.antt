@@ -1,4 +1,4 @@
-use Rattle.std.proofs.Common.{◌≡◌, ◌∙◌, ℕ, IfOk, List, Option, sym, ap, subst}
+use Rattle.std.proofs.Common.{◌∙◌, ℕ, IfOk, List, Option, sym, ap, subst}
 use Rattle.std.specs.Option.{option_copied}
 use Rattle.dtdl_terms.specs.declared.interface.Interface.{Interface}
 use Rattle.dtdl_terms.specs.declared.resolved.ResolvedContent.{ResolvedContent}

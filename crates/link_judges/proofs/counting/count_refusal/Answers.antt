@@ -1,4 +1,4 @@
-use Rattle.std.proofs.Common.{◌≡◌, ◌≤◌, ◌<◌, ◌∙◌, Some, length, sym, ap, subst, arith}
+use Rattle.std.proofs.Common.{◌≤◌, ◌<◌, ◌∙◌, Some, length, sym, subst, arith}
 use Rattle.graph_asks.specs.declared.refusal.Refusal.TheVariants as refusals
 use Rattle.graph_steps.specs.LinkAsks.{Multiplicity, others_named}
 use Rattle.graph_held.specs.Held.{state_of}

@@ -1,4 +1,4 @@
-use Rattle.std.proofs.Common.{◌≡◌, ◌+◌, ◌-◌, ◌≤◌, ◌∙◌, ℕ, List, bytes_eq, sym, ap, arith}
+use Rattle.std.proofs.Common.{◌∙◌, ℕ, List, bytes_eq, sym, ap, arith}
 use Rattle.std.specs.Option.{option_copied}
 use Rattle.link_judges.proofs.Counts.{held_free, held_same, held_else}
 use Rattle.link_judges.proofs.counting.others.Goals as goal

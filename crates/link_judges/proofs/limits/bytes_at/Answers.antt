@@ -1,4 +1,4 @@
-use Rattle.std.proofs.Common.{◌≡◌, ◌∙◌, sym, ap}
+use Rattle.std.proofs.Common.{◌∙◌, sym, ap}
 use Rattle.std.specs.Option.{option_copied}
 use Rattle.rel_graph.specs.Edges.{edge_at}
 use Rattle.link_judges.proofs.Passed.{size_there, size_none}

@@ -1,4 +1,4 @@
-use Rattle.std.proofs.Common.{◌≡◌, ◌+◌, ◌-◌, ◌≤◌, length, arith}
+use Rattle.std.proofs.Common.{arith}
 use Rattle.graph_bodies.specs.Kept.{link_view}
 use Rattle.graph_held.specs.Held.{state_of}
 use Rattle.link_judges.proofs.Passed.{bytes_put}

@@ -1,4 +1,4 @@
-use Rattle.std.proofs.Common.{◌≡◌, ◌∙◌, length, sym, ap, subst}
+use Rattle.std.proofs.Common.{◌∙◌, length, sym, ap, subst}
 use Rattle.json_tree.specs.Printing.{printed}
 use Rattle.graph_steps.specs.States.{Link, link_text, link_value}
 use Rattle.graph_bodies.specs.Kept.{IsKeptLink}

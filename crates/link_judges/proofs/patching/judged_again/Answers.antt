@@ -1,4 +1,4 @@
-use Rattle.std.proofs.Common.{◌≡◌, ◌∙◌, MatchResult, sym, ap, subst}
+use Rattle.std.proofs.Common.{◌≡◌, MatchResult, subst}
 use Rattle.json_tree.specs.View.{view}
 use Rattle.twin_value.specs.Breaches.{IsLinkBreach}
 use Rattle.graph_steps.specs.Inherited.{inherited}

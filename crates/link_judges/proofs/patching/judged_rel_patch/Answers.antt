@@ -1,4 +1,4 @@
-use Rattle.std.proofs.Common.{◌≡◌, ◌∙◌, IfSome, Some, None, sym, ap, subst}
+use Rattle.std.proofs.Common.{◌∙◌, IfSome, sym, ap, subst}
 use Rattle.std.specs.Option.{option_copied, option_map}
 use Rattle.twin_patch.specs.Operations.{operations_of}
 use Rattle.twin_patch.specs.Patched.{patched_from}

@@ -1,4 +1,4 @@
-use Rattle.std.proofs.Common.{◌≡◌, ◌∙◌, Some, None, refl, sym, ap, subst}
+use Rattle.std.proofs.Common.{◌≡◌, subst}
 use Rattle.twin_value.specs.Breaches.{link_called}
 use Rattle.graph_steps.specs.Inherited.{contents}
 use Rattle.graph_steps.specs.LinkAsks.{LinkFull, Multiplicity, WrongTarget, with_link}

@@ -1,10 +1,9 @@
-use Rattle.std.proofs.Common.{◌≡◌, ◌∙◌, Some, None, sym, ap}
+use Rattle.std.proofs.Common.{◌∙◌, sym, ap}
 use Rattle.std.specs.Option.{option_copied, option_map}
 use Rattle.json_tree.specs.View.{view}
 use Rattle.dtmi_name.specs.Grammar.{dtmi_text}
 use Rattle.graph_asks.specs.declared.refusal.Refusal.TheVariants as refusals
 use Rattle.graph_steps.specs.LinkAsks.{RefusesPutRel, link_for}
-use Rattle.graph_steps.specs.States.{twin_at}
 use Rattle.graph_bodies.specs.Kept.{twin_view}
 use Rattle.graph_held.specs.Held.{link_of, state_of}
 use Rattle.link_judges.specs.declared.new_link.NewLink.{NewLink}

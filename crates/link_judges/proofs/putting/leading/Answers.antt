@@ -1,4 +1,4 @@
-use Rattle.std.proofs.Common.{◌≡◌, ◌∙◌, inl, Some, None, refl, sym, ap}
+use Rattle.std.proofs.Common.{◌≡◌, ◌∙◌, inl, refl, sym, ap}
 use Rattle.std.specs.Option.{option_copied, option_map}
 use Rattle.twin_value.specs.Breaches.{link_called}
 use Rattle.graph_asks.specs.declared.refusal.Refusal.TheVariants as refusals

@@ -1,12 +1,10 @@
-use Rattle.std.proofs.Common.{◌≡◌, ◌∙◌, ℕ, List, bytes_eq, not, Some, sym, ap, subst}
+use Rattle.std.proofs.Common.{◌∙◌, ℕ, List, bytes_eq, not, sym, ap, subst}
 use Rattle.std.specs.Option.{option_copied}
 use Rattle.dtmi_name.specs.Grammar.{dtmi_text}
 use Rattle.dtdl_terms.specs.Sets.{interface_at}
-use Rattle.dtdl_terms.specs.declared.interface.Interface.{Interface}
 use Rattle.extend_resolve.specs.Breaches.{BreaksNoRule}
 use Rattle.graph_steps.specs.Inherited.{is_a}
 use Rattle.graph_steps.specs.LinkAsks.{misses}
-use Rattle.graph_steps.specs.States.{interface_of, set_of}
 use Rattle.graph_bodies.specs.Kept.{twin_view}
 use Rattle.graph_held.specs.Held.{state_of}
 use Rattle.model_life.specs.Models.{interfaces_of}

@@ -1,4 +1,4 @@
-use Rattle.std.proofs.Common.{◌≡◌, ◌∙◌, Some, sym, ap, subst}
+use Rattle.std.proofs.Common.{◌∙◌, Some, sym, ap, subst}
 use Rattle.std.specs.Option.{option_copied}
 use Rattle.graph_bodies.specs.Kept.{twin_view}
 use Rattle.graph_held.specs.Held.{state_of}
