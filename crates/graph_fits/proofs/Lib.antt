@@ -1,6 +1,7 @@
 pub mod Least
 pub mod Keys
+pub mod SameKeys
 pub mod Fitting
-pub mod Links
-pub mod Ends
-pub mod Misfits
+pub mod OneLink
+pub mod LeastEnds
+pub mod Unfit
