@@ -1,7 +1,7 @@
 //! Bodies judged by what a model of the graph has, which is made where it is first asked for, and held for the next time.
 
-ghost use Rattle.std.specs.Prelude.{◌≡◌, IfOk, MatchResult, Some};
-ghost use Rattle.dtdl_terms.specs.declared.interface.Interface.{Interface as Entry};
+ghost use Rattle.std.specs.Prelude.{◌≡◌, IfOk, IsSome, MatchResult, OnOk, Some};
+ghost use Rattle.extend_resolve.specs.Breaches.{BreaksNoRule};
 ghost use Rattle.graph_bodies.specs.Bodies.{FailsBy};
 ghost use Rattle.graph_bodies.specs.Kept.{twin_view, link_view, IsKeptTwin, IsKeptLink, IsKeptPart};
 ghost use Rattle.graph_steps.specs.Inherited.{inherited};
@@ -10,7 +10,7 @@ ghost use Rattle.graph_steps.specs.States.{interface_of, set_of};
 ghost use Rattle.graph_steps.specs.TwinAsks.{BodyFault, part_role_in, twin_for};
 ghost use Rattle.json_tree.specs.Values.{HasDistinctKeys};
 ghost use Rattle.json_tree.specs.View.{view};
-ghost use Rattle.model_resolve.specs.Resolving.{HoldsRight};
+ghost use Rattle.model_resolve.specs.Resolving.{HoldsRight, entry_at};
 ghost use Rattle.twin_patch.specs.Objects.{sorted_value};
 ghost use Rattle.twin_value.specs.Breaches.{HasNoBreach, IsBreach, IsLinkBreach, IsTwinBreach};
 ghost use Rattle.twin_value.specs.Twins.{without_metadata};
@@ -24,20 +24,30 @@ use json_tree::Tree;
 use model_resolve::Resolutions;
 use twin_value::{Relationship, Twin};
 
-/// What an interface of a model has with all that it inherits.
-fn resolved_of<'r>(
+/// Makes what an interface of a model has with all that it inherits, where it is not held.
+fn ready(
     lent: &Lent<'_>,
-    resolutions: &'r mut Resolutions,
+    resolutions: &mut Resolutions,
     interface: &Interface,
-) -> Result<&'r Resolved, OutOfMemory>
+) -> Result<(), OutOfMemory>
     requires there { interface_of (state_of lent.now) interface.now.id ≡ Some interface.now }
     requires right { HoldsRight (set_of (state_of lent.now)) resolutions.old }
+    ensures held { OnOk result (IsSome (entry_at interface.now.id resolutions.new)) }
+    ensures rules { BreaksNoRule (set_of (state_of lent.now)) }
     ensures right { HoldsRight (set_of (state_of lent.now)) resolutions.new }
 {
-    lent.models().sound();
-    resolutions.ready(lent.models().set(), &interface.id)?;
+    let models = lent.models();
+    models.sound();
+    resolutions.ready(models.set(), &interface.id)
+}
+
+/// What is held of an interface.
+fn held_of<'r>(resolutions: &'r Resolutions, interface: &Interface) -> &'r Resolved
+    requires { IsSome (entry_at interface.now.id resolutions.now) }
+    ensures { entry_at interface.now.id resolutions.now ≡ Some result.now }
+{
     match resolutions.get(&interface.id) {
-        Some(resolved) => Ok(resolved),
+        Some(resolved) => resolved,
         None => unreachable!(),
     }
 }
@@ -60,7 +70,8 @@ pub fn judged_twin(
         (FailsBy (BodyFault (IsTwinBreach (inherited (set_of (state_of lent.now)) interface.now) (view tree.now)) (view tree.now))) }
     ensures kept { IfOk result (λ twin. IsKeptTwin (twin_view twin)) }
 {
-    let resolved = resolved_of(lent, resolutions, interface)?;
+    ready(lent, resolutions, interface)?;
+    let resolved = held_of(resolutions, interface);
     twin_from_body(lent.alloc(), id.as_str(), tree, interface, resolved)
 }
 
@@ -85,7 +96,8 @@ pub fn judged_link(
         (FailsBy (BodyFault (IsLinkBreach (inherited (set_of (state_of lent.now)) interface.now) (view tree.now)) (view tree.now))) }
     ensures kept { IfOk result (λ link. IsKeptLink (link_view link)) }
 {
-    let resolved = resolved_of(lent, resolutions, interface)?;
+    ready(lent, resolutions, interface)?;
+    let resolved = held_of(resolutions, interface);
     link_from_body(
         lent.alloc(),
         source.as_str(),
@@ -115,6 +127,7 @@ pub fn judged_part(
         (FailsBy (BodyFault (IsBreach (part_role_in (state_of lent.now) interface.now name.now) (view tree.now)) (view tree.now))) }
     ensures kept { IfOk result (λ values. IsKeptPart (view values)) }
 {
-    let resolved = resolved_of(lent, resolutions, interface)?;
+    ready(lent, resolutions, interface)?;
+    let resolved = held_of(resolutions, interface);
     part_from_body(lent.alloc(), name.as_str(), tree, resolved)
 }
