@@ -12,16 +12,19 @@ use Rattle.dtdl_terms.specs.declared.resolved.ResolvedContent.{ResolvedContent}
 use Rattle.rel_graph.specs.Edges.{is_named, named}
 use Rattle.rel_graph.specs.declared.edge.Edge.{Edge}
 use Rattle.json_tree.specs.Values.{Json}
-use Rattle.twin_value.specs.Breaches.{HasNoBreach, IsLinkBreach}
+use Rattle.twin_value.specs.Breaches.{HasNoBreach, IsLinkBreach, link_called}
 use Rattle.twin_value.specs.declared.code.BodyCode.{BodyCode}
 use Rattle.graph_asks.specs.declared.refusal.Refusal.{Refusal}
 use Rattle.graph_steps.specs.Inherited.{contents, inherited, is_a}
 use Rattle.graph_steps.specs.States.{State, Twin, Link, interface_of, set_of, twin_at, link_value}
 use Rattle.graph_steps.specs.Typed.{target_of, most_of, SuitsTarget, FitsSource, LinkIsTyped}
 use Rattle.graph_steps.specs.TwinAsks.{BodyFault}
+use Rattle.graph_bodies.specs.Bodies.{FailsBy}
+use Rattle.graph_bodies.specs.declared.failure.BodyFailure.{BodyFailure}
+use Rattle.graph_bodies.specs.declared.failure.BodyFailure.TheVariants as failures
 use Rattle.graph_held.specs.Held.{link_of}
 use Rattle.graph_held.specs.declared.stored.Stored.{Stored}
-use Rattle.graph_fits.specs.Machinery.Judged.{SuitsAmong}
+use Rattle.graph_fits.specs.Machinery.Judged.{SuitsAmong, SuitsDeclared, SuitsKind}
 
 -- ---- counts
 module _ {X Y : Type 0} (f : X → Y) (p : Y → Bool) where
@@ -36,13 +39,13 @@ pub named-held : (source name : List ℕ) (es : List (Edge Stored)) → named so
 named-held source name es = count-map link_of (is_named (source, name)) es
 
 -- ---- breaches
-pub not_clear : (Broken : List ℕ → BodyCode → Type 0) (v : Json) (r : Refusal) → BodyFault Broken v r → HasNoBreach Broken → ⊥
-not_clear Broken v r (place, pointer, code, first, at, is) clear = clear place code first.breach
+pub not_clear : (Broken : List ℕ → BodyCode → Type 0) (v : Json) (failure : BodyFailure) (r : Refusal) → failure ≡ failures.Refused r → FailsBy (BodyFault Broken v) failure → HasNoBreach Broken → ⊥
+not_clear Broken v failure r is fails clear = let fault = subst (FailsBy (BodyFault Broken v)) is fails in clear fault.0 fault.2 fault.3.breach
 
 -- ---- targets
 module _ (s : State) (target : List ℕ) (d : Identifier) where
   abbrev Suits : Type 0
-  Suits = (t : Twin) → twin_at target s ≡ Some t → SuitsTarget s (Some d) t
+  Suits = SuitsDeclared s target (Some d)
 
   pub suits_none : None ≡ twin_at target s → Suits
   suits_none none = λ t at. absurd (none-some t (none ∙ at))
@@ -67,7 +70,7 @@ module _ (s : State) (i : Interface) (l : Link) where
   fits_by_parts clear suits = record { content = suits.0; declared = suits.1; unbroken = clear; target = suits.2.0; few = suits.2.1 }
 
   pub parts_of_fit : FitsSource s i l → SuitsAmong s (contents (set_of s) i) l
-  parts_of_fit f = (f.content, f.declared, f.target, f.few)
+  parts_of_fit f = (f.content, f.declared, (f.target, f.few))
 
   pub fits_iff : (b : Bool) → HasNoBreach (IsLinkBreach (inherited (set_of s) i) (link_value l)) → IsTrue b ↔ SuitsAmong s (contents (set_of s) i) l → IsTrue b ↔ FitsSource s i l
   fits_iff b clear iff = (λ h. fits_by_parts clear (iff.0 h), λ f. iff.1 (parts_of_fit f))
@@ -92,3 +95,16 @@ module _ (s : State) (l : Link) where
         subst (λ (x : Interface). FitsSource s x l) one (iff.0 h),
     λ typed. iff.1 (typed u j (sym is) (sym live)),
   )
+
+-- ---- what is declared of a name
+pub among_one : (s : State) (cs : List ResolvedContent) (l : Link) (c : ResolvedContent) (b : Bool) → Some c ≡ link_called l.name cs → IsTrue b ↔ SuitsKind s (kind_term c.content.kind) l → IsTrue b ↔ SuitsAmong s cs l
+among_one s cs l c b is iff = (
+  λ h. (c, sym is, iff.0 h),
+  λ (d, found, suits). iff.1 (subst (λ (x : ResolvedContent). SuitsKind s (kind_term x.content.kind) l) (sym (same_Some c d (is ∙ found))) suits),
+)
+
+pub among_same : (s : State) (cs ds : List ResolvedContent) (l : Link) (b : Bool) → link_called l.name cs ≡ link_called l.name ds → IsTrue b ↔ SuitsAmong s cs l → IsTrue b ↔ SuitsAmong s ds l
+among_same s cs ds l b same iff = (
+  λ h. let g = iff.0 h in (g.0, sym same ∙ g.1, g.2),
+  λ (c, found, suits). iff.1 (c, same ∙ found, suits),
+)

@@ -9,10 +9,10 @@ ghost use Rattle.rel_graph.specs.Edges.{named};
 ghost use Rattle.twin_value.specs.Breaches.{HasNoBreach, IsLinkBreach};
 ghost use Rattle.graph_bodies.specs.Kept.{twin_view, IsKeptLink};
 ghost use Rattle.graph_steps.specs.Inherited.{contents, inherited};
-ghost use Rattle.graph_steps.specs.States.{State, Twin, interface_of, link_value, set_of, twin_at};
-ghost use Rattle.graph_steps.specs.Typed.{IsAtMost, FitsSource, LinkIsTyped, SuitsTarget};
+ghost use Rattle.graph_steps.specs.States.{interface_of, link_value, set_of, twin_at};
+ghost use Rattle.graph_steps.specs.Typed.{target_of, IsAtMost, FitsSource, LinkIsTyped};
 ghost use Rattle.graph_held.specs.Held.{link_of, state_of};
-ghost use Rattle.graph_fits.specs.Machinery.Judged.{with_given, SuitsAll, SuitsAmong, SuitsKind};
+ghost use Rattle.graph_fits.specs.Machinery.Judged.{with_given, SuitsAmong, SuitsDeclared, SuitsKind};
 
 use crate::declared::{link_called, most_of, target_of};
 use dt_base::{OutOfMemory, Text};
@@ -36,7 +36,7 @@ fn standing<'t>(lent: &Lent<'t>, twin: &'t Twin, id: &Text) -> Option<&'t Twin>
 
 /// Whether the twin with an id is or extends this model, or is frozen, or is not there. Takes no memory.
 fn suits_model(lent: &Lent<'_>, twin: &Twin, declared: &Dtmi, target: &Text) -> bool
-    ensures { IsTrue result ↔ ((t : Twin) → twin_at target.now (with_given twin.now lent.now) ≡ Some t → SuitsTarget (with_given twin.now lent.now) (Some declared.now) t) }
+    ensures { IsTrue result ↔ SuitsDeclared (with_given twin.now lent.now) target.now (Some declared.now) }
 {
     let Some(there) = standing(lent, twin, target) else {
         return true;
@@ -50,7 +50,7 @@ fn suits_model(lent: &Lent<'_>, twin: &Twin, declared: &Dtmi, target: &Text) -> 
 
 /// Whether the twin with an id suits the target that a relationship declares. Takes no memory.
 fn suits_target(lent: &Lent<'_>, twin: &Twin, kind: &ContentKind, target: &Text) -> bool
-    ensures { IsTrue result ↔ SuitsAll (with_given twin.now lent.now) target.now (kind_term kind.now) }
+    ensures { IsTrue result ↔ SuitsDeclared (with_given twin.now lent.now) target.now (target_of (kind_term kind.now)) }
 {
     match target_of(kind) {
         Some(declared) => suits_model(lent, twin, declared, target),

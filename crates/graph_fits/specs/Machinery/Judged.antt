@@ -1,5 +1,5 @@
 -- What is asked of one relationship, and of one twin.
-use Rattle.std.specs.Prelude.{◌≡◌, ◌⊎◌, ℕ, List, Some, Contains, IsSome, IsTrue, map}
+use Rattle.std.specs.Prelude.{◌≡◌, ◌⊎◌, ℕ, List, Option, Some, Contains, IsSome, IsTrue, map}
 use Rattle.dtmi_name.specs.Grammar.{Identifier}
 use Rattle.dtdl_terms.specs.Terms.{KindTerm}
 use Rattle.dtdl_terms.specs.TermViews.{kind_term}
@@ -20,12 +20,13 @@ abbrev pub with_given : values.Twin → Holding → State
 with_given t h = with_twin (twin_view t) (state_of h)
 
 -- ---- relationships
--- What the relationship leads to suits a declared target, and there are not too many of its name.
-abbrev pub SuitsAll : State → List ℕ → KindTerm → Type 0
-SuitsAll s target k = (t : Twin) → twin_at target s ≡ Some t → SuitsTarget s (target_of k) t
+-- The twin with an id, where there is one, suits a declared target.
+abbrev pub SuitsDeclared : State → List ℕ → Option Identifier → Type 0
+SuitsDeclared s id declared = (t : Twin) → twin_at id s ≡ Some t → SuitsTarget s declared t
 
+-- What the relationship leads to suits the declared target, and there are not too many of its name.
 abbrev pub SuitsKind : State → KindTerm → Link → Type 0
-SuitsKind s k l = SuitsAll s l.target k × IsAtMost (most_of k) (named l.source l.name s.links)
+SuitsKind s k l = SuitsDeclared s l.target (target_of k) × IsAtMost (most_of k) (named l.source l.name s.links)
 
 -- A relationship of its name is declared, and it suits this.
 abbrev pub SuitsAmong : State → List ResolvedContent → Link → Type 0
