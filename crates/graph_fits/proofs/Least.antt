@@ -115,3 +115,15 @@ module _ {X K : Type 0} (R : K → K → Ordering) (total : IsTotalOrder R) (key
       let behind = mapped (key x) (filter p xs) (passing (Behind x) p xs (unmapped (key x) xs sorted.0)) in
       let rest = sorted_passing p xs sorted.1 in
       elim (p x) as (λ b. IsStrictlySortedBy R (map key (cond b (x ∷ filter p xs) (filter p xs)))) [ true ↦ (behind, rest) | false ↦ rest ]
+
+-- ---- the first of a list, as it is gone through
+module _ {X : Type 0} (Bad : X → Type 0) (xs : List X) where
+  pub first_none : xs ≡ [] → IsFirstOf Bad xs None
+  first_none none = subst (λ (ys : List X). IsFirstOf Bad ys None) (sym none) tt
+
+  module _ (x : X) (ys : List X) (steps : xs ≡ x ∷ ys) where
+    pub first_bad : Bad x → IsFirstOf Bad xs (Some x)
+    first_bad bad = subst (λ (zs : List X). IsFirstOf Bad zs (Some x)) (sym steps) (inr (bad, refl))
+
+    pub first_later : (Bad x → ⊥) → (o : Option X) → IsFirstOf Bad ys o → IsFirstOf Bad xs o
+    first_later good o first = subst (λ (zs : List X). IsFirstOf Bad zs o) (sym steps) (inl (good, first))

@@ -2,6 +2,7 @@
 use Rattle.std.proofs.Common.{◌≡◌, ◌⊎◌, inl, inr, ℕ, List, map, Bool, true, false, ◌||◌, bytes_eq, Option, Some, None, refl, sym, ap, ◌∙◌, subst, Ordering}
 use Rattle.std.specs.Prelude.{Contains, IsTrue}
 use Rattle.std.specs.Ordering.{is_lt}
+use Rattle.std.specs.List.{AllByRecursion, filter}
 use Rattle.model_resolve.proofs.ByKey.{contains_map, from_contains}
 use Rattle.model_resolve.proofs.Reaching.{filter_down, filter_up}
 use Rattle.rel_graph.specs.Edges.{key_cmp, key, InOrder, is_from, is_into, out_of, into_of}
@@ -10,8 +11,10 @@ use Rattle.rel_graph.proofs.Tallies.{keys_total}
 use Rattle.graph_steps.specs.States.{State, Link, is_end}
 use Rattle.graph_steps.specs.Typed.{LinkIsTyped}
 use Rattle.graph_steps.specs.TwinAsks.{WouldBeIll}
+use Rattle.graph_bodies.specs.Kept.{IsKeptLink}
 use Rattle.graph_laws.proofs.Keyed.{tests}
-use Rattle.graph_held.specs.Held.{link_of}
+use Rattle.graph_laws.proofs.Lists.{all_at, all_from}
+use Rattle.graph_held.specs.Held.{link_of, IsHeldLink}
 use Rattle.graph_held.specs.declared.stored.Stored.{Stored}
 use Rattle.graph_fits.specs.Ill.{IsLeastIll}
 use Rattle.graph_fits.specs.Machinery.Firsts.{IsFirstOf, IsLeastOf, lesser}
@@ -78,3 +81,7 @@ module _ (new : State) (id : List ℕ) (es : List (Edge Stored)) (lent : map lin
       (lesser_least key_cmp keys_total key Out Into out into
       (first_least key_cmp keys_total key Ill (out_of id es) (sorted_passing key_cmp keys_total key (is_from id) es order) out first)
       (first_least key_cmp keys_total key Ill (into_of id es) (sorted_passing key_cmp keys_total key (is_into id) es order) into second))
+
+-- ---- what holds of all that are held
+pub kept_passing : (p : Edge Stored → Bool) (es : List (Edge Stored)) → AllByRecursion IsHeldLink es → AllByRecursion (λ (e : Edge Stored). IsKeptLink (link_of e)) (filter p es)
+kept_passing p es all = all_from (λ (e : Edge Stored). IsKeptLink (link_of e)) (filter p es) (λ e c. (all_at IsHeldLink es e all (filter_down p es e c).0).kept)
