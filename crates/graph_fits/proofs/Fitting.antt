@@ -30,7 +30,7 @@ module _ (s : State) (i : Interface) (t : Twin) where
   read = twin_for s t.id i (twin_value t)
 
   abbrev printed : Members Number
-  printed = printed_members t.id (object (member (codes "$model") (text (dtmi_text t.model)) no_members)) (members_in t.values) (members_in t.parts)
+  printed = printed_members (library_of model) model.contents t.id (object (member (codes "$model") (text (dtmi_text t.model)) no_members)) (members_in t.values) (members_in t.parts)
 
   abbrev pub AreRead : Twin → Type 0
   AreRead u = (keys_in (members_in u.values) ≡ keys_in (members_in t.values)) × (keys_in (members_in u.parts) ≡ keys_in (members_in t.parts))
