@@ -1,5 +1,5 @@
 -- Twins that would be live again, and would not fit: those of the models that come.
-use Rattle.std.proofs.Common.{◌≡◌, ◌↔◌, ◌⊎◌, inl, inr, ℕ, ◌+◌, ◌<◌, ◌++◌, List, [], ◌∷◌, map, take, length, slice_index_or, Bool, true, false, cond, Bor, Option, Some, None, refl, sym, ap, ◌∙◌, subst, true≢false, Ordering, Less, Equal, Greater, is_eq, arith}
+use Rattle.std.proofs.Common.{◌≡◌, ◌↔◌, ◌⊎◌, inl, inr, ℕ, ◌+◌, ◌<◌, ◌++◌, List, [], ◌∷◌, map, take, length, slice_index_or, true, false, cond, Bor, Option, Some, None, refl, sym, ap, ◌∙◌, subst, true≢false, Ordering, Less, is_eq, arith}
 use Rattle.std.specs.Prelude.{Contains, IsTrue, IsSome}
 use Rattle.std.specs.Cmp.{IsTotalOrder}
 use Rattle.std.specs.List.{AllByRecursion, filter}
@@ -28,11 +28,9 @@ use Rattle.model_life.proofs.Refused.{interfaces_with}
 use Rattle.twin_table.specs.Held.{InOrder, is_of, of_model, id_of}
 use Rattle.twin_table.specs.declared.held.Held.{Held}
 use Rattle.twin_value.specs.declared.twin.Twin as values
-use Rattle.graph_asks.specs.declared.refusal.Refusal.{Refusal}
-use Rattle.graph_asks.specs.declared.refusal.Refusal.TheVariants as refusals
-use Rattle.graph_steps.specs.ModelAsks.{after_uploads, WouldNotFit, TwinDoesNotFit}
-use Rattle.graph_steps.specs.States.{State, Twin, Link, interface_of, is_end, is_live, set_of, twin_at, with_twin, keyed_twins}
-use Rattle.graph_steps.specs.Typed.{FitsModel, TwinIsTyped, LinkIsTyped}
+use Rattle.graph_steps.specs.ModelAsks.{after_uploads, WouldNotFit}
+use Rattle.graph_steps.specs.States.{State, Twin, Link, interface_of, is_live, set_of, twin_at, with_twin}
+use Rattle.graph_steps.specs.Typed.{FitsModel, TwinIsTyped}
 use Rattle.graph_steps.specs.TwinAsks.{WouldBeIll}
 use Rattle.graph_bodies.specs.Kept.{twin_view, IsKeptTwin}
 use Rattle.graph_laws.proofs.Keyed.{entries, values-entries, all-with}
@@ -244,16 +242,15 @@ module _ (h : Holding) (old : State) (us : List Uploaded) (lent : after_uploads 
       let x = from_contains twin_of h.twins w (subst (λ (z : State). Contains z.twins w) lent would.there) in
       let now = live_some (interface_of (after_uploads old us) w.model) would.after in
       let u = came w.model us (set_of old) now.0 (others w.model (set_of old) (frozen_none (interface_of old w.model) would.before)) (sym (ap (interface_at w.model) (interfaces_with us old.models)) ∙ now.1) in
-      let spelled : dtmi_text u.0.interface.id ≡ dtmi_text x.0.twin.model = u.2 ∙ ap (λ (z : Twin). dtmi_text z.model) (sym x.2) in
-      (
+      let spelled : dtmi_text u.0.interface.id ≡ dtmi_text x.0.twin.model = u.2 ∙ ap (λ (z : Twin). dtmi_text z.model) (sym x.2) in (
         x.0.twin,
         (
           u.0,
           u.1,
           (
-          subst (λ (o : Option Interface). IsSome o) (sym (at_text u.0.interface.id w.model (set_of (state_of h)) u.2 ∙ subst (λ (z : State). interface_of z w.model ≡ Some now.0) lent now.1)) refl,
-          to_its h u.0.interface.id x.0 x.1 spelled,
-          subst (λ (z : Twin). Misfits (state_of h) z) (sym x.2) (subst (λ (z : State). Misfits z w) lent would.ill),
+            subst (λ (o : Option Interface). IsSome o) (sym (at_text u.0.interface.id w.model (set_of (state_of h)) u.2 ∙ subst (λ (z : State). interface_of z w.model ≡ Some now.0) lent now.1)) refl,
+            to_its h u.0.interface.id x.0 x.1 spelled,
+            subst (λ (z : Twin). Misfits (state_of h) z) (sym x.2) (subst (λ (z : State). Misfits z w) lent would.ill),
           ),
         ),
         x.2,

@@ -13,7 +13,7 @@ use Rattle.graph_fits.proofs.misfits.least_among.Goals as goal
 pub uploads-preserved : goal.uploads-preserved
 uploads-preserved c = (
   subst (IsLeastOf (λ (a b : Twin). slice_cmp nat_cmp a.id b.id) (MisfitsAmong c.args.lent.now (take (c.uploads.upload-index + 1) c.args.new.now))) (sym c.lesser_twin-least.ensures)
-  (next_least c.args.lent.now c.args.new.now c.uploads.upload-index c.upload-item.result c.uploads-test.true c.upload-item.is (option_copied c.uploads.least) (option_copied c.in_ok-found.found) c.uploads.invariant.0 c.in_ok-found.ensures.least),
+      (next_least c.args.lent.now c.args.new.now c.uploads.upload-index c.upload-item.result c.uploads-test.true c.upload-item.is (option_copied c.uploads.least) (option_copied c.in_ok-found.found) c.uploads.invariant.0 c.in_ok-found.ensures.least),
   c.model_misfit.ensures.right,
 )
 

@@ -1,4 +1,4 @@
-use Rattle.std.proofs.Common.{◌≡◌, ◌∙◌, sym, ap, subst, true≢false}
+use Rattle.std.proofs.Common.{◌∙◌, sym, ap, subst, true≢false}
 use Rattle.json_tree.specs.Values.{Json, HasDistinctKeys}
 use Rattle.json_tree.specs.View.{view}
 use Rattle.twin_value.specs.Breaches.{HasNoBreach, IsTwinBreach}
@@ -18,8 +18,7 @@ judged_twin-requires-clause-distinct c = subst HasDistinctKeys (sym c.in_ok-tree
 
 pub returns-in-Ok-clause-fits : goal.returns-in-Ok-clause-fits
 returns-in-Ok-clause-fits c =
-    let same = c.in-Ok.ensures.twin.1 ∙ ap (twin_for (state_of c.args.lent.now) c.args.twin.now.id c.args.interface.now) c.in_ok-tree.ensures in
-    (
+    let same = c.in-Ok.ensures.twin.1 ∙ ap (twin_for (state_of c.args.lent.now) c.args.twin.now.id c.args.interface.now) c.in_ok-tree.ensures in (
       λ h. fits_read (state_of c.args.lent.now) c.args.interface.now (twin_view c.args.twin.now)
           (subst (λ (v : Json). HasNoBreach (IsTwinBreach (inherited (set_of (state_of c.args.lent.now)) c.args.interface.now) v)) c.in_ok-tree.ensures c.in-Ok.ensures.twin.0)
           (subst (AreRead (state_of c.args.lent.now) c.args.interface.now (twin_view c.args.twin.now)) same (c.have_same_names.ensures.0 h)),
@@ -30,5 +29,5 @@ pub returns-in-Err-Refused-clause-fits : goal.returns-in-Err-Refused-clause-fits
 returns-in-Err-Refused-clause-fits c = (
   λ h. absurd (true≢false (sym h)),
   λ f. absurd (not_clear (IsTwinBreach (inherited (set_of (state_of c.args.lent.now)) c.args.interface.now) (view c.in_ok-tree.tree)) (view c.in_ok-tree.tree) c.in-Err-Refused.field-0 c.in-Err-Refused.field-0-0 c.in-Err-Refused.field-0-is c.in-Err-Refused.ensures.twin
-  (subst (λ (v : Json). HasNoBreach (IsTwinBreach (inherited (set_of (state_of c.args.lent.now)) c.args.interface.now) v)) (sym c.in_ok-tree.ensures) f.unbroken)),
+      (subst (λ (v : Json). HasNoBreach (IsTwinBreach (inherited (set_of (state_of c.args.lent.now)) c.args.interface.now) v)) (sym c.in_ok-tree.ensures) f.unbroken)),
 )
