@@ -1,21 +1,21 @@
 -- A twin fits a model exactly where what is printed of it has no breach, and what is read back of that has values and components
 -- of the same names.
-use Rattle.std.proofs.Common.{◌≡◌, ◌↔◌, List, subst, sym}
+use Rattle.std.proofs.Common.{◌≡◌}
 use Rattle.std.specs.Prelude.{IsTrue}
 use Rattle.json_decimal.specs.Number.{Number}
-use Rattle.json_tree.specs.Values.{Json, text, object, Members, no_members, member}
+use Rattle.json_tree.specs.Values.{text, object, Members, no_members, member}
 use Rattle.std.proofs.Common.{codes}
 use Rattle.local_rules.specs.Members.{members_in}
 use Rattle.dtmi_name.specs.Grammar.{dtmi_text}
 use Rattle.dtdl_terms.specs.declared.interface.Interface.{Interface}
 use Rattle.dtdl_terms.specs.declared.resolved.Resolved.{Resolved}
-use Rattle.twin_patch.specs.Objects.{sorted_value, sorted_members}
+use Rattle.twin_patch.specs.Objects.{sorted_members}
 use Rattle.twin_value.specs.Breaches.{HasNoBreach, IsTwinBreach, library_of, twin_role_of}
 use Rattle.twin_value.specs.Roles.{member_role}
 use Rattle.twin_value.specs.Twins.{picked, itself, is_value_role, is_part_role, without_metadata}
 use Rattle.graph_steps.specs.Inherited.{inherited}
 use Rattle.graph_steps.specs.States.{State, Twin, set_of, twin_value}
-use Rattle.graph_steps.specs.Typed.{AllKeys, FitsModel}
+use Rattle.graph_steps.specs.Typed.{FitsModel}
 use Rattle.graph_steps.specs.TwinAsks.{twin_for}
 use Rattle.graph_bodies.specs.Kept.{IsKeptTwin}
 use Rattle.graph_bodies.proofs.Keys.{sorted_in_order, members_in_order, keys_sorted, keys_picked}
@@ -30,7 +30,7 @@ module _ (s : State) (i : Interface) (t : Twin) where
   read = twin_for s t.id i (twin_value t)
 
   abbrev printed : Members Number
-  printed = printed_members t.id (object (member (codes "$model") (text (dtmi_text t.model)) no_members)) (members_in t.values) (members_in t.parts)
+  printed = printed_members (library_of model) model.contents t.id (object (member (codes "$model") (text (dtmi_text t.model)) no_members)) (members_in t.values) (members_in t.parts)
 
   abbrev pub AreRead : Twin → Type 0
   AreRead u = (keys_in (members_in u.values) ≡ keys_in (members_in t.values)) × (keys_in (members_in u.parts) ≡ keys_in (members_in t.parts))

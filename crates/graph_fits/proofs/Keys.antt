@@ -1,21 +1,20 @@
 -- Members in order are told by their keys; and the keys of what is read back of a printed twin.
-use Rattle.std.proofs.Common.{◌≡◌, ℕ, List, [], ◌∷◌, Bool, true, false, cond, ◌&&◌, ◌||◌, bytes_eq, codes, Option, Some, None, refl, sym, ap, ◌∙◌, subst, true≢false, Less, Equal, Greater, is_eq}
+use Rattle.std.proofs.Common.{◌≡◌, ℕ, List, ◌∷◌, Bool, true, false, cond, ◌&&◌, ◌||◌, bytes_eq, codes, Option, Some, None, refl, sym, ap, ◌∙◌, subst, true≢false, Less, Equal, Greater, is_eq}
 use Rattle.std.specs.Prelude.{IsTrue}
 use Rattle.std.specs.Option.{is_some, option_map}
 use Rattle.std.specs.Ordering.{ordering_reverse}
 use Rattle.std.specs.declared.cmp.Ordering.{Ordering}
 use Rattle.std.proofs.lemmas.Slice.Eq.{bytes_eq-Decides}
 use Rattle.json_decimal.specs.Number.{Number}
-use Rattle.json_tree.specs.Values.{Json, text, object, Members, no_members, member}
-use Rattle.local_rules.specs.Members.{members_in, value_at}
+use Rattle.json_tree.specs.Values.{Json, text, Members, no_members, member}
+use Rattle.local_rules.specs.Members.{value_at}
 use Rattle.ordered_table.proofs.Flat.{C, c_total}
-use Rattle.dtdl_terms.specs.Terms.{KindTerm, telemetry, property, command, relationship, component}
 use Rattle.dtdl_terms.specs.declared.resolved.ResolvedContent.{ResolvedContent}
 use Rattle.twin_patch.specs.Objects.{sorted_value, sorted_members}
 use Rattle.twin_patch.specs.Machinery.Orders.{IsBefore, AreInOrder}
 use Rattle.twin_patch.proofs.Ordered.{before_later, members_order}
-use Rattle.twin_value.specs.Roles.{Library, Role, twin_metadata, any_text, anything, undeclared, part_body, value, twin_body, member_role}
-use Rattle.twin_value.specs.Twins.{picked, joined, any_key, itself, is_value_role, is_part_role, with_metadata, without_metadata, property_members, component_members}
+use Rattle.twin_value.specs.Roles.{Library, Role, twin_metadata, any_text, value, twin_body, member_role}
+use Rattle.twin_value.specs.Twins.{picked, joined, any_key, is_value_role, is_part_role, with_metadata}
 use Rattle.graph_steps.specs.Typed.{AllKeys}
 use Rattle.graph_laws.proofs.Keyed.{one_text, tests}
 use Rattle.graph_laws.proofs.Members.{value-sorted}

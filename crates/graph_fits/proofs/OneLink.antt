@@ -1,7 +1,6 @@
 -- One relationship: what is told of it by its source's model, its target, and how many of its name there are.
-use Rattle.std.proofs.Common.{◌≡◌, ◌↔◌, ◌+◌, ◌≤◌, ℕ, List, [], ◌∷◌, map, Bool, true, false, cond, Option, Some, None, refl, sym, ap, ◌∙◌, subst, true≢false}
+use Rattle.std.proofs.Common.{◌≡◌, ◌↔◌, ◌+◌, ℕ, List, [], ◌∷◌, map, Bool, false, cond, Some, None, refl, sym, ap, ◌∙◌, subst, true≢false}
 use Rattle.std.specs.Prelude.{IsTrue}
-use Rattle.std.specs.Option.{option_map}
 use Rattle.std.specs.List.{count_by}
 use Rattle.std.proofs.lemmas.List.Sums.{sum_by-cons}
 use Rattle.std.proofs.lemmas.Option.{same_Some, none-some}
@@ -17,7 +16,7 @@ use Rattle.twin_value.specs.declared.code.BodyCode.{BodyCode}
 use Rattle.graph_asks.specs.declared.refusal.Refusal.{Refusal}
 use Rattle.graph_steps.specs.Inherited.{contents, inherited, is_a}
 use Rattle.graph_steps.specs.States.{State, Twin, Link, interface_of, set_of, twin_at, link_value}
-use Rattle.graph_steps.specs.Typed.{target_of, most_of, SuitsTarget, FitsSource, LinkIsTyped}
+use Rattle.graph_steps.specs.Typed.{FitsSource, LinkIsTyped}
 use Rattle.graph_steps.specs.TwinAsks.{BodyFault}
 use Rattle.graph_bodies.specs.Bodies.{FailsBy}
 use Rattle.graph_bodies.specs.declared.failure.BodyFailure.{BodyFailure}

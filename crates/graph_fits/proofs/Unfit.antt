@@ -1,12 +1,12 @@
 -- Twins that would be live again, and would not fit: those of the models that come.
-use Rattle.std.proofs.Common.{◌≡◌, ◌↔◌, ◌⊎◌, inl, inr, ℕ, List, [], ◌∷◌, map, Bool, true, false, cond, Option, Some, None, refl, sym, ap, ◌∙◌, subst, true≢false, Ordering, Less, Equal, Greater, is_eq, arith}
+use Rattle.std.proofs.Common.{◌≡◌, ◌↔◌, ◌⊎◌, inl, inr, ℕ, ◌+◌, ◌<◌, ◌++◌, List, [], ◌∷◌, map, take, length, slice_index_or, true, false, cond, Bor, Option, Some, None, refl, sym, ap, ◌∙◌, subst, true≢false, Ordering, Less, is_eq, arith}
 use Rattle.std.specs.Prelude.{Contains, IsTrue, IsSome}
 use Rattle.std.specs.Cmp.{IsTotalOrder}
 use Rattle.std.specs.List.{AllByRecursion, filter}
 use Rattle.std.specs.List.Sorted.{IsStrictlySortedBy}
 use Rattle.std.specs.Map.{values_of}
 use Rattle.std.specs.BTreeMap.{insert_entry}
-use Rattle.std.specs.Option.{is_some, option_map}
+use Rattle.std.specs.Option.{is_some, option_copied, option_map}
 use Rattle.std.specs.Ordering.{is_lt, match_ordering, nat_cmp, ordering_reverse}
 use Rattle.std.specs.Cmp.Lexicographic.{slice_cmp}
 use Rattle.std.proofs.lemmas.Cmp.{tied_itself}
@@ -20,7 +20,7 @@ use Rattle.dtdl_terms.specs.declared.uploaded.Uploaded.{Uploaded}
 use Rattle.model_resolve.proofs.ByKey.{contains_map, from_contains, in_found, same_spelling, alike}
 use Rattle.model_resolve.proofs.Reaching.{filter_down, filter_up}
 use Rattle.set_laws.specs.Changing.{with_uploads}
-use Rattle.set_laws.proofs.Apart.{contains_head, contains_tail, uncons}
+use Rattle.set_laws.proofs.Apart.{contains_append, contains_head, contains_tail, uncons}
 use Rattle.set_laws.proofs.Looking.{at_text}
 use Rattle.model_life.specs.Models.{Model, interfaces_of, model_at}
 use Rattle.model_life.specs.Refusals.{AreNew}
@@ -28,11 +28,9 @@ use Rattle.model_life.proofs.Refused.{interfaces_with}
 use Rattle.twin_table.specs.Held.{InOrder, is_of, of_model, id_of}
 use Rattle.twin_table.specs.declared.held.Held.{Held}
 use Rattle.twin_value.specs.declared.twin.Twin as values
-use Rattle.graph_asks.specs.declared.refusal.Refusal.{Refusal}
-use Rattle.graph_asks.specs.declared.refusal.Refusal.TheVariants as refusals
-use Rattle.graph_steps.specs.ModelAsks.{after_uploads, WouldNotFit, TwinDoesNotFit}
-use Rattle.graph_steps.specs.States.{State, Twin, Link, interface_of, is_end, is_live, set_of, twin_at, with_twin, keyed_twins}
-use Rattle.graph_steps.specs.Typed.{FitsModel, TwinIsTyped, LinkIsTyped}
+use Rattle.graph_steps.specs.ModelAsks.{after_uploads, WouldNotFit}
+use Rattle.graph_steps.specs.States.{State, Twin, Link, interface_of, is_live, set_of, twin_at, with_twin}
+use Rattle.graph_steps.specs.Typed.{FitsModel, TwinIsTyped}
 use Rattle.graph_steps.specs.TwinAsks.{WouldBeIll}
 use Rattle.graph_bodies.specs.Kept.{twin_view, IsKeptTwin}
 use Rattle.graph_laws.proofs.Keyed.{entries, values-entries, all-with}
@@ -42,8 +40,13 @@ use Rattle.graph_held.specs.Held.{Holding, twin_of, link_of, state_of, IsHeldTwi
 use Rattle.graph_held.specs.declared.stored.Stored.{Stored}
 use Rattle.rel_graph.specs.declared.edge.Edge.{Edge}
 use Rattle.graph_fits.specs.Ill.{IsLeastIll, IsLeastMisfit}
-use Rattle.graph_fits.specs.Machinery.Firsts.{IsLeastOf}
+use Rattle.graph_fits.specs.Machinery.Firsts.{IsFirstOf, IsLeastOf, lesser}
 use Rattle.graph_fits.specs.Machinery.Judged.{Misfits, MisfitsOf, MisfitsAmong, StandsLive}
+use Rattle.graph_fits.proofs.Least.{first_least, least_same, lesser_least, sorted_passing}
+use Rattle.twin_value.proofs.Enumerated.{take-more}
+
+not_in_none : {X : Type 0} (x : X) → Contains [] x → ⊥
+not_in_none x (k, low, is) = omega (arith, low)
 
 -- ---- one that stands at its place already
 module _ {K X : Type 0} (key : X → K) (R : K → K → Ordering) (total : IsTotalOrder R) where
@@ -52,10 +55,7 @@ module _ {K X : Type 0} (key : X → K) (R : K → K → Ordering) (total : IsTo
   later y (x ∷ xs) all = (all.0, later y xs all.1)
 
   same-with : (x : X) (xs : List X) → IsStrictlySortedBy R (map key xs) → Contains xs x → values_of (insert_entry R (entries key xs) (key x) x) ≡ xs
-  same-with x [] sorted c = absurd (none c)
-    where
-      none : Contains [] x → ⊥
-      none (k, low, is) = omega (arith, low)
+  same-with x [] sorted c = absurd (not_in_none x c)
   same-with x (y ∷ ys) sorted c =
       elim (uncons y ys x c) [
         | inl same ↦
@@ -108,6 +108,49 @@ module _ (h : Holding) (model : Identifier) where
   pub all_stand : (i : Interface) → Some i ≡ interface_of (state_of h) model → InOrder h.twins → AllByRecursion IsHeldTwin h.twins → AllByRecursion (StandsLive h i) (of_model model h.twins)
   all_stand i live order held = all_from (StandsLive h i) (of_model model h.twins) (one_stands i live order held)
 
+  ids_of_its : (hs : List Held) → map (λ (t : values.Twin). t.id) (map (λ (g : Held). g.twin) hs) ≡ map id_of hs
+  ids_of_its [] = refl
+  ids_of_its (g ∷ gs) = ap (λ (ids : List (List ℕ)). g.twin.id ∷ ids) (ids_of_its gs)
+
+  -- the first of them that does not fit is the least
+  pub model_least : (i : Interface) → Some i ≡ interface_of (state_of h) model → InOrder h.twins → (o : Option values.Twin) → IsFirstOf (λ (t : values.Twin). Misfits (state_of h) (twin_view t)) (of_model model h.twins) o
+      → IsLeastOf (λ a b. slice_cmp nat_cmp a.id b.id) (MisfitsOf h model) o
+  model_least i live order o first =
+      least_same (λ (a b : values.Twin). slice_cmp nat_cmp a.id b.id) (λ (t : values.Twin). Contains (of_model model h.twins) t × Misfits (state_of h) (twin_view t)) (MisfitsOf h model)
+      (λ t both. (subst (λ (p : Option Interface). IsSome p) live refl, both.0, both.1)) (λ t its. (its.1, its.2)) o
+      (first_least C c_total (λ (t : values.Twin). t.id) (λ (t : values.Twin). Misfits (state_of h) (twin_view t)) (of_model model h.twins)
+      (subst (IsStrictlySortedBy (slice_cmp nat_cmp)) (sym (ids_of_its (filter (is_of model) h.twins))) (sorted_passing C c_total id_of (is_of model) h.twins order)) o first)
+
+-- ---- the models so far, and one more
+contains_left : {X : Type 0} (xs ys : List X) (x : X) → Contains xs x → Contains (xs ++ ys) x
+contains_left [] ys x c = absurd (not_in_none x c)
+contains_left (z ∷ xs) ys x c = elim (uncons z xs x c) [ inl same ↦ subst (Contains (z ∷ xs ++ ys)) same (contains_head z (xs ++ ys)) | inr d ↦ contains_tail z (xs ++ ys) x (contains_left xs ys x d) ]
+
+contains_last : {X : Type 0} (xs : List X) (x : X) → Contains (xs ++ x ∷ []) x
+contains_last [] x = contains_head x []
+contains_last (z ∷ xs) x = contains_tail z (xs ++ x ∷ []) x (contains_last xs x)
+
+module _ (h : Holding) (us : List Uploaded) (n : ℕ) (u : Uploaded) (within : n < length us) (is : u ≡ slice_index_or us n u) where
+  next : take (n + 1) us ≡ take n us ++ u ∷ []
+  next = take-more us n u within is
+
+  with_next : (t : values.Twin) → MisfitsAmong h (take n us) t ⊎ MisfitsOf h u.interface.id t → MisfitsAmong h (take (n + 1) us) t
+  with_next t (inl (v, c, its)) = (v, subst (λ (vs : List Uploaded). Contains vs v) (sym next) (contains_left (take n us) (u ∷ []) v c), its)
+  with_next t (inr its) = (u, subst (λ (vs : List Uploaded). Contains vs u) (sym next) (contains_last (take n us) u), its)
+
+  from_next : (t : values.Twin) → MisfitsAmong h (take (n + 1) us) t → MisfitsAmong h (take n us) t ⊎ MisfitsOf h u.interface.id t
+  from_next t (v, c, its) =
+      elim (contains_append (take n us) (u ∷ []) v (subst (λ (vs : List Uploaded). Contains vs v) next c)) [
+        | inl d ↦ inl (v, d, its)
+        | inr d ↦ elim (uncons u [] v d) [ inl same ↦ inr (subst (λ (x : Uploaded). MisfitsOf h x.interface.id t) (sym same) its) | inr e ↦ absurd (not_in_none v e) ]
+      ]
+
+  pub next_least : (least found : Option values.Twin) → IsLeastOf (λ a b. slice_cmp nat_cmp a.id b.id) (MisfitsAmong h (take n us)) least → IsLeastOf (λ a b. slice_cmp nat_cmp a.id b.id) (MisfitsOf h u.interface.id) found
+      → IsLeastOf (λ a b. slice_cmp nat_cmp a.id b.id) (MisfitsAmong h (take (n + 1) us)) (lesser (λ a b. slice_cmp nat_cmp a.id b.id) least found)
+  next_least least found so_far new =
+      least_same (λ (a b : values.Twin). slice_cmp nat_cmp a.id b.id) (λ (t : values.Twin). MisfitsAmong h (take n us) t ⊎ MisfitsOf h u.interface.id t) (MisfitsAmong h (take (n + 1) us)) with_next from_next (lesser (λ (a b : values.Twin). slice_cmp nat_cmp a.id b.id) least found)
+      (lesser_least C c_total (λ (t : values.Twin). t.id) (MisfitsAmong h (take n us)) (MisfitsOf h u.interface.id) least found so_far new)
+
 -- ---- one twin
 module _ (h : Holding) (i : Interface) (t : values.Twin) (stands : StandsLive h i t) where
   abbrev s : State
@@ -117,7 +160,7 @@ module _ (h : Holding) (i : Interface) (t : values.Twin) (stands : StandsLive h 
   same = with_same h (twin_view t) stands.ordered stands.there
 
   pub unfit : (FitsModel (set_of s) i (twin_view t) → ⊥) → IsTrue true ↔ Misfits s (twin_view t)
-  unfit no = (λ on. inl (λ typed. no (typed i stands.model)), λ bad. refl)
+  unfit unlike = (λ on. inl (λ typed. unlike (typed i stands.model)), λ bad. refl)
 
   typed : FitsModel (set_of s) i (twin_view t) → TwinIsTyped s (twin_view t)
   typed fits = λ j live. subst (λ (x : Interface). FitsModel (set_of s) x (twin_view t)) (same_Some i j (sym stands.model ∙ live)) fits
@@ -126,7 +169,7 @@ module _ (h : Holding) (i : Interface) (t : values.Twin) (stands : StandsLive h 
   by_ends fits None none = (
     λ on. absurd (true≢false (sym on)),
     λ bad. elim bad [
-      | inl no ↦ absurd (no (typed fits))
+      | inl unlike ↦ absurd (unlike (typed fits))
       | inr (l, c, ends, ill) ↦ absurd (subst (λ (x : State). (k : Link) → WouldBeIll x t.id k → ⊥) same none l (record { there = c; ends = ends; ill = ill }))
     ],
   )
@@ -184,14 +227,14 @@ some_live (Some i) h = refl
 
 module _ (h : Holding) (old : State) (us : List Uploaded) (lent : after_uploads old us ≡ state_of h) (new : AreNew old.models us) where
   would_not : (t : values.Twin) → MisfitsAmong h us t → WouldNotFit old us (twin_view t)
-  would_not t (u, c, live, among, bad) =
-      let x = of_its h u.interface.id t among in
+  would_not t (u, c, its) =
+      let x = of_its h u.interface.id t its.1 in
       let absent : interface_at u.interface.id (set_of old) ≡ None = interface_absent u.interface.id old.models (all_at (λ (v : Uploaded). model_at v.interface.id old.models ≡ None) us u new c) in
       record {
         there = subst (λ (z : State). Contains z.twins (twin_view t)) (sym lent) (subst (λ (v : values.Twin). Contains (state_of h).twins (twin_view v)) x.3 (contains_map twin_of h.twins x.0 x.1));
         before = ap (λ (o : Option Interface). is_some o) (sym (at_text u.interface.id t.model (set_of old) x.2) ∙ absent);
-        after = subst (λ (z : State). is_live z (twin_view t) ≡ true) (sym lent) (ap (λ (o : Option Interface). is_some o) (sym (at_text u.interface.id t.model (set_of (state_of h)) x.2)) ∙ some_live (interface_of (state_of h) u.interface.id) live);
-        ill = subst (λ (z : State). Misfits z (twin_view t)) (sym lent) bad;
+        after = subst (λ (z : State). is_live z (twin_view t) ≡ true) (sym lent) (ap (λ (o : Option Interface). is_some o) (sym (at_text u.interface.id t.model (set_of (state_of h)) x.2)) ∙ some_live (interface_of (state_of h) u.interface.id) its.0);
+        ill = subst (λ (z : State). Misfits z (twin_view t)) (sym lent) its.2;
       }
 
   held : (w : Twin) → WouldNotFit old us w → (t : values.Twin) × MisfitsAmong h us t × (twin_view t ≡ w)
@@ -199,23 +242,29 @@ module _ (h : Holding) (old : State) (us : List Uploaded) (lent : after_uploads 
       let x = from_contains twin_of h.twins w (subst (λ (z : State). Contains z.twins w) lent would.there) in
       let now = live_some (interface_of (after_uploads old us) w.model) would.after in
       let u = came w.model us (set_of old) now.0 (others w.model (set_of old) (frozen_none (interface_of old w.model) would.before)) (sym (ap (interface_at w.model) (interfaces_with us old.models)) ∙ now.1) in
-      let spelled : dtmi_text u.0.interface.id ≡ dtmi_text x.0.twin.model = u.2 ∙ ap (λ (z : Twin). dtmi_text z.model) (sym x.2) in
-      (
+      let spelled : dtmi_text u.0.interface.id ≡ dtmi_text x.0.twin.model = u.2 ∙ ap (λ (z : Twin). dtmi_text z.model) (sym x.2) in (
         x.0.twin,
         (
-          u.0, u.1,
-          subst (λ (o : Option Interface). IsSome o) (sym (at_text u.0.interface.id w.model (set_of (state_of h)) u.2 ∙ subst (λ (z : State). interface_of z w.model ≡ Some now.0) lent now.1)) refl,
-          to_its h u.0.interface.id x.0 x.1 spelled,
-          subst (λ (z : Twin). Misfits (state_of h) z) (sym x.2) (subst (λ (z : State). Misfits z w) lent would.ill),
+          u.0,
+          u.1,
+          (
+            subst (λ (o : Option Interface). IsSome o) (sym (at_text u.0.interface.id w.model (set_of (state_of h)) u.2 ∙ subst (λ (z : State). interface_of z w.model ≡ Some now.0) lent now.1)) refl,
+            to_its h u.0.interface.id x.0 x.1 spelled,
+            subst (λ (z : Twin). Misfits (state_of h) z) (sym x.2) (subst (λ (z : State). Misfits z w) lent would.ill),
+          ),
         ),
         x.2,
       )
 
   pub misfit_told : (o : Option values.Twin) → IsLeastOf (λ a b. slice_cmp nat_cmp a.id b.id) (MisfitsAmong h us) o → IsLeastMisfit old us (option_map (λ (t : values.Twin). t.id) o)
-  misfit_told None none = λ r (t, would, rest). let x = held t would in none x.0 x.1
+  misfit_told None none = λ r (t, would, rest, is). let x = held t would in none x.0 x.1
   misfit_told (Some t) least = (
     twin_view t,
     would_not t least.0,
     (λ other would less. let x = held other would in least.1 x.0 x.1 (subst (λ (z : Twin). IsTrue (is_lt (slice_cmp nat_cmp z.id t.id))) (sym x.2) less)),
     refl,
   )
+
+pub some_copied : {X : Type 0} (o : Option (Bor X)) → is_some (option_copied o) ≡ is_some o
+some_copied None = refl
+some_copied (Some x) = refl

@@ -1,5 +1,5 @@
 -- What is asked of one relationship, and of one twin.
-use Rattle.std.specs.Prelude.{◌≡◌, ◌⊎◌, ℕ, List, Option, Some, Contains, IsSome, IsTrue, map}
+use Rattle.std.specs.Prelude.{◌≡◌, ◌⊎◌, ℕ, List, Option, Some, Contains, IsSome, IsTrue}
 use Rattle.dtmi_name.specs.Grammar.{Identifier}
 use Rattle.dtdl_terms.specs.Terms.{KindTerm}
 use Rattle.dtdl_terms.specs.TermViews.{kind_term}

@@ -1,4 +1,4 @@
-use Rattle.std.proofs.Common.{◌≡◌, Some, sym, refl, ◌∙◌, subst, true≢false}
+use Rattle.std.proofs.Common.{Some, sym, ◌∙◌, subst, true≢false}
 use Rattle.std.specs.List.{AllByRecursion}
 use Rattle.rel_graph.specs.declared.edge.Edge.{Edge}
 use Rattle.graph_bodies.specs.Kept.{IsKeptLink}
@@ -18,8 +18,8 @@ returns-then-not-fits-clause-first g c =
 pub edges-preserved : goal.edges-preserved
 edges-preserved g c = (
   λ o first. c.edges.invariant.0 o
-  (first_later (λ (e : Edge Stored). LinkIsTyped (with_given c.args.twin.now c.args.lent.now) (link_of e) → ⊥) c.edges.edge-iterator c.in-Some.edge.now c.next.new.self c.in-Some.ensures.steps
-  (λ no. no (c.in_ok-fits.ensures.fits.0 c.if-not-fits.false)) o first),
+      (first_later (λ (e : Edge Stored). LinkIsTyped (with_given c.args.twin.now c.args.lent.now) (link_of e) → ⊥) c.edges.edge-iterator c.in-Some.edge.now c.next.new.self c.in-Some.ensures.steps
+      (λ no. no (c.in_ok-fits.ensures.fits.0 c.if-not-fits.false)) o first),
   (subst (AllByRecursion (λ (e : Edge Stored). IsKeptLink (link_of e))) c.in-Some.ensures.steps c.edges.invariant.1).1,
   c.link_fits.ensures.right,
 )

@@ -1,4 +1,4 @@
-use Rattle.std.proofs.Common.{◌≡◌, List, refl, sym, ap, ◌∙◌, subst}
+use Rattle.std.proofs.Common.{List, refl, sym, ap, ◌∙◌, subst}
 use Rattle.std.specs.List.{AllByRecursion}
 use Rattle.std.specs.Option.{option_copied}
 use Rattle.rel_graph.specs.Edges.{InOrder, is_from, is_into, out_of, into_of}

@@ -2,12 +2,10 @@ use Rattle.std.proofs.Common.{refl, sym, subst, true≢false}
 use Rattle.json_tree.specs.Values.{Json, HasDistinctKeys}
 use Rattle.json_tree.specs.View.{view}
 use Rattle.twin_value.specs.Breaches.{HasNoBreach, IsLinkBreach}
-use Rattle.graph_asks.specs.declared.refusal.Refusal.{Refusal}
 use Rattle.graph_bodies.proofs.Keys.{sorted_again}
 use Rattle.graph_bodies.proofs.Patching.{sorted_distinct}
 use Rattle.graph_steps.specs.Inherited.{inherited}
 use Rattle.graph_steps.specs.States.{link_object, link_value, set_of}
-use Rattle.graph_steps.specs.TwinAsks.{BodyFault}
 use Rattle.graph_held.specs.Held.{link_of, state_of}
 use Rattle.graph_fits.proofs.OneLink.{not_clear}
 use Rattle.graph_fits.proofs.links.is_unbroken.Goals as goal
@@ -25,5 +23,5 @@ pub returns-in-Err-Refused-clause-unbroken : goal.returns-in-Err-Refused-clause-
 returns-in-Err-Refused-clause-unbroken c = (
   λ h. absurd (true≢false (sym h)),
   λ clear. absurd (not_clear (IsLinkBreach (inherited (set_of (state_of c.args.lent.now)) c.args.interface.now) (view c.in_ok-tree.tree)) (view c.in_ok-tree.tree) c.in-Err-Refused.field-0 c.in-Err-Refused.field-0-0 c.in-Err-Refused.field-0-is c.in-Err-Refused.ensures.link
-    (subst (λ (v : Json). HasNoBreach (IsLinkBreach (inherited (set_of (state_of c.args.lent.now)) c.args.interface.now) v)) (sym c.in_ok-tree.ensures) clear)),
+      (subst (λ (v : Json). HasNoBreach (IsLinkBreach (inherited (set_of (state_of c.args.lent.now)) c.args.interface.now) v)) (sym c.in_ok-tree.ensures) clear)),
 )

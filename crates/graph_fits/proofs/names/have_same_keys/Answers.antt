@@ -1,4 +1,4 @@
-use Rattle.std.proofs.Common.{◌≡◌, ◌≤◌, ◌<◌, ◌∙◌, length, sym, refl, true≢false, arith}
+use Rattle.std.proofs.Common.{◌≤◌, ◌<◌, ◌∙◌, length, sym, refl, true≢false, arith}
 use Rattle.graph_fits.proofs.SameKeys.{other_length, all_same, other_key, one_more}
 use Rattle.graph_fits.proofs.names.have_same_keys.Goals as goal
 
