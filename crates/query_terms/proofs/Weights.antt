@@ -1,5 +1,5 @@
 -- Weights of conditions.
-use Rattle.std.proofs.Common.{◌≡◌, ℕ, ◌+◌, ◌*◌, ◌<◌, List, [], ◌∷◌, ◌++◌, refl, sym, ap, ◌∙◌, arith}
+use Rattle.std.proofs.Common.{◌≡◌, ◌+◌, ◌<◌, List, [], ◌∷◌, ◌++◌, arith}
 use Rattle.query_terms.specs.declared.cond.Cond as conds
 use Rattle.query_terms.specs.declared.cond.Cond.{Cond}
 use Rattle.query_terms.specs.Machinery.Weights.{weight, total}

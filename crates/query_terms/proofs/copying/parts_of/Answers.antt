@@ -1,4 +1,4 @@
-use Rattle.std.proofs.Common.{◌≡◌, ◌<◌, [], ◌∷◌, ◌++◌, map, sym, ap, ◌∙◌, arith}
+use Rattle.std.proofs.Common.{◌≡◌, ◌<◌, ◌∷◌, map, sym, ap, ◌∙◌, arith}
 use Rattle.query_terms.specs.Machinery.Weights.{total}
 use Rattle.query_terms.specs.Machinery.Parts.{rebuilt, stacked}
 use Rattle.query_terms.proofs.Parts.{now, rebuilt_more, stacked_more, total_more}

@@ -1,4 +1,4 @@
-use Rattle.std.proofs.Common.{◌≡◌, map, sym, ap, ◌∙◌}
+use Rattle.std.proofs.Common.{map, sym, ap, ◌∙◌}
 use Rattle.query_terms.specs.Machinery.Parts.{rebuilt, stacked}
 use Rattle.query_terms.proofs.Parts.{now, rebuilt_more, stacked_push}
 use Rattle.query_terms.proofs.cond.Cond.copy.Goals as goal
