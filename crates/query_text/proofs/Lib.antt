@@ -1,3 +1,3 @@
 pub mod Parts
 pub mod Escaped
-pub mod Pieces
+pub mod Waiting

@@ -148,8 +148,8 @@ fn push_piece<'a>(
     pieces: &mut Vec<Piece<'a>>,
     piece: Piece<'a>,
 ) -> Result<(), AllocError>
-    ensures pending { OnOk result (string_bytes out.new ++ pending pieces.new.items ≡ string_bytes out.old ++ (piece_text piece ++ pending pieces.old.items)) }
-    ensures load { OnOk result (load pieces.new.items < load pieces.old.items + piece_load piece) }
+    ensures pending { OnOk result (string_bytes out.new ++ pending pieces.new.items ≡ string_bytes out.old ++ (piece_text piece.entry ++ pending pieces.old.items)) }
+    ensures load { OnOk result (load pieces.new.items < load pieces.old.items + piece_load piece.entry) }
 {
     match piece {
         Piece::Words(words) => out.push_str(words),

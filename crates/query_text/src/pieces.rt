@@ -18,7 +18,7 @@ pub(crate) enum Piece<'a> {
 }
 
 /// Puts words in front of what is still to be printed, where they are wanted.
-#[tactic(auto, using(crate::proofs::Pieces::pending_push, crate::proofs::Pieces::load_push))]
+#[tactic(auto, using(crate::proofs::Waiting::pending_push, crate::proofs::Waiting::load_push))]
 fn put_words<'a>(
     pieces: &mut Vec<Piece<'a>>,
     wanted: bool,
@@ -34,7 +34,7 @@ fn put_words<'a>(
 }
 
 /// Puts a condition in front of what is still to be printed.
-#[tactic(auto, using(crate::proofs::Pieces::pending_push, crate::proofs::Pieces::load_push))]
+#[tactic(auto, using(crate::proofs::Waiting::pending_push, crate::proofs::Waiting::load_push))]
 pub(crate) fn put_cond<'a>(
     pieces: &mut Vec<Piece<'a>>,
     cond: &'a Cond,
