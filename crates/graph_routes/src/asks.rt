@@ -25,7 +25,7 @@ pub fn bad_id(part: u64) -> Prepared
 }
 
 fn get_model(alloc: Global, part: &str) -> Result<Prepared, OutOfMemory>
-    ensures { IfOk result (λ answer. (body : List ℕ) → AsksModel Method.Get part.now body answer) }
+    ensures { (body : List ℕ) → IfOk result (AsksModel Method.Get part.now body) }
 {
     match model_named(alloc, part)? {
         Some(id) => Ok(Prepared::Ask(Ask::GetModel { id })),
@@ -34,7 +34,7 @@ fn get_model(alloc: Global, part: &str) -> Result<Prepared, OutOfMemory>
 }
 
 fn drop_model(alloc: Global, part: &str) -> Result<Prepared, OutOfMemory>
-    ensures { IfOk result (λ answer. (body : List ℕ) → AsksModel Method.Delete part.now body answer) }
+    ensures { (body : List ℕ) → IfOk result (AsksModel Method.Delete part.now body) }
 {
     match model_named(alloc, part)? {
         Some(id) => Ok(Prepared::Ask(Ask::DropModel { id })),

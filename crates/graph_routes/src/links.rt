@@ -99,7 +99,7 @@ fn patches_link(
 }
 
 fn get_link(alloc: Global, part: &str, second: &str) -> Result<Prepared, OutOfMemory>
-    ensures { IfOk result (λ answer. (body : List ℕ) → AsksLink Method.Get part.now second.now body answer) }
+    ensures { (body : List ℕ) → IfOk result (AsksLink Method.Get part.now second.now body) }
 {
     let Some(source) = id_named(alloc, part)? else {
         return Ok(bad_id(0));
@@ -145,7 +145,7 @@ fn patch_link(
 }
 
 fn drop_link(alloc: Global, part: &str, second: &str) -> Result<Prepared, OutOfMemory>
-    ensures { IfOk result (λ answer. (body : List ℕ) → AsksLink Method.Delete part.now second.now body answer) }
+    ensures { (body : List ℕ) → IfOk result (AsksLink Method.Delete part.now second.now body) }
 {
     let Some(source) = id_named(alloc, part)? else {
         return Ok(bad_id(0));

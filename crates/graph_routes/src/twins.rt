@@ -83,7 +83,7 @@ fn patches_twin(alloc: Global, id: Text, body: &[u8]) -> Result<Prepared, OutOfM
 }
 
 fn get_twin(alloc: Global, part: &str) -> Result<Prepared, OutOfMemory>
-    ensures { IfOk result (λ answer. (body : List ℕ) → AsksTwin Method.Get part.now body answer) }
+    ensures { (body : List ℕ) → IfOk result (AsksTwin Method.Get part.now body) }
 {
     match id_named(alloc, part)? {
         Some(id) => Ok(Prepared::Ask(Ask::GetTwin { id })),
@@ -110,7 +110,7 @@ fn patch_twin(alloc: Global, part: &str, body: &[u8]) -> Result<Prepared, OutOfM
 }
 
 fn drop_twin(alloc: Global, part: &str) -> Result<Prepared, OutOfMemory>
-    ensures { IfOk result (λ answer. (body : List ℕ) → AsksTwin Method.Delete part.now body answer) }
+    ensures { (body : List ℕ) → IfOk result (AsksTwin Method.Delete part.now body) }
 {
     match id_named(alloc, part)? {
         Some(id) => Ok(Prepared::Ask(Ask::DropTwin { id })),
@@ -152,7 +152,7 @@ fn patches_part(
 }
 
 fn get_part(alloc: Global, part: &str, second: &str) -> Result<Prepared, OutOfMemory>
-    ensures { IfOk result (λ answer. (body : List ℕ) → AsksPart Method.Get part.now second.now body answer) }
+    ensures { (body : List ℕ) → IfOk result (AsksPart Method.Get part.now second.now body) }
 {
     let Some(id) = id_named(alloc, part)? else {
         return Ok(bad_id(0));
