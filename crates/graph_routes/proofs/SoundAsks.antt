@@ -1,10 +1,11 @@
 -- The ask that a request makes is sound, and a refusal that its bytes decide lists the methods of a path.
-use Rattle.std.proofs.Common.{◌≡◌, ◌≤◌, ℕ, List, length, refl, sym, subst, inl, inr}
+use Rattle.std.proofs.Common.{◌≡◌, ◌≤◌, ℕ, List, Option, length, refl, sym, subst, inl, inr}
 use Rattle.dtmi_name.specs.Grammar.{Identifier, OwnDtmiText, dtmi_text}
 use Rattle.json_tree.specs.Values.{Json}
 use Rattle.json_tree.specs.Grammar.{Spells}
 use Rattle.http_ends.specs.declared.request.Request.{Request}
 use Rattle.percent_encoding.specs.Percent.{percent_decode}
+use Rattle.query_terms.specs.declared.query.Query.{Query}
 use Rattle.graph_asks.specs.declared.ask.Ask as ask_type
 use Rattle.graph_asks.specs.declared.ask.Ask.TheVariants as asks
 use Rattle.graph_asks.specs.declared.refusal.Refusal.{Refusal}
@@ -24,7 +25,7 @@ use Rattle.graph_routes.specs.declared.prepared.Prepared.TheVariants.{Ask, Own}
 use Rattle.graph_routes.specs.declared.route.Route.{Route}
 use Rattle.graph_routes.specs.declared.route.Route.TheVariants as route
 use Rattle.graph_routes.proofs.SoundModels.{TypesAreTold, sound_models}
-use Rattle.graph_routes.proofs.SoundOutcome.{IsRight, right_body, right_by, right_named}
+use Rattle.graph_routes.proofs.SoundOutcome.{IsRight, made_sound, right_body, right_by, right_named}
 use Rattle.graph_routes.proofs.SoundTwins.{right_incoming, right_link, right_links, right_not_built, right_part, right_twin}
 
 listed : (r : Route) → ListsMethods (refusals.BadMethod (allow_text r))
@@ -95,7 +96,10 @@ right told request p (inr (r, parts, m, inl (none, e))) = right_by p (Own (refus
 right told request p (inr (r, parts, m, inr (n, is, h))) = asked told r n parts request p h
 
 pub sound_ask : TypesAreTold → (request : Request) (ask : ask_type.Ask) → IsPrepared request (Ask ask) → IsSound ask
-sound_ask told request ask h = right told request (Ask ask) h
+sound_ask told request ask h = made_sound ask (right told request (Ask ask) h)
+
+pub no_query : TypesAreTold → (request : Request) (query : Query) (after : Option (List (List ℕ))) → IsPrepared request (Ask (asks.Query query after)) → ⊥
+no_query told request query after h = right told request (Ask (asks.Query query after)) h
 
 pub lists_methods : TypesAreTold → (request : Request) (refusal : Refusal) → IsPrepared request (Own refusal) → ListsMethods refusal
 lists_methods told request refusal h = right told request (Own refusal) h

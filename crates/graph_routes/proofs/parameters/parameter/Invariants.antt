@@ -9,4 +9,4 @@ use Rattle.graph_routes.proofs.parameters.parameter.Given as goal
 -- no pair so far has the name
 abbrev pub invariant-pairs : goal.invariant-pairs
 invariant-pairs l =
-    find (λ p. bytes_eq (form_text p.0) l.name.now) (raw_pairs_left l.key-iterator) ≡ find (λ p. bytes_eq (form_text p.0) l.name.now) (raw_pairs l.query.now)
+    find (λ p. bytes_eq (form_text p.0) l.name) (raw_pairs_left l.key-iterator) ≡ find (λ p. bytes_eq (form_text p.0) l.name) (raw_pairs l.query)

@@ -9,5 +9,5 @@ use Rattle.graph_routes.proofs.twins.put_twin.Goals as goal
 pub returns-in-Some : goal.returns-in-Some
 returns-in-Some c =
     let id = c.in-Some.id in
-    let names : NamesId c.args.part.now id = rw c.in-Some.is at c.in_ok.ensures in
+    let names : NamesId c.args.part.now id = rw c.in-Some.is at c.in_ok-id.ensures in
     if_ok c.puts_twin.result (WithBody c.args.body.now (PutsTwin id)) (AsksTwin method.Put c.args.part.now c.args.body.now) (λ answer gives. inr (id, names, gives)) c.puts_twin.ensures
