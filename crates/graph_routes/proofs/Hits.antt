@@ -1,5 +1,5 @@
 -- The router finds each path of the table, and a path is at most one of them.
-use Rattle.std.proofs.Common.{◌≡◌, ℕ, List, [], ◌∷◌, ◌++◌, get_or, Option, Some, None, refl, sym, ap, subst, ◌∙◌, append-nil, lit<}
+use Rattle.std.proofs.Common.{◌≡◌, ℕ, suc, ◌<◌, List, [], ◌∷◌, ◌++◌, get_or, Option, Some, None, refl, sym, ap, subst, ◌∙◌, append-nil, lit<}
 use Rattle.std.specs.Prelude.{codes}
 use Rattle.matchit.specs.Rows.{prepend, ends, param_token}
 use Rattle.matchit.specs.Seek.{or_else, first}
@@ -14,6 +14,11 @@ use Rattle.graph_routes.specs.declared.route.Route.{Route}
 use Rattle.graph_routes.specs.declared.route.Route.TheVariants as route
 use Rattle.graph_routes.proofs.Walks.{part_ends, part_goes_on, last_part_ends}
 use Rattle.graph_routes.proofs.Sought.{numbers, number_of, entry_of, numbered, relationship_rows, twin_rows, model_rows, behind_twins, root_rows, all_rows, table_is, text_of, behind-text, relationship_rows-first, model_rows-first, twin_rows-first, root_rows-first, number_fits}
+
+-- The bytes of a text from its bounds, each of them told.
+pub bytes_of : (bs : List ℕ) → ((i : ℕ) → get_or bs i 0 < 256) → IsText bs
+bytes_of [] h = tt
+bytes_of (b ∷ bs) h = (h 0, bytes_of bs (λ i. h (suc i)))
 
 -- ---- parts
 last_part_hit : (key : ℕ) (s : List ℕ) → IsPart s → IsText (s ++ []) → first (prepend (param_token ∷ []) (ends (Some key))) (s ++ []) ≡ Some key

@@ -1,5 +1,5 @@
 -- A path is at most one of the table's.
-use Rattle.std.proofs.Common.{◌≡◌, ◌≢◌, ℕ, ◌<◌, List, [], ◌∷◌, ◌++◌, Bool, true, false, cond, refl, sym, ap, ap₂, ◌∙◌, arith, ltb, map, drop, append-nil}
+use Rattle.std.proofs.Common.{◌≡◌, ◌≢◌, ℕ, ◌<◌, List, [], ◌∷◌, ◌++◌, Bool, true, false, cond, refl, ap, ◌∙◌, arith, ltb, map}
 use Rattle.std.specs.List.{AllByRecursion}
 use Rattle.std.proofs.lemmas.Bool.Decides.{nat_tests}
 use Rattle.std.proofs.lemmas.List.{map-append}
@@ -77,10 +77,3 @@ pub one_match : (r s : Route) (parts others : List (List ℕ)) (path : List ℕ)
 one_match r s parts others path m n =
     one_match_of_bytes r s (map as_text parts) (map as_text others) (as_text path) (is_text path)
     (consists (pieces r) parts path (are_bytes r) m) (consists (pieces s) others path (are_bytes s) n)
-
-pub one_model : (parts others : List (List ℕ)) (path : List ℕ) → Matches route.Model parts path → Matches route.Model others path → parts ≡ others
-one_model parts others path (rest, e, (s, more, last, is, h, f, (none, g))) (rest', e', (s', more', last', is', h', f', (none', g'))) =
-    let tails : rest ≡ rest' = ap (drop 7) (sym e ∙ e') in
-    let firsts : slash ∷ (s ++ []) ≡ slash ∷ (s' ++ []) = ap (λ (q : List ℕ). slash ∷ (s ++ q)) (sym g) ∙ sym f ∙ tails ∙ f' ∙ ap (λ (q : List ℕ). slash ∷ (s' ++ q)) g' in
-    let same : s ≡ s' = sym (append-nil s) ∙ ap (drop 1) firsts ∙ append-nil s' in
-    is ∙ ap₂ (λ (x : List ℕ) (xs : List (List ℕ)). x ∷ xs) same (none ∙ sym none') ∙ sym is'

@@ -1,21 +1,23 @@
 -- The ask that a request makes is sound, and a refusal that its bytes decide lists the methods of a path.
-use Rattle.std.proofs.Common.{◌≡◌, ◌≤◌, ℕ, List, [], ◌∷◌, length, refl, sym, subst, inl, inr}
+use Rattle.std.proofs.Common.{◌≡◌, ◌≤◌, ℕ, List, Option, length, refl, sym, subst, inl, inr}
 use Rattle.dtmi_name.specs.Grammar.{Identifier, OwnDtmiText, dtmi_text}
 use Rattle.json_tree.specs.Values.{Json}
-use Rattle.json_read.specs.declared.fault.JsonFault.{JsonFault}
-use Rattle.json_read.specs.declared.fault.JsonFault.TheVariants as faults
+use Rattle.json_tree.specs.Grammar.{Spells}
 use Rattle.http_ends.specs.declared.request.Request.{Request}
 use Rattle.percent_encoding.specs.Percent.{percent_decode}
+use Rattle.query_terms.specs.declared.query.Query.{Query}
 use Rattle.graph_asks.specs.declared.ask.Ask as ask_type
 use Rattle.graph_asks.specs.declared.ask.Ask.TheVariants as asks
 use Rattle.graph_asks.specs.declared.refusal.Refusal.{Refusal}
 use Rattle.graph_asks.specs.declared.refusal.Refusal.TheVariants as refusals
+use Rattle.graph_steps.specs.Soundness.{IsModelOf, IsSound}
 use Rattle.graph_routes.specs.Methods.{allow_text}
-use Rattle.graph_routes.specs.Parts.{NamesModel}
-use Rattle.graph_routes.specs.Bodies.{RefusesFor}
-use Rattle.graph_routes.specs.Prepared.{Asks, IsPrepared, Marks, PutsModels, WithBody, WithModel}
+use Rattle.graph_routes.specs.Parts.{NamesModel, part_at}
+use Rattle.graph_routes.specs.Bodies.{most_models}
+use Rattle.graph_routes.specs.ModelRequests.{AsksCanon, AsksModel, AsksModels, Marks, PutsModels}
+use Rattle.graph_routes.specs.Outcomes.{WithBody}
+use Rattle.graph_routes.specs.Prepared.{Asks, IsPrepared}
 use Rattle.graph_routes.specs.Responses.{ListsMethods}
-use Rattle.graph_routes.specs.Soundness.{IsModelId, IsSoundAsk}
 use Rattle.graph_routes.specs.declared.method.Method.{Method}
 use Rattle.graph_routes.specs.declared.method.Method.TheVariants as method
 use Rattle.graph_routes.specs.declared.prepared.Prepared.{Prepared}
@@ -23,14 +25,8 @@ use Rattle.graph_routes.specs.declared.prepared.Prepared.TheVariants.{Ask, Own}
 use Rattle.graph_routes.specs.declared.route.Route.{Route}
 use Rattle.graph_routes.specs.declared.route.Route.TheVariants as route
 use Rattle.graph_routes.proofs.SoundModels.{TypesAreTold, sound_models}
-
--- What is right of an answer: its ask is sound, or its refusal lists the methods of a path.
-abbrev IsRight : Prepared → Type 0
-IsRight (Ask ask) = IsSoundAsk ask
-IsRight (Own refusal) = ListsMethods refusal
-
-right_by : (p q : Prepared) → p ≡ q → IsRight q → IsRight p
-right_by p q e h = subst IsRight (sym e) h
+use Rattle.graph_routes.proofs.SoundOutcome.{IsRight, made_sound, right_body, right_by, right_named}
+use Rattle.graph_routes.proofs.SoundTwins.{right_incoming, right_link, right_links, right_not_built, right_part, right_twin}
 
 listed : (r : Route) → ListsMethods (refusals.BadMethod (allow_text r))
 listed route.Models = (refl, refl)
@@ -43,98 +39,67 @@ listed route.Relationship = (refl, refl)
 listed route.IncomingRelationships = (refl, refl)
 listed route.Query = (refl, refl)
 
-for_fault : (body : List ℕ) (fault : JsonFault) (r : Refusal) → RefusesFor body fault r → ListsMethods r
-for_fault body (faults.Byte n) r e = subst ListsMethods (sym e) tt
-for_fault body (faults.Ends n) r e = subst ListsMethods (sym e) tt
-for_fault body (faults.Duplicate place) r h = subst ListsMethods (sym h.4) tt
-for_fault body (faults.Range place) r h = subst ListsMethods (sym h.4) tt
-for_fault body faults.OutOfMemory r h = absurd h
-
-with_body : (body : List ℕ) (Gives : Json → Prepared → Type 0) (p : Prepared) → ((v : Json) → Gives v p → IsRight p) → WithBody body Gives p → IsRight p
-with_body body Gives p right (inl (r, (fault, is, x), e)) = right_by p (Own r) e (for_fault body fault r x)
-with_body body Gives p right (inr (v, spelled, h)) = right v h
-
-marked : (id : Identifier) → IsModelId id → (v : Json) (p : Prepared) → Marks id v p → IsRight p
+marked : (id : Identifier) → IsModelOf id → (v : Json) (p : Prepared) → Marks id v p → IsRight p
 marked id is v p (inl (r, (index, code, h, x), e)) = right_by p (Own r) e (subst ListsMethods (sym x) tt)
 marked id is v p (inr (on, h, e)) = right_by p (Ask (asks.Mark id on)) e is
 
-model_id : (part : List ℕ) (id : Identifier) → NamesModel part id → IsModelId id
-model_id part id h =
+model_of : (part : List ℕ) (id : Identifier) → NamesModel part id → IsModelOf id
+model_of part id h =
     let spelled : percent_decode part ≡ dtmi_text id = h.text.text.form.spelled in
-    record {
-      own = subst (λ (t : List ℕ). OwnDtmiText t id) spelled h.text;
-      short = subst (λ (t : List ℕ). length t ≤ 128) spelled h.short;
-    }
+    (subst (λ (t : List ℕ). OwnDtmiText t id) spelled h.text, subst (λ (t : List ℕ). length t ≤ 128) spelled h.short)
 
-with_model : (parts : List (List ℕ)) (Gives : Identifier → Prepared → Type 0) (p : Prepared) → ((id : Identifier) → IsModelId id → Gives id p → IsRight p) → WithModel parts Gives p → IsRight p
-with_model [] Gives p right h = absurd h
-with_model (part ∷ parts) Gives p right (inl (none, e)) = right_by p (Own (refusals.BadId 0)) e tt
-with_model (part ∷ parts) Gives p right (inr (id, named, h)) = right id (model_id part id named) h
+put : TypesAreTold → (body : List ℕ) (v : Json) (p : Prepared) → Spells body v → PutsModels v p → IsRight p
+put told body v p spelled (inl (many, e)) = right_by p (Own (refusals.TooManyModels most_models)) e tt
+put told body v p spelled (inr (inl (few, (r, (place, broken, pointer, first, is, x), e)))) = right_by p (Own r) e (subst ListsMethods (sym x) tt)
+put told body v p spelled (inr (inr (few, (models, h, e)))) = right_by p (Ask (asks.PutModels models)) e (sound_models told body v models spelled h)
 
-put : TypesAreTold → (body : List ℕ) (p : Prepared) → WithBody body PutsModels p → IsRight p
-put told body p (inl (r, (fault, is, x), e)) = right_by p (Own r) e (for_fault body fault r x)
-put told body p (inr (v, spelled, inl (many, e))) = right_by p (Own (refusals.TooManyModels 250)) e tt
-put told body p (inr (v, spelled, inr (inl (few, (r, (place, broken, pointer, first, is, x), e))))) = right_by p (Own r) e (subst ListsMethods (sym x) tt)
-put told body p (inr (v, spelled, inr (inr (few, (models, h, e))))) = right_by p (Ask (asks.PutModels models)) e (sound_models told body v models spelled few h)
+right_models : TypesAreTold → (m : Method) (body : List ℕ) (p : Prepared) → AsksModels m body p → IsRight p
+right_models told method.Get body p e = right_by p (Ask asks.ListModels) e tt
+right_models told method.Post body p h = right_body body PutsModels p (λ v spelled. put told body v p spelled) h
+right_models told method.Delete body p e = right_not_built p e
+right_models told method.Patch body p e = right_not_built p e
+right_models told method.Put body p e = right_not_built p e
 
-not_built : (p : Prepared) → p ≡ Own refusals.NotBuilt → IsRight p
-not_built p e = right_by p (Own refusals.NotBuilt) e tt
+right_model : (m : Method) (part body : List ℕ) (p : Prepared) → AsksModel m part body p → IsRight p
+right_model method.Get part body p h =
+    right_named (NamesModel part) (refusals.BadId 0) (λ id given. given ≡ Ask (asks.GetModel id)) p tt (λ id is e. right_by p (Ask (asks.GetModel id)) e (model_of part id is)) h
+right_model method.Delete part body p h =
+    right_named (NamesModel part) (refusals.BadId 0) (λ id given. given ≡ Ask (asks.DropModel id)) p tt (λ id is e. right_by p (Ask (asks.DropModel id)) e (model_of part id is)) h
+right_model method.Patch part body p h =
+    right_named (NamesModel part) (refusals.BadId 0) (λ id. WithBody body (Marks id)) p tt
+    (λ id is. right_body body (Marks id) p (λ v spelled. marked id (model_of part id is) v p)) h
+right_model method.Post part body p e = right_not_built p e
+right_model method.Put part body p e = right_not_built p e
 
-asked : TypesAreTold → (r : Route) (m : Method) (parts : List (List ℕ)) (body : List ℕ) (p : Prepared) → Asks r m parts body p → IsRight p
-asked told route.Models method.Get parts body p e = right_by p (Ask asks.ListModels) e tt
-asked told route.Models method.Post parts body p h = put told body p h
-asked told route.Model method.Get parts body p h = with_model parts (λ id given. given ≡ Ask (asks.GetModel id)) p (λ id is e. right_by p (Ask (asks.GetModel id)) e is) h
-asked told route.Model method.Delete parts body p h = with_model parts (λ id given. given ≡ Ask (asks.DropModel id)) p (λ id is e. right_by p (Ask (asks.DropModel id)) e is) h
-asked told route.Model method.Patch parts body p h = with_model parts (λ id. WithBody body (Marks id)) p (λ id is g. with_body body (Marks id) p (λ v k. marked id is v p k) g) h
-asked told route.Canon method.Get parts body p e = right_by p (Ask asks.Canon) e tt
-asked told route.Models method.Delete parts body p e = not_built p e
-asked told route.Models method.Patch parts body p e = not_built p e
-asked told route.Models method.Put parts body p e = not_built p e
-asked told route.Model method.Post parts body p e = not_built p e
-asked told route.Model method.Put parts body p e = not_built p e
-asked told route.Canon method.Delete parts body p e = not_built p e
-asked told route.Canon method.Patch parts body p e = not_built p e
-asked told route.Canon method.Post parts body p e = not_built p e
-asked told route.Canon method.Put parts body p e = not_built p e
-asked told route.Twin method.Delete parts body p e = not_built p e
-asked told route.Twin method.Get parts body p e = not_built p e
-asked told route.Twin method.Patch parts body p e = not_built p e
-asked told route.Twin method.Post parts body p e = not_built p e
-asked told route.Twin method.Put parts body p e = not_built p e
-asked told route.Component method.Delete parts body p e = not_built p e
-asked told route.Component method.Get parts body p e = not_built p e
-asked told route.Component method.Patch parts body p e = not_built p e
-asked told route.Component method.Post parts body p e = not_built p e
-asked told route.Component method.Put parts body p e = not_built p e
-asked told route.Relationships method.Delete parts body p e = not_built p e
-asked told route.Relationships method.Get parts body p e = not_built p e
-asked told route.Relationships method.Patch parts body p e = not_built p e
-asked told route.Relationships method.Post parts body p e = not_built p e
-asked told route.Relationships method.Put parts body p e = not_built p e
-asked told route.Relationship method.Delete parts body p e = not_built p e
-asked told route.Relationship method.Get parts body p e = not_built p e
-asked told route.Relationship method.Patch parts body p e = not_built p e
-asked told route.Relationship method.Post parts body p e = not_built p e
-asked told route.Relationship method.Put parts body p e = not_built p e
-asked told route.IncomingRelationships method.Delete parts body p e = not_built p e
-asked told route.IncomingRelationships method.Get parts body p e = not_built p e
-asked told route.IncomingRelationships method.Patch parts body p e = not_built p e
-asked told route.IncomingRelationships method.Post parts body p e = not_built p e
-asked told route.IncomingRelationships method.Put parts body p e = not_built p e
-asked told route.Query method.Delete parts body p e = not_built p e
-asked told route.Query method.Get parts body p e = not_built p e
-asked told route.Query method.Patch parts body p e = not_built p e
-asked told route.Query method.Post parts body p e = not_built p e
-asked told route.Query method.Put parts body p e = not_built p e
+right_canon : (m : Method) (p : Prepared) → AsksCanon m p → IsRight p
+right_canon method.Get p e = right_by p (Ask asks.Canon) e tt
+right_canon method.Delete p e = right_not_built p e
+right_canon method.Patch p e = right_not_built p e
+right_canon method.Post p e = right_not_built p e
+right_canon method.Put p e = right_not_built p e
+
+asked : TypesAreTold → (r : Route) (m : Method) (parts : List (List ℕ)) (request : Request) (p : Prepared) → Asks r m parts request p → IsRight p
+asked told route.Models m parts request p h = right_models told m request.body p h
+asked told route.Model m parts request p h = right_model m (part_at 0 parts) request.body p h
+asked told route.Canon m parts request p h = right_canon m p h
+asked told route.Twin m parts request p h = right_twin m (part_at 0 parts) request.body p h
+asked told route.Component m parts request p h = right_part m (part_at 0 parts) (part_at 1 parts) request.body p h
+asked told route.Relationships m parts request p h = right_links m (part_at 0 parts) request.query p h
+asked told route.Relationship m parts request p h = right_link m (part_at 0 parts) (part_at 1 parts) request.body p h
+asked told route.IncomingRelationships m parts request p h = right_incoming m (part_at 0 parts) request.query p h
+asked told route.Query m parts request p e = right_not_built p e
 
 right : TypesAreTold → (request : Request) (p : Prepared) → IsPrepared request p → IsRight p
 unfolding IsPrepared
 right told request p (inl (none, e)) = right_by p (Own refusals.NoRoute) e tt
 right told request p (inr (r, parts, m, inl (none, e))) = right_by p (Own (refusals.BadMethod (allow_text r))) e (listed r)
-right told request p (inr (r, parts, m, inr (n, is, h))) = asked told r n parts request.body p h
+right told request p (inr (r, parts, m, inr (n, is, h))) = asked told r n parts request p h
 
-pub sound_ask : TypesAreTold → (request : Request) (ask : ask_type.Ask) → IsPrepared request (Ask ask) → IsSoundAsk ask
-sound_ask told request ask h = right told request (Ask ask) h
+pub sound_ask : TypesAreTold → (request : Request) (ask : ask_type.Ask) → IsPrepared request (Ask ask) → IsSound ask
+sound_ask told request ask h = made_sound ask (right told request (Ask ask) h)
+
+pub no_query : TypesAreTold → (request : Request) (query : Query) (after : Option (List (List ℕ))) → IsPrepared request (Ask (asks.Query query after)) → ⊥
+no_query told request query after h = right told request (Ask (asks.Query query after)) h
 
 pub lists_methods : TypesAreTold → (request : Request) (refusal : Refusal) → IsPrepared request (Own refusal) → ListsMethods refusal
 lists_methods told request refusal h = right told request (Own refusal) h

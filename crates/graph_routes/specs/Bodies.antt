@@ -17,6 +17,7 @@ use Rattle.twin_patch.specs.Codes.{code_text}
 use Rattle.twin_patch.specs.Operations.{Change, add, replace, remove, Operation}
 use Rattle.twin_patch.specs.Reading.{IsPatch, IsFault as IsPatchFault}
 use Rattle.twin_patch.specs.declared.code.PatchCode.{PatchCode}
+use Rattle.twin_patch.specs.declared.entry.PatchOf.{PatchOf}
 use Rattle.twin_patch.specs.declared.entry.PatchOf.TheVariants as patches
 use Rattle.graph_asks.specs.declared.refusal.At.TheVariants as at
 use Rattle.graph_asks.specs.declared.refusal.Refusal.{Refusal}
@@ -68,11 +69,12 @@ RefusesModels v refusal = (place : List ℕ) × (broken : LocalRule) × (pointer
 abbrev pub DeclaresModels : Json → List Uploaded → Type 0
 DeclaresModels v models = IsUnbroken v × AreUploaded v 1 models
 
--- ---- marks
--- The refusal of a value that is no patch of a model.
-abbrev pub RefusesPatch : Json → Refusal → Type 0
-RefusesPatch v refusal = (index : ℕ) × (code : PatchCode) × IsPatchFault patches.Model v index code × (refusal ≡ refusals.PatchFault (code_text code) index)
+-- ---- patches
+-- The refusal of a value that is no patch of this kind.
+abbrev pub RefusesPatch : PatchOf → Json → Refusal → Type 0
+RefusesPatch of v refusal = (index : ℕ) × (code : PatchCode) × IsPatchFault of v index code × (refusal ≡ refusals.PatchFault (code_text code) index)
 
+-- ---- marks
 -- The change sets a member to a truth value.
 abbrev pub SetsTo : Change → Bool → Type 0
 SetsTo (add v) on = v ≡ truth on

@@ -1,9 +1,14 @@
 pub mod Paths
 pub mod Methods
 pub mod Parts
+pub mod Parameters
+pub mod Identifiers
 pub mod Bodies
+pub mod Outcomes
+pub mod ModelRequests
+pub mod TwinRequests
+pub mod LinkRequests
 pub mod Prepared
 pub mod Errors
 pub mod Responses
-pub mod Soundness
 pub mod Machinery

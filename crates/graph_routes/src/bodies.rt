@@ -10,7 +10,8 @@ ghost use Rattle.local_rules.specs.Breaches.{IsFirstBreach};
 ghost use Rattle.twin_patch.specs.Operations.{operations_of};
 ghost use Rattle.twin_patch.specs.Reading.{IsMark};
 ghost use Rattle.graph_routes.specs.Bodies.{IsTooMany, RefusesFor, RefusesModels, RefusesPlace, SetsOne};
-ghost use Rattle.graph_routes.specs.Prepared.{Marks, PutsModels, WithBody};
+ghost use Rattle.graph_routes.specs.ModelRequests.{Marks, PutsModels};
+ghost use Rattle.graph_routes.specs.Outcomes.{WithBody};
 ghost use Rattle.graph_asks.specs.declared.refusal.Refusal.TheVariants as refusals;
 
 use crate::prepared::Prepared;
@@ -49,7 +50,7 @@ fn refusal_at(alloc: Global, body: &[u8], place: &Place, code: &str) -> Result<R
 }
 
 /// The refusal of a body that is no JSON text of the profile.
-fn fault_refusal(alloc: Global, body: &[u8], fault: &JsonFault) -> Result<Refusal, OutOfMemory>
+pub fn fault_refusal(alloc: Global, body: &[u8], fault: &JsonFault) -> Result<Refusal, OutOfMemory>
     requires { IsFault body.now fault.now }
     ensures { IfOk result (RefusesFor body.now fault.now) }
 {

@@ -3,14 +3,20 @@
 
 mod asks;
 mod bodies;
+mod differences;
 mod errors;
 mod laws;
+mod links;
 mod method;
+mod outer;
+mod parameters;
 mod parts;
+mod patches;
 mod prepared;
 mod responses;
 mod route;
 mod router;
+mod twins;
 
 pub use laws::{one_prepared, prepared_is_right};
 pub use method::Method;

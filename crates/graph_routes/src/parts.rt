@@ -1,16 +1,51 @@
-//! What the parts of a path name.
+//! The parts of paths, and what they name.
 
-ghost use Rattle.std.specs.Prelude.{◌≡◌, ◌≤◌, ◌↔◌, length, IfOk, IsTrue, MatchOption};
-ghost use Rattle.dtmi_name.specs.Grammar.{Identifier, OwnDtmiText};
-ghost use Rattle.graph_routes.specs.Parts.{NamesModel};
+ghost use Rattle.std.specs.Prelude.{◌≡◌, ◌≤◌, ◌↔◌, ◌==◌, [], ℕ, List, length, get_or, slice_get, IfOk, IsTrue, MatchOption};
+ghost use Rattle.std.specs.List.{slice_split};
+ghost use Rattle.std.specs.Option.{option_map};
+ghost use Rattle.dtmi_name.specs.Grammar.{Identifier, NameText, OwnDtmiText};
+ghost use Rattle.graph_routes.specs.Parts.{NamesComponent, NamesModel, part_at};
+ghost use Rattle.graph_routes.specs.Paths.{Matches};
+ghost use Rattle.graph_routes.specs.declared.route.Route.{Route};
 
-use dt_base::OutOfMemory;
-use dtmi_name::{Dtmi, NameFault};
+use dt_base::{OutOfMemory, Text};
+use dtmi_name::{Dtmi, NameFault, is_name};
 use percent_encoding::{DecodeError, percent_decode};
 use std::alloc::Global;
 
 /// The most bytes of a model's identifier.
 const MOST_BYTES: usize = 128;
+
+/// What stands in a path behind so many of its slashes, up to the next one.
+fn found_piece(path: &str, slashes: usize) -> Option<&str>
+    ensures { option_map (λ p. p.now) result ≡ slice_get (slice_split (λ b. b == 47) path.now) slashes }
+{
+    path.split('/').nth(slashes)
+}
+
+/// The same, or the empty text.
+fn piece(path: &str, slashes: usize) -> &str
+    ensures { result.now ≡ get_or (slice_split (λ b. b == 47) path.now) slashes [] }
+{
+    match found_piece(path, slashes) {
+        Some(piece) => piece,
+        None => "",
+    }
+}
+
+/// The first part of a path of the table; the empty text where it has none.
+pub fn first_part(path: &str) -> &str
+    ensures { (r : Route) (parts : List (List ℕ)) → Matches r parts path.now → part_at 0 parts ≡ result.now }
+{
+    piece(path, 2)
+}
+
+/// The second part of a path of the table; the empty text where it has none.
+pub fn second_part(path: &str) -> &str
+    ensures { (r : Route) (parts : List (List ℕ)) → Matches r parts path.now → part_at 1 parts ≡ result.now }
+{
+    piece(path, 4)
+}
 
 /// Whether a text was not read for want of memory.
 fn is_want_of_memory(fault: &NameFault) -> bool
@@ -28,7 +63,7 @@ fn is_want_of_memory(fault: &NameFault) -> bool
 }
 
 /// The identifier of a model that a text is.
-fn read_model(alloc: Global, text: &str) -> Result<Option<Dtmi>, OutOfMemory>
+pub fn read_model(alloc: Global, text: &str) -> Result<Option<Dtmi>, OutOfMemory>
     ensures { IfOk result (λ found. MatchOption found
         ((id : Identifier) → OwnDtmiText text.now id → length text.now ≤ 128 → ⊥)
         (λ id. OwnDtmiText text.now id × (length text.now ≤ 128))) }
@@ -54,6 +89,28 @@ pub fn model_named(alloc: Global, part: &str) -> Result<Option<Dtmi>, OutOfMemor
 {
     match percent_decode(part.as_bytes()).decode_utf8(alloc) {
         Ok(text) => read_model(alloc, &text),
+        Err(DecodeError::Utf8(_)) => Ok(None),
+        Err(DecodeError::OutOfMemory) => Err(OutOfMemory),
+    }
+}
+
+/// The name that a text is.
+fn read_name(alloc: Global, text: &str) -> Result<Option<Text>, OutOfMemory>
+    ensures { IfOk result (λ found. MatchOption found (NameText text.now → ⊥) (λ name. (name ≡ text.now) × NameText text.now)) }
+{
+    if !is_name(text) {
+        return Ok(None);
+    }
+    let name = Text::from_str(alloc, text)?;
+    Ok(Some(name))
+}
+
+/// The component that a part of a path names. Only want of memory makes it fail.
+pub fn component_named(alloc: Global, part: &str) -> Result<Option<Text>, OutOfMemory>
+    ensures { IfOk result (λ found. MatchOption found ((name : List ℕ) → NamesComponent part.now name → ⊥) (λ name. NamesComponent part.now name)) }
+{
+    match percent_decode(part.as_bytes()).decode_utf8(alloc) {
+        Ok(text) => read_name(alloc, &text),
         Err(DecodeError::Utf8(_)) => Ok(None),
         Err(DecodeError::OutOfMemory) => Err(OutOfMemory),
     }

@@ -1,8 +1,6 @@
 //! The router of the paths, and what is made of requests.
 
-ghost use Rattle.std.specs.Prelude.{◌≡◌, [], ◌∷◌, ℕ, List, IfOk, OnOk, Ok, MatchOption};
-ghost use Rattle.std.specs.Str.{IsUtf8};
-ghost use Rattle.matchit.specs.Params.{walk};
+ghost use Rattle.std.specs.Prelude.{ℕ, List, IfOk, OnOk, Ok, MatchOption};
 ghost use Rattle.matchit.specs.Route.{parse_route};
 ghost use Rattle.matchit.specs.Router.{InsertsRead};
 ghost use Rattle.graph_routes.specs.Paths.{Matches};
@@ -16,7 +14,7 @@ use crate::route::Route;
 use dt_base::{OutOfMemory, Text};
 use graph_asks::Refusal;
 use http_ends::Request;
-use matchit::{Params, Router};
+use matchit::Router;
 use std::alloc::Global;
 use std::marker::Model;
 
@@ -41,13 +39,6 @@ impl Model for Routes {
     ghost invariant = { λ r. r.router ≡ table };
 }
 
-/// A path of the table that was found, with the text for its first part.
-#[derive(Clone, Copy)]
-struct Found<'p> {
-    route: Route,
-    part: &'p str,
-}
-
 /// Adds a path to a router.
 fn add(router: &mut Router<Route>, path: &str, route: Route) -> Result<(), OutOfMemory>
     ensures { OnOk result (InsertsRead (parse_route path.now) route router.old router.new (Ok tt)) }
@@ -58,33 +49,14 @@ fn add(router: &mut Router<Route>, path: &str, route: Route) -> Result<(), OutOf
     }
 }
 
-/// The text for the first part of a path.
-fn first_part<'p>(params: &Params<'_, 'p>) -> &'p str
-    ensures { (p : List ℕ × List ℕ) (rest : List (List ℕ × List ℕ))
-        → walk params.now.pattern.now params.now.text.now params.now.path.now params.now.names.now 0 0 ≡ p ∷ rest → IsUtf8 p.1 → result.now ≡ p.1 }
-{
-    match params.iter().next() {
-        Some((_, part)) => part,
-        None => "",
-    }
-}
-
 /// What is asked of a path of the table.
-fn asked_of(alloc: Global, found: Found<'_>, request: &Request) -> Result<Prepared, OutOfMemory>
-    ensures { IfOk result (λ answer. (parts : List (List ℕ)) → (found.entry.route ≡ Route.Model → parts ≡ found.entry.part.now ∷ []) → AsksOf found.entry.route parts request.now answer) }
+fn asked_of(alloc: Global, route: Route, request: &Request) -> Result<Prepared, OutOfMemory>
+    ensures { IfOk result (λ answer. (parts : List (List ℕ)) → Matches route parts request.now.path → AsksOf route parts request.now answer) }
 {
     match method_named(request.method.as_str()) {
-        Some(method) if has_method(found.route, method) => {
-            asked(
-                alloc,
-                found.route,
-                method,
-                found.part,
-                request.body.as_slice(),
-            )
-        }
+        Some(method) if has_method(route, method) => asked(alloc, route, method, request),
         _ => Ok(Prepared::Own(Refusal::BadMethod {
-            allow: Text::from_str(alloc, allow_text(found.route))?,
+            allow: Text::from_str(alloc, allow_text(route))?,
         })),
     }
 }
@@ -122,29 +94,26 @@ impl Routes {
     }
 
     /// The path of the table that a path is.
-    fn find<'p>(&self, path: &'p str) -> Option<Found<'p>>
-        ensures { MatchOption result ((r : Route) (parts : List (List ℕ)) → Matches r parts path.now → ⊥)
-            (λ f. (parts : List (List ℕ)) × Matches f.route parts path.now × (f.route ≡ Route.Model → parts ≡ f.part.now ∷ [])) }
+    fn find(&self, path: &str) -> Option<Route>
+        ensures { MatchOption result ((r : Route) (parts : List (List ℕ)) → Matches r parts path.now → ⊥) (λ r. (parts : List (List ℕ)) × Matches r parts path.now) }
     {
         match self.router.at(path) {
-            Ok(found) => Some(Found {
-                route: *found.value,
-                part: first_part(&found.params),
-            }),
+            Ok(found) => Some(*found.value),
             Err(_) => None,
         }
     }
 
     /// The ask that a request makes, or the refusal that its own bytes decide: the path is none of the table, the path
-    /// does not have the method, what is asked for is not built, the path's part is no identifier, the body is no JSON
-    /// text, it lists more than 250 models, a model breaks a local rule, or the body is no patch; of several the first in
-    /// this order. Fails only for want of memory.
+    /// does not have the method, what is asked for is not built, a part of the path is no identifier, a parameter is no
+    /// token, the body is no JSON text, it lists more than 250 models, a model breaks a local rule, the body is no patch, a
+    /// twin's or relationship's body has a breach that shows without a model, or it gives another identifier than the path;
+    /// of several the first in this order. Fails only for want of memory.
     #[tactic(auto, unfolding(crate::specs::Prepared::IsPrepared))]
     pub fn ask_of(&self, request: &Request) -> Result<Prepared, OutOfMemory>
         ensures { IfOk result (IsPrepared request.now) }
     {
         match self.find(request.path.as_str()) {
-            Some(found) => asked_of(self.alloc, found, request),
+            Some(route) => asked_of(self.alloc, route, request),
             None => Ok(Prepared::Own(Refusal::NoRoute)),
         }
     }

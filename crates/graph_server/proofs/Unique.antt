@@ -7,21 +7,19 @@ use Rattle.http_session.specs.Uniqueness.{AreFunctions, OneSession}
 use Rattle.http_session.proofs.Stretches.{session_weaker}
 use Rattle.http_session.specs.declared.ends.SessionEnd.{SessionEnd}
 use Rattle.graph_asks.specs.Answers.{Answer, body, created, canon, done, refused, answer_of}
+use Rattle.graph_asks.specs.Asks.{AreOneAsk}
 use Rattle.graph_asks.specs.declared.ask.Ask.{Ask}
-use Rattle.graph_asks.specs.declared.ask.Ask.TheVariants as asks
 use Rattle.graph_asks.specs.declared.refusal.Refusal.{Refusal}
 use Rattle.graph_asks.specs.declared.reply.Reply.{Reply}
 use Rattle.graph_asks.specs.declared.reply.Reply.TheVariants as replies
-use Rattle.graph_steps.specs.OnModels.{IsOnModels}
 use Rattle.graph_steps.specs.Soundness.{IsSound}
 use Rattle.graph_steps.specs.States.{State, empty}
-use Rattle.graph_steps.specs.Steps.{Answers}
-use Rattle.graph_machine.specs.Built.{IsBuilt}
-use Rattle.graph_routes.specs.Prepared.{IsPrepared}
+use Rattle.graph_steps.specs.Steps.{Answers, followed}
+use Rattle.graph_routes.specs.Prepared.{ArePreparedAlike, IsPrepared}
 use Rattle.graph_routes.specs.Responses.{plain, response_for, response_to}
 use Rattle.graph_routes.specs.declared.prepared.Prepared.{Prepared}
 use Rattle.graph_routes.specs.declared.prepared.Prepared.TheVariants as prepared
-use Rattle.graph_server.specs.Entries.{Entry, entry, own, enters, allows, follows}
+use Rattle.graph_server.specs.Entries.{Entry, AreOneEntry, own, enters, allows, follows}
 use Rattle.graph_server.specs.Replays.{IsReplay, OneReplay}
 
 abbrev ask_made : Ask → Prepared
@@ -30,30 +28,19 @@ ask_made a = prepared.Ask a
 abbrev own_made : Refusal → Prepared
 own_made r = prepared.Own r
 
-ask_same : (a b : Ask) → ask_made a ≡ ask_made b → a ≡ b
-ask_same a b e = cc
-
 own_same : (r q : Refusal) → own_made r ≡ own_made q → r ≡ q
 own_same r q e = cc
 
 ask_not_own : (a : Ask) (r : Refusal) → ask_made a ≡ own_made r → ⊥
 ask_not_own a r e = cc
 
-on_models : (a : Ask) → IsBuilt a → IsOnModels a
-on_models (asks.PutModels models) h = tt
-on_models (asks.GetModel id) h = tt
-on_models asks.ListModels h = tt
-on_models (asks.Mark id on) h = tt
-on_models (asks.DropModel id) h = tt
-on_models asks.Canon h = tt
-on_models _ h = absurd h
-
 -- what is known of requests and of graphs
 pub record Known : Type 0 where
-  pub requests : (request : Request) (a b : Prepared) → IsPrepared request a → IsPrepared request b → a ≡ b
-  pub answered : (s : State) (ask : Ask) (a b : Answer) → IsSound ask → IsOnModels ask → Answers s ask a → Answers s ask b → a ≡ b
-  pub sound : (request : Request) (ask : Ask) → IsPrepared request (prepared.Ask ask) → IsSound ask × IsBuilt ask
-  pub session : OneSession own enters allows follows
+  pub requests : (request : Request) (a b : Prepared) → IsPrepared request a → IsPrepared request b → ArePreparedAlike a b
+  pub answered : (s : State) (ask other : Ask) (a b : Answer) → IsSound ask → AreOneAsk ask other → Answers s ask a → Answers s other b → a ≡ b
+  pub follows_one : (s : State) (ask other : Ask) (a : Answer) → AreOneAsk ask other → followed s ask a ≡ followed s other a
+  pub sound : (request : Request) (ask : Ask) → IsPrepared request (prepared.Ask ask) → IsSound ask
+  pub session : OneSession own enters allows follows AreOneEntry
 
 -- the response depends on the answer alone
 response_in : Answer → Response
@@ -74,24 +61,23 @@ of_answer (replies.Refused r) = refl
 same_response : (one other : Reply) → answer_of one ≡ answer_of other → response_for one ≡ response_for other
 same_response one other e = of_answer one ∙ ap response_in e ∙ sym (of_answer other)
 
-same_entry : (a b : Ask) (x y : Answer) → a ≡ b → x ≡ y → entry a x ≡ entry b y
-same_entry a b x y e f = cc
-
-one_entry : Known → (s : State) (request : Request) (e f : Entry) (a b : Response) → enters request e a → enters request f b → allows s e → allows s f → (e ≡ f) × (a ≡ b)
+one_entry : Known → (s : State) (request : Request) (e f : Entry) (a b : Response) → enters request e a → enters request f b → allows s e → allows s f → AreOneEntry e f × (a ≡ b)
 one_entry known s request e f a b (made, (reply, gives, is)) (also, (other, gives_too, is_too)) legal legal_too =
-    let same = ask_same e.ask f.ask (known.requests request (prepared.Ask e.ask) (prepared.Ask f.ask) made also) in
-    let built = known.sound request e.ask made in
-    let answered = subst (λ (ask : Ask). Answers s ask f.answer) (sym same) legal_too.1 in
-    let answers = known.answered s e.ask e.answer f.answer built.0 (on_models e.ask built.1) legal.1 answered in (
-      same_entry e.ask f.ask e.answer f.answer same answers,
+    let one : AreOneAsk e.ask f.ask = known.requests request (prepared.Ask e.ask) (prepared.Ask f.ask) made also in
+    let answers = known.answered s e.ask f.ask e.answer f.answer (known.sound request e.ask made) one legal.1 legal_too.1 in (
+      (one, answers),
       is ∙ same_response reply other (gives ∙ answers ∙ sym gives_too) ∙ sym is_too,
     )
 
-functions : Known → AreFunctions own enters allows
+one_state : Known → (s : State) (e f : Entry) → AreOneEntry e f → follows s e ≡ follows s f
+one_state known s e f same = known.follows_one s e.ask f.ask e.answer same.0 ∙ ap (followed s f.ask) same.1
+
+functions : Known → AreFunctions own enters allows follows AreOneEntry
 functions known = record {
   apart = λ request e a b o n. ask_not_own e.ask o.0 (known.requests request (prepared.Ask e.ask) (prepared.Own o.0) n.0 o.1);
   one_own = λ request a b o n. o.2 ∙ ap response_to (own_same o.0 n.0 (known.requests request (prepared.Own o.0) (prepared.Own n.0) o.1 n.1)) ∙ sym n.2;
   one_entry = one_entry known;
+  one_state = one_state known;
 }
 
 pub one_replay : Known → OneReplay

@@ -4,6 +4,7 @@ use Rattle.http_ends.specs.declared.request.Request.{Request}
 use Rattle.http_ends.specs.declared.response.Response.{Response}
 use Rattle.http_session.specs.Legal.{AreLegal}
 use Rattle.graph_asks.specs.Answers.{Answer, answer_of}
+use Rattle.graph_asks.specs.Asks.{AreOneAsk}
 use Rattle.graph_asks.specs.declared.ask.Ask.{Ask}
 use Rattle.graph_asks.specs.declared.refusal.Refusal.{Refusal}
 use Rattle.graph_asks.specs.declared.reply.Reply.{Reply}
@@ -21,6 +22,10 @@ pub record Entry : Type 0 where
 
 abbrev pub entry : Ask → Answer → Entry
 entry ask answer = record { ask = ask; answer = answer }
+
+-- Two entries are one, but for where in memory the trees, patches and queries of their asks lie.
+abbrev pub AreOneEntry : Entry → Entry → Type 0
+AreOneEntry e f = AreOneAsk e.ask f.ask × (e.answer ≡ f.answer)
 
 -- ---- requests
 -- The request's own bytes decide a refusal, of which this is the response. There is no entry.

@@ -8,8 +8,8 @@ ghost use Rattle.graph_routes.specs.declared.prepared.Prepared.TheVariants as pr
 ghost use Rattle.graph_server.specs.Replays.{OneReplay};
 ghost use Rattle.graph_steps.specs.Soundness.{IsSound};
 
+use graph_answers::one_step;
 use graph_routes::{one_prepared, prepared_is_right};
-use graph_steps::one_answer;
 use http_session::{Rules, one_session};
 
 /// What a request asks of a graph is sound, and is an ask that is built.
@@ -24,7 +24,7 @@ struct GraphRules;
 
 impl Rules for GraphRules {
     ghost use Rattle.graph_steps.specs.States.{State};
-    ghost use Rattle.graph_server.specs.Entries.{Entry, own, enters, allows, follows};
+    ghost use Rattle.graph_server.specs.Entries.{Entry, AreOneEntry, own, enters, allows, follows};
 
     ghost State = { State };
 
@@ -37,14 +37,17 @@ impl Rules for GraphRules {
     ghost allowed = { allows };
 
     ghost follows = { follows };
+
+    ghost same = { AreOneEntry };
 }
 
-/// A stream that its bytes end has one replay: one history from the empty graph, one end, and the same bytes are written.
+/// A stream that its bytes end has one replay: one history from the empty graph, but for where in memory the trees, patches
+/// and queries of its asks lie, one end, and the same bytes are written.
 pub fn one_replay()
     ensures { OneReplay }
 {
     one_prepared();
-    one_answer();
+    one_step();
     sound_asks();
     one_session::<GraphRules>();
 }

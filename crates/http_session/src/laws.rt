@@ -19,9 +19,11 @@ pub trait Rules {
     ghost allowed: { Self.State → Self.Entry → Type 0 };
     // The state that follows a state and its entry.
     ghost follows: { Self.State → Self.Entry → Self.State };
+    // Two entries count as one.
+    ghost same: { Self.Entry → Self.Entry → Type 0 };
 }
 
 /// Where a state and a request have one response, there is one session of a stream that its bytes end.
 pub fn one_session<R: Rules>()
-    ensures { OneSession R.own R.enters R.allowed R.follows }
+    ensures { OneSession R.own R.enters R.allowed R.follows R.same }
 {}

@@ -89,11 +89,13 @@ impl Rules for EchoRules {
     ghost allowed = { λ s e. Unit {0} };
 
     ghost follows = { λ s e. tt };
+
+    ghost same = { λ e f. e ≡ f };
 }
 
 /// The law of sessions at this service.
 fn has_one_session()
-    ensures { OneSession ⟦<EchoRules as Rules>⟧.own ⟦<EchoRules as Rules>⟧.enters ⟦<EchoRules as Rules>⟧.allowed ⟦<EchoRules as Rules>⟧.follows }
+    ensures { OneSession ⟦<EchoRules as Rules>⟧.own ⟦<EchoRules as Rules>⟧.enters ⟦<EchoRules as Rules>⟧.allowed ⟦<EchoRules as Rules>⟧.follows ⟦<EchoRules as Rules>⟧.same }
 {
     one_session::<EchoRules>()
 }

@@ -1,7 +1,8 @@
 use Rattle.std.proofs.Common.{inr, refl}
 use Rattle.json_tree.specs.View.{view}
 use Rattle.json_read.proofs.Pointed.{if_ok}
-use Rattle.graph_routes.specs.Prepared.{PutsModels, WithBody}
+use Rattle.graph_routes.specs.ModelRequests.{PutsModels}
+use Rattle.graph_routes.specs.Outcomes.{WithBody}
 use Rattle.graph_routes.proofs.bodies.puts_models.Goals as goal
 
 pub returns-in-Ok : goal.returns-in-Ok

@@ -2,4 +2,10 @@ use Rattle.graph_server.proofs.Unique.{one_replay}
 use Rattle.graph_server.proofs.laws.one_replay.Goals as goal
 
 pub returns : goal.returns
-returns c = one_replay (record { requests = c.one_prepared.ensures; answered = c.one_answer.ensures; sound = c.sound_asks.ensures; session = c.one_session.ensures })
+returns c = one_replay (record {
+  requests = c.one_prepared.ensures;
+  answered = c.one_step.ensures.answer;
+  follows_one = c.one_step.ensures.state;
+  sound = λ request ask is. (c.sound_asks.ensures request ask is).0;
+  session = c.one_session.ensures;
+})

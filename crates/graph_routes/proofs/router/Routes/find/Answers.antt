@@ -4,8 +4,7 @@ use Rattle.matchit.specs.Router.{RouteOf}
 use Rattle.matchit.specs.Seek.{first}
 use Rattle.graph_routes.specs.Machinery.Rows.{table}
 use Rattle.graph_routes.specs.declared.route.Route.{Route}
-use Rattle.graph_routes.proofs.Hits.{found_fits, missing_fits_none}
-use Rattle.graph_routes.proofs.Taken.{bytes_of, taken}
+use Rattle.graph_routes.proofs.Hits.{bytes_of, found_fits, missing_fits_none}
 use Rattle.graph_routes.proofs.router.Routes.find.Goals as goal
 
 pub returns-in-Ok : goal.returns-in-Ok
@@ -16,7 +15,7 @@ returns-in-Ok c =
     let bytes = bytes_of path (λ i. omega (arith, c.type_inv.path i)) in
     let there : first table path ≡ Some e = subst (λ (rows : RowsOf (RouteOf Route)). first rows path ≡ Some e) c.self.invariant c.in-Ok.ensures.found in
     let fits = found_fits path e bytes there in
-    (fits.parts, fits.matches, λ model. taken e path params.path.now c.first_part.result.now fits.parts fits.entry model fits.matches c.in-Ok.ensures.path c.utf8.path c.first_part.ensures)
+    (fits.parts, fits.matches)
 
 pub returns-in-Err : goal.returns-in-Err
 returns-in-Err c = λ r parts m.

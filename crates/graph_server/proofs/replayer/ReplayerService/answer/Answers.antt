@@ -34,9 +34,8 @@ returns-in-Ok-response_of-clause-answers c =
 
 pub returns-in-Ok-response_of-clause-writable : goal.returns-in-Ok-response_of-clause-writable
 returns-in-Ok-response_of-clause-writable c =
-    let sound = c.sound_asks.ensures c.args.request.now c.in-Ask.ask (made c.args.request.now c.in-Ok.prepared c.in-Ask.ask c.in-Ok.ensures c.in-Ask.is) in
     written c.in-Ok-response_of.response
-    (c.in-Ok-response_of.ensures.writable (reply_lists (state_of c.args.self.now.machine) c.in-Ask.ask c.in-Ok-step.reply sound.1 c.in-Ok-step.ensures.allowed))
+    (c.in-Ok-response_of.ensures.writable (reply_lists (state_of c.args.self.now.machine) c.in-Ask.ask c.in-Ok-step.reply c.in-Ok-step.ensures.allowed))
 
 pub returns-clause-answers : goal.returns-clause-answers
 returns-clause-answers c =

@@ -1,0 +1,5 @@
+pub mod Refusals
+pub mod TwinAnswers
+pub mod LinkAnswers
+pub mod Alike
+pub mod OneStep

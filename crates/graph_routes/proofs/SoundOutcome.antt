@@ -1,0 +1,70 @@
+-- What comes of one thing in a request is right.
+use Rattle.std.proofs.Common.{◌≡◌, ℕ, List, Option, None, sym, subst, inl, inr}
+use Rattle.json_tree.specs.Values.{Json}
+use Rattle.json_tree.specs.Grammar.{Spells}
+use Rattle.json_read.specs.declared.fault.JsonFault.{JsonFault}
+use Rattle.json_read.specs.declared.fault.JsonFault.TheVariants as faults
+use Rattle.local_rules.specs.Members.{members_in}
+use Rattle.twin_patch.specs.declared.entry.PatchOf.{PatchOf}
+use Rattle.twin_patch.specs.declared.patch.Patch.{Patch}
+use Rattle.twin_value.specs.Breaches.{HasNoBreach}
+use Rattle.twin_value.specs.declared.code.BodyCode.{BodyCode}
+use Rattle.graph_asks.specs.declared.ask.Ask as ask_type
+use Rattle.graph_asks.specs.declared.ask.Ask.TheVariants as asks
+use Rattle.graph_asks.specs.declared.refusal.Refusal.{Refusal}
+use Rattle.graph_asks.specs.declared.refusal.Refusal.TheVariants as refusals
+use Rattle.graph_steps.specs.Soundness.{IsReadPatch, IsReadValue, IsSound}
+use Rattle.graph_routes.specs.Bodies.{RefusesFor}
+use Rattle.graph_routes.specs.Identifiers.{first_difference}
+use Rattle.graph_routes.specs.Outcomes.{Named, WithBody, WithPatch, WithValue}
+use Rattle.graph_routes.specs.Responses.{ListsMethods}
+use Rattle.graph_routes.specs.declared.prepared.Prepared.{Prepared}
+use Rattle.graph_routes.specs.declared.prepared.Prepared.TheVariants.{Ask, Own}
+use Rattle.graph_routes.proofs.DistinctKeys.{spelled_distinct}
+use Rattle.graph_routes.proofs.Nested.{spelled_nests}
+
+-- Sound, and no query.
+abbrev pub IsMade : ask_type.Ask → Type 0
+IsMade (asks.Query query after) = ⊥
+IsMade ask = IsSound ask
+
+pub made_sound : (ask : ask_type.Ask) → IsMade ask → IsSound ask
+made_sound (asks.Query query after) h = absurd h
+made_sound ask h = h
+
+-- What is right of an answer: its ask is sound and no query, or its refusal lists the methods of a path.
+abbrev pub IsRight : Prepared → Type 0
+IsRight (Ask ask) = IsMade ask
+IsRight (Own refusal) = ListsMethods refusal
+
+pub right_by : (p q : Prepared) → p ≡ q → IsRight q → IsRight p
+right_by p q e h = subst IsRight (sym e) h
+
+pub read_value : (body : List ℕ) (v : Json) → Spells body v → IsReadValue v
+read_value body v spelled = record { distinct = spelled_distinct body v spelled; shallow = spelled_nests body v spelled }
+
+pub right_named : {A : Type 0} (Names : A → Type 0) (refusal : Refusal) (Gives : A → Prepared → Type 0) (p : Prepared) → ListsMethods refusal → ((x : A) → Names x → Gives x p → IsRight p)
+    → Named Names refusal Gives p → IsRight p
+right_named Names refusal Gives p lists right (inl (none, e)) = right_by p (Own refusal) e lists
+right_named Names refusal Gives p lists right (inr (x, is, g)) = right x is g
+
+for_fault : (body : List ℕ) (fault : JsonFault) (r : Refusal) → RefusesFor body fault r → ListsMethods r
+for_fault body (faults.Byte n) r e = subst ListsMethods (sym e) tt
+for_fault body (faults.Ends n) r e = subst ListsMethods (sym e) tt
+for_fault body (faults.Duplicate place) r h = subst ListsMethods (sym h.4) tt
+for_fault body (faults.Range place) r h = subst ListsMethods (sym h.4) tt
+for_fault body faults.OutOfMemory r h = absurd h
+
+pub right_body : (body : List ℕ) (Gives : Json → Prepared → Type 0) (p : Prepared) → ((v : Json) → Spells body v → Gives v p → IsRight p) → WithBody body Gives p → IsRight p
+right_body body Gives p right (inl (r, (fault, is, x), e)) = right_by p (Own r) e (for_fault body fault r x)
+right_body body Gives p right (inr (v, spelled, h)) = right v spelled h
+
+pub right_patch : (of : PatchOf) (ask : Patch → ask_type.Ask) (v : Json) (p : Prepared) → IsReadValue v → ((patch : Patch) → IsReadPatch of patch → IsMade (ask patch)) → WithPatch of ask v p → IsRight p
+right_patch of ask v p read sound (inl (r, (index, code, h, x), e)) = right_by p (Own r) e (subst ListsMethods (sym x) tt)
+right_patch of ask v p read sound (inr (patch, is, e)) = right_by p (Ask (ask patch)) e (sound patch (v, read, is))
+
+pub right_value : (Broken : List ℕ → BodyCode → Type 0) (ids : List ℕ → Option (List ℕ)) (v : Json) (Gives : Prepared → Type 0) (p : Prepared)
+    → (HasNoBreach Broken → first_difference ids (members_in v) ≡ None → Gives p → IsRight p) → WithValue Broken ids v Gives p → IsRight p
+right_value Broken ids v Gives p right (inl (r, (place, pointer, code, first, leads, x), e)) = right_by p (Own r) e (subst ListsMethods (sym x) tt)
+right_value Broken ids v Gives p right (inr (inl (none, (given, path, d, e)))) = right_by p (Own (refusals.IdDiffers given path)) e tt
+right_value Broken ids v Gives p right (inr (inr (none, same, g))) = right none same g
