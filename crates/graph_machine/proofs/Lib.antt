@@ -10,3 +10,4 @@ pub mod Least
 pub mod Pages
 pub mod Brought
 pub mod Taken
+pub mod Came

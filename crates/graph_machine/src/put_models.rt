@@ -1,14 +1,19 @@
 //! The ask that brings models.
 
-ghost use Rattle.std.specs.Prelude.{◌≡◌, [], map, IfOk, OnErr};
+ghost use Rattle.std.specs.Prelude.{◌≡◌, [], map, Ok, IfOk, MatchResult, OnErr, OnOk};
 ghost use Rattle.std.specs.Map.{keys_of};
 ghost use Rattle.dtmi_name.specs.Grammar.{dtmi_text};
+ghost use Rattle.dtdl_terms.specs.Sets.{InOrder};
+ghost use Rattle.graph_asks.specs.declared.refusal.Refusal.{Refusal as Refusals};
+ghost use Rattle.graph_bodies.specs.Bodies.{FailsBy};
 ghost use Rattle.json_tree.specs.View.{view};
 ghost use Rattle.json_tree.specs.Values.{array, elements_of};
 ghost use Rattle.model_life.specs.Models.{with_models};
 ghost use Rattle.graph_steps.specs.ModelAsks.{mark_value};
 ghost use Rattle.graph_steps.specs.Soundness.{AreSoundUploads};
-ghost use Rattle.graph_steps.specs.Steps.{Allows, follows};
+ghost use Rattle.graph_steps.specs.States.{set_of};
+ghost use Rattle.graph_steps.specs.Steps.{Allows, Refuses, changed, follows};
+ghost use Rattle.model_life.specs.Refusals.{AreNew};
 ghost use Rattle.graph_held.specs.Held.{state_of};
 ghost use Rattle.graph_machine.specs.Machinery.Marks.{id_text_of, unmarked};
 
@@ -20,6 +25,7 @@ use dt_base::{List, OutOfMemory};
 use dtdl_terms::Uploaded;
 use dtmi_name::Dtmi;
 use graph_asks::{Ask, Reply};
+use graph_bodies::BodyFailure;
 use json_tree::Tree;
 use std::alloc::Global;
 use std::collections::BTreeMap;
@@ -55,6 +61,18 @@ fn created(alloc: Global, new: &[Uploaded]) -> Result<Tree, OutOfMemory>
     Ok(Tree::List(List::from_vec(trees)))
 }
 
+/// What is answered where models came, and where they did not.
+fn answered(tree: Tree, end: Result<(), BodyFailure>) -> Result<Reply, OutOfMemory>
+    ensures { MatchResult end
+        (λ _. result ≡ Ok (Reply.Created tree))
+        (λ failure. IfOk result (λ reply. (r : Refusals) × (failure ≡ BodyFailure.Refused r) × (reply ≡ Reply.Refused r))) }
+{
+    match end {
+        Ok(_) => Ok(Reply::Created(tree)),
+        Err(failure) => failed(failure),
+    }
+}
+
 impl Machine {
     /// Takes models, which are not marked, all or none; refused, in this order, where one is there, where one breaks a rule,
     /// where a limit on models would be passed, and where a twin that would become live would not fit its model, or be an end
@@ -66,7 +84,19 @@ impl Machine {
         ensures unchanged { OnErr result (self.new ≡ self.old) }
     {
         let tree = created(self.alloc, new)?;
-        match models_come(
+        answered(tree, self.models_in(new))
+    }
+
+    /// Takes models, where nothing refuses them. Fails by the refusal, or for want of memory: nothing changes.
+    fn models_in(&mut self, new: &[Uploaded]) -> Result<(), BodyFailure>
+        requires { AreSoundUploads new.now }
+        ensures judged { MatchResult result (λ _. (r : Refusals) → Refuses (state_of self.old) (Ask.PutModels new.now) r → ⊥) (FailsBy (Refuses (state_of self.old) (Ask.PutModels new.now))) }
+        ensures new { IfOk result (λ _. AreNew (state_of self.old).models new.now) }
+        ensures ordered { InOrder (set_of (state_of self.old)) }
+        ensures ok { OnOk result (state_of self.new ≡ changed (state_of self.old) (Ask.PutModels new.now)) }
+        ensures err { OnErr result (self.new ≡ self.old) }
+    {
+        models_come(
             self.alloc,
             &mut self.models,
             &mut self.resolutions,
@@ -74,9 +104,6 @@ impl Machine {
             &self.links,
             self.link_bytes,
             new,
-        ) {
-            Ok(_) => Ok(Reply::Created(tree)),
-            Err(failure) => failed(failure),
-        }
+        )
     }
 }

@@ -11,26 +11,26 @@ use Rattle.graph_machine.proofs.machine.Machine.enter_link.Goals as goal
 
 pub invariant_of-self : goal.invariant_of-self
 invariant_of-self c =
-    subst (λ es. IsKept (holding c.self.inside.models c.self.inside.twins es) c.self.inside.resolutions c.self.inside.link_bytes) (sym c.put.ensures.err) c.self.invariant
+    subst (λ es. IsKept (holding c.self.inside.models c.self.inside.twins es) c.self.inside.resolutions c.self.inside.link_bytes) (sym c.in_default.ensures.err) c.self.invariant
 
-pub rest-plus-bytes-fits : goal.rest-plus-bytes-fits
-rest-plus-bytes-fits c =
+pub overflow_add-self : goal.overflow_add-self
+overflow_add-self c =
     let more = more_bytes (holding c.self.inside.models c.self.inside.twins c.self.inside.links) c.self.inside.resolutions c.self.inside.link_bytes c.self.invariant c.args.edge (subst (λ (h : Holding). WellTyped (with_link (link_of c.args.edge) (state_of h))) (sym c.self.view_is) c.requires.typed) c.requires.held c.bytes_of.result (c.bytes_of.ensures ∙ ap (λ o. unwrap_or (option_map (λ (e : Edge Stored). e.payload.bytes) o) 0) c.in-Ok.ensures.old) in
     let sum = more.0 in
     let most = more.1 in
-    let rest = c.saturating_sub.ensures in
+    let rest = c.saturating_sub-rest.ensures in
     omega (arith, sum, most, rest)
 
 pub invariant_of-self-2 : goal.invariant_of-self-2
 invariant_of-self-2 c =
     let typed = subst (λ (h : Holding). WellTyped (with_link (link_of c.args.edge) (state_of h))) (sym c.self.view_is) c.requires.typed in
     let more = more_bytes (holding c.self.inside.models c.self.inside.twins c.self.inside.links) c.self.inside.resolutions c.self.inside.link_bytes c.self.invariant c.args.edge typed c.requires.held c.bytes_of.result (c.bytes_of.ensures ∙ ap (λ o. unwrap_or (option_map (λ (e : Edge Stored). e.payload.bytes) o) 0) c.in-Ok.ensures.old) in
-    subst (λ es. IsKept (holding c.self.inside.models c.self.inside.twins es) c.self.inside.resolutions (c.saturating_sub.result + c.args.edge.payload.bytes)) (sym c.put.ensures.ok)
-    (link_kept_in (holding c.self.inside.models c.self.inside.twins c.self.inside.links) c.self.inside.resolutions c.self.inside.link_bytes c.self.invariant c.args.edge typed c.requires.held (c.saturating_sub.result + c.args.edge.payload.bytes)
-    (ap (λ n. n + c.args.edge.payload.bytes) c.saturating_sub.ensures ∙ more.0))
+    subst (λ es. IsKept (holding c.self.inside.models c.self.inside.twins es) c.self.inside.resolutions (c.saturating_sub-rest.result + c.args.edge.payload.bytes)) (sym c.in-Ok.ensures.ok)
+    (link_kept_in (holding c.self.inside.models c.self.inside.twins c.self.inside.links) c.self.inside.resolutions c.self.inside.link_bytes c.self.invariant c.args.edge typed c.requires.held (c.saturating_sub-rest.result + c.args.edge.payload.bytes)
+    (ap (λ n. n + c.args.edge.payload.bytes) c.saturating_sub-rest.ensures ∙ more.0))
 
 pub returns-clause-ok : goal.returns-clause-ok
 returns-clause-ok c =
-    ap (λ es. state_of (holding c.self.inside.models c.self.inside.twins es)) c.put.ensures.ok
+    ap (λ es. state_of (holding c.self.inside.models c.self.inside.twins es)) c.in-Ok.ensures.ok
     ∙ links_with c.args.edge (holding c.self.inside.models c.self.inside.twins c.self.inside.links)
     ∙ ap (λ (h : Holding). with_link (link_of c.args.edge) (state_of h)) c.self.view_is

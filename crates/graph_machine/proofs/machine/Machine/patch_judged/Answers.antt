@@ -1,26 +1,33 @@
-use Rattle.std.proofs.Common.{◌∙◌, IfOk, sym, ap, subst}
+use Rattle.std.proofs.Common.{◌∙◌, IfOk, refl, sym, subst}
 use Rattle.std.specs.Prelude.{MatchResult}
 use Rattle.graph_asks.specs.declared.ask.Ask.TheVariants as asks
 use Rattle.graph_bodies.specs.Bodies.{FailsBy}
 use Rattle.graph_bodies.specs.Kept.{twin_view}
-use Rattle.graph_steps.specs.States.{with_twin}
+use Rattle.graph_steps.specs.States.{set_of, with_twin}
 use Rattle.graph_steps.specs.Steps.{Refuses}
 use Rattle.graph_steps.specs.Typed.{WellTyped}
+use Rattle.model_resolve.specs.Resolving.{HoldsRight}
 use Rattle.graph_held.specs.Held.{Holding, holding, state_of}
 use Rattle.graph_machine.specs.Machinery.Brought.{BringsTwin}
 use Rattle.graph_machine.proofs.Brought.{twin_brought, only_ok, patched_typed}
+use Rattle.graph_machine.proofs.Kept.{same_kept}
 use Rattle.graph_machine.proofs.machine.Machine.patch_judged.Goals as goal
 
 pub judged_patch-requires : goal.judged_patch-requires
-judged_patch-requires c = record { typed = c.self.invariant.typed; right = c.self.invariant.right; sound = c.requires }
+judged_patch-requires c = record { typed = subst (λ (h : Holding). WellTyped (state_of h)) (sym c.new-lent.ensures) c.self.invariant.typed; right = subst (λ (h : Holding). HoldsRight (set_of (state_of h)) c.self.inside.resolutions) (sym c.new-lent.ensures) c.self.invariant.right; sound = c.requires }
+
+pub invariant_of-self : goal.invariant_of-self
+invariant_of-self c =
+    same_kept (holding c.self.inside.models c.self.inside.twins c.self.inside.links) c.self.inside.resolutions c.self.inside.link_bytes c.self.invariant c.self.inside.models refl c.judged_patch.new.resolutions
+    (subst (λ (h : Holding). HoldsRight (set_of (state_of h)) c.judged_patch.new.resolutions) c.new-lent.ensures c.judged_patch.ensures.right)
 
 pub returns-clause-judged : goal.returns-clause-judged
 returns-clause-judged c =
-    subst (λ (h : Holding). MatchResult c.judged_patch.result (λ n. BringsTwin (state_of h) (asks.PatchTwin c.args.id.now c.args.patch.now) c.args.id.now n.twin n.bytes n.tree) (FailsBy (Refuses (state_of h) (asks.PatchTwin c.args.id.now c.args.patch.now)))) c.self.view_is
-    (twin_brought (λ n. n.twin) (λ n. n.bytes) (λ n. n.tree) (state_of (holding c.self.inside.models c.self.inside.twins c.self.inside.links)) (asks.PatchTwin c.args.id.now c.args.patch.now) c.args.id.now c.judged_patch.result c.judged_patch.ensures.judged c.judged_patch.ensures.id c.judged_patch.ensures.held c.judged_patch.ensures.tree)
+    subst (λ (h : Holding). MatchResult c.judged_patch.result (λ n. BringsTwin (state_of h) (asks.PatchTwin c.args.id.now c.args.patch.now) c.args.id.now n.twin n.bytes n.tree) (FailsBy (Refuses (state_of h) (asks.PatchTwin c.args.id.now c.args.patch.now)))) (c.new-lent.ensures ∙ c.self.view_is)
+    (twin_brought (λ n. n.twin) (λ n. n.bytes) (λ n. n.tree) (state_of c.new-lent.result) (asks.PatchTwin c.args.id.now c.args.patch.now) c.args.id.now c.judged_patch.result c.judged_patch.ensures.judged c.judged_patch.ensures.id c.judged_patch.ensures.held c.judged_patch.ensures.tree)
 
 pub returns-clause-typed : goal.returns-clause-typed
 returns-clause-typed c =
-    subst (λ (h : Holding). IfOk c.judged_patch.result (λ n. WellTyped (with_twin (twin_view n.twin) (state_of h)))) c.self.view_is
-    (only_ok c.judged_patch.result _ _ _ (λ n b. patched_typed (state_of (holding c.self.inside.models c.self.inside.twins c.self.inside.links)) c.args.id.now n.twin n.bytes n.tree c.args.patch.now c.self.invariant.typed c.requires b)
-    (twin_brought (λ n. n.twin) (λ n. n.bytes) (λ n. n.tree) (state_of (holding c.self.inside.models c.self.inside.twins c.self.inside.links)) (asks.PatchTwin c.args.id.now c.args.patch.now) c.args.id.now c.judged_patch.result c.judged_patch.ensures.judged c.judged_patch.ensures.id c.judged_patch.ensures.held c.judged_patch.ensures.tree))
+    subst (λ (h : Holding). IfOk c.judged_patch.result (λ n. WellTyped (with_twin (twin_view n.twin) (state_of h)))) (c.new-lent.ensures ∙ c.self.view_is)
+    (only_ok c.judged_patch.result _ _ _ (λ n b. patched_typed (state_of c.new-lent.result) c.args.id.now n.twin n.bytes n.tree c.args.patch.now (subst (λ (h : Holding). WellTyped (state_of h)) (sym c.new-lent.ensures) c.self.invariant.typed) c.requires b)
+    (twin_brought (λ n. n.twin) (λ n. n.bytes) (λ n. n.tree) (state_of c.new-lent.result) (asks.PatchTwin c.args.id.now c.args.patch.now) c.args.id.now c.judged_patch.result c.judged_patch.ensures.judged c.judged_patch.ensures.id c.judged_patch.ensures.held c.judged_patch.ensures.tree))

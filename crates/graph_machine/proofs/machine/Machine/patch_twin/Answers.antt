@@ -8,16 +8,16 @@ use Rattle.graph_machine.proofs.Brought.{twin_patched, failed_allows, failed_fol
 use Rattle.graph_machine.proofs.machine.Machine.patch_twin.Goals as goal
 
 pub enter_twin-requires-clause-typed : goal.enter_twin-requires-clause-typed
-enter_twin-requires-clause-typed c = subst (λ (h : Holding). WellTyped (with_twin (twin_view c.in-Ok.new.twin) (state_of h))) (sym c.patch_judged.ensures.same) ?
+enter_twin-requires-clause-typed c = subst (λ (h : Holding). WellTyped (with_twin (twin_view c.in-Ok.new.twin) (state_of h))) (sym c.patch_judged.ensures.same) c.in-Ok.ensures.typed
 
 pub enter_twin-requires-clause-held : goal.enter_twin-requires-clause-held
 enter_twin-requires-clause-held c = c.in-Ok.ensures.judged.held
 
-pub returns-in-Ok-clause-allowed : goal.returns-in-Ok-clause-allowed
-returns-in-Ok-clause-allowed c = twin_patched (state_of c.args.self.now) c.args.id.now c.in-Ok.new.twin c.in-Ok.new.bytes c.in-Ok.new.tree c.args.patch.now c.in-Ok.ensures.judged
+pub returns-in_ok-enter_twin-in-Ok-clause-allowed : goal.returns-in_ok-enter_twin-in-Ok-clause-allowed
+returns-in_ok-enter_twin-in-Ok-clause-allowed c = twin_patched (state_of c.args.self.now) c.args.id.now c.in-Ok.new.twin c.in-Ok.new.bytes c.in-Ok.new.tree c.args.patch.now c.in-Ok.ensures.judged
 
-pub returns-in-Ok-clause-follows : goal.returns-in-Ok-clause-follows
-returns-in-Ok-clause-follows c = c.enter_twin.ensures.ok ∙ ap (λ (h : Holding). with_twin (twin_view c.in-Ok.new.twin) (state_of h)) c.patch_judged.ensures.same ∙ c.in-Ok.ensures.judged.put
+pub returns-in_ok-enter_twin-in-Ok-clause-follows : goal.returns-in_ok-enter_twin-in-Ok-clause-follows
+returns-in_ok-enter_twin-in-Ok-clause-follows c = c.in_ok-enter_twin-in-Ok.ensures.ok ∙ ap (λ (h : Holding). with_twin (twin_view c.in-Ok.new.twin) (state_of h)) c.patch_judged.ensures.same ∙ c.in-Ok.ensures.judged.put
 
 pub returns-in-Err-clause-allowed : goal.returns-in-Err-clause-allowed
 returns-in-Err-clause-allowed c = failed_allows (state_of c.args.self.now) (asks.PatchTwin c.args.id.now c.args.patch.now) c.in-Err.failure c.in-Err.ensures.judged c.failed.result c.failed.ensures

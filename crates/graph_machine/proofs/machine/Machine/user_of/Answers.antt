@@ -16,8 +16,8 @@ returns c =
     let id = c.args.id.now in
     ap (option_map link_of)
     (c.least_of.ensures
-    ∙ ap (λ o. least_of o (option_copied c.first_of-2.result)) (c.first_of.ensures ∙ ap (λ l. slice_get l 0) c.out.ensures)
-    ∙ ap (λ o. least_of (slice_get (out_of id es) 0) o) (c.first_of-2.ensures ∙ ap (λ l. slice_get l 0) c.into.ensures)
-    ∙ sym (least_first id es c.len.ensures.ordered))
+    ∙ ap (λ o. least_of o (option_copied c.first_of-into.result)) (c.first_of-out.ensures ∙ ap (λ l. slice_get l 0) c.out.ensures)
+    ∙ ap (λ o. least_of (slice_get (out_of id es) 0) o) (c.first_of-into.ensures ∙ ap (λ l. slice_get l 0) c.into.ensures)
+    ∙ sym (least_first id es c.len-many.ensures.ordered))
     ∙ sym (find-map link_of (is_end id) es)
     ∙ ap (λ g. find (is_end id) (state_of g).links) c.self.view_is
