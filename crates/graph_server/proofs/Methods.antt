@@ -15,11 +15,10 @@ use Rattle.graph_asks.specs.declared.ask.Ask.TheVariants as asks
 use Rattle.graph_asks.specs.declared.refusal.Refusal.{Refusal}
 use Rattle.graph_asks.specs.declared.reply.Reply.{Reply}
 use Rattle.graph_asks.specs.declared.reply.Reply.TheVariants as replies
-use Rattle.graph_steps.specs.Refusals.{or_else}
-use Rattle.graph_steps.specs.States.{State, Twin, Link, interface_of, twin_value, part_value, link_value}
+use Rattle.graph_steps.specs.States.{State, Twin, Link, interface_of, twin_value, part_value, link_value, with_twin}
 use Rattle.graph_steps.specs.ModelAsks.{RefusesPutModels, RefusesDropModel}
-use Rattle.graph_steps.specs.TwinAsks.{TwinNotFound, Frozen, BodyFault, TwinFull, RefusesBody, RefusesPutTwin, RefusesPatched, RefusesPatchTwin, RefusesDropTwin, RefusesGetPart, RefusesNewPart, RefusesPatchPart, interface_in}
-use Rattle.graph_steps.specs.LinkAsks.{Multiplicity, WrongTarget, LinkFull, RefusesLink, RefusesPutRel, LinkNotFound, RefusesNewLink, RefusesPatchRel}
+use Rattle.graph_steps.specs.TwinAsks.{TwinNotFound, Frozen, BodyFault, TwinFull, RefusesBody, RefusesPutTwin, RefusesPatched, RefusesPatchTwin, RefusesDropTwin, RefusesGetPart, RefusesNewPart, RefusesPatchPart, interface_in, twin_for, with_body, with_part}
+use Rattle.graph_steps.specs.LinkAsks.{Multiplicity, WrongTarget, LinkFull, RefusesLink, RefusesPutRel, LinkNotFound, RefusesNewLink, RefusesPatchRel, link_for, with_link, with_payload}
 use Rattle.graph_steps.specs.Steps.{Allows, Gives, Refuses}
 use Rattle.graph_routes.specs.Responses.{AnswersMethods, ListsMethods}
 
@@ -60,7 +59,7 @@ body_lists s id model v None r h = lists_as r _ h tt
 body_lists s id model v (Some i) r (inl h) = lists_as r _ h.5 tt
 body_lists s id model v (Some i) r (inr (a, inl h)) = fault_lists _ v r h
 body_lists s id model v (Some i) r (inr (a, inr (b, inl h))) = lists_as r _ h.3 tt
-body_lists s id model v (Some i) r (inr (a, inr (b, inr (c, h)))) = full_lists _ _ r h
+body_lists s id model v (Some i) r (inr (a, inr (b, inr (c, h)))) = full_lists (with_body s id (Some i) v) (twin_for s id i v) r h
 
 put_twin_lists : (s : State) (id : List ℕ) (model : Identifier) (v : Json) (r : Refusal) → RefusesPutTwin s id model v r → ListsMethods r
 put_twin_lists s id model v r (inl h) = frozen_lists s id r h
@@ -88,7 +87,7 @@ get_part_lists s id name r (inr (other, h)) = lists_as r _ h.3 tt
 new_part_lists : (s : State) (name : List ℕ) (i : Interface) (t : Twin) (result : Result Json ℕ) (r : Refusal) → RefusesNewPart s name i t result r → ListsMethods r
 new_part_lists s name i t (Err index) r h = lists_as r _ h tt
 new_part_lists s name i t (Ok v) r (inl h) = fault_lists _ v r h
-new_part_lists s name i t (Ok v) r (inr (other, h)) = full_lists _ _ r h
+new_part_lists s name i t (Ok v) r (inr (other, h)) = full_lists (with_twin (with_part name v t) s) (with_part name v t) r h
 
 patch_part_lists : (s : State) (id name : List ℕ) (os : List Operation) (r : Refusal) → RefusesPatchPart s id name os r → ListsMethods r
 patch_part_lists s id name os r (inl h) = lists_as r _ h.1 tt
@@ -110,7 +109,8 @@ link_lists s i source id name target v r (inl h) = fault_lists _ v r h
 link_lists s i source id name target v r (inr (a, inl h)) = lists_as r _ h.1 tt
 link_lists s i source id name target v r (inr (a, inr (b, inl h))) = target_lists s _ target r h
 link_lists s i source id name target v r (inr (a, inr (b, inr (c, inl h)))) = count_lists s _ source id name r h
-link_lists s i source id name target v r (inr (a, inr (b, inr (c, inr (d, h))))) = link_full_lists _ _ r h
+link_lists s i source id name target v r (inr (a, inr (b, inr (c, inr (d, h))))) =
+    link_full_lists (with_link (link_for s i source id name target v) s) (link_for s i source id name target v) r h
 
 put_rel_lists : (s : State) (source id name target : List ℕ) (v : Json) (r : Refusal) → RefusesPutRel s source id name target v r → ListsMethods r
 put_rel_lists s source id name target v r (inl h) = lists_as r _ h.1 tt
@@ -124,7 +124,7 @@ absent_lists s source id r (inr (other, h)) = lists_as r _ h.1 tt
 new_link_lists : (s : State) (i : Interface) (l : Link) (result : Result Json ℕ) (r : Refusal) → RefusesNewLink s i l result r → ListsMethods r
 new_link_lists s i l (Err index) r h = lists_as r _ h tt
 new_link_lists s i l (Ok v) r (inl h) = fault_lists _ v r h
-new_link_lists s i l (Ok v) r (inr (other, h)) = link_full_lists _ _ r h
+new_link_lists s i l (Ok v) r (inr (other, h)) = link_full_lists (with_link (with_payload s i v l) s) (with_payload s i v l) r h
 
 patch_rel_lists : (s : State) (source id : List ℕ) (os : List Operation) (r : Refusal) → RefusesPatchRel s source id os r → ListsMethods r
 patch_rel_lists s source id os r (inl h) = absent_lists s source id r h
