@@ -1,0 +1,8 @@
+pub mod Contained
+pub mod Glued
+pub mod Passed
+pub mod Counts
+pub mod Suited
+pub mod Declared
+pub mod Puts
+pub mod Patches

@@ -1,0 +1,27 @@
+use Rattle.std.proofs.Common.{◌∙◌, ℕ, IfOk, List, Option, sym, ap, subst}
+use Rattle.std.specs.Option.{option_copied}
+use Rattle.dtdl_terms.specs.declared.interface.Interface.{Interface}
+use Rattle.dtdl_terms.specs.declared.resolved.ResolvedContent.{ResolvedContent}
+use Rattle.extend_resolve.specs.Breaches.{BreaksNoRule}
+use Rattle.model_life.specs.Models.{Model, interfaces_of}
+use Rattle.model_resolve.specs.Resolving.{HoldsRight}
+use Rattle.twin_value.specs.Breaches.{link_called}
+use Rattle.graph_bodies.specs.Kept.{link_view}
+use Rattle.graph_held.specs.Held.{state_of}
+use Rattle.graph_held.proofs.Viewed.{model_in}
+use Rattle.link_judges.specs.Machinery.Refused.{RefusesDeclared, Tells}
+use Rattle.link_judges.proofs.contents.declared_refusal.Goals as goal
+
+pub returns-clause-refusal : goal.returns-clause-refusal
+returns-clause-refusal c =
+    let s = state_of c.args.lent.now in
+    let i = c.args.interface.now in
+    let held = c.ready.new.self in
+    let in_it =
+    model_in s held i c.in-Some.resolved.now (subst (λ (ms : List Model). BreaksNoRule (interfaces_of ms)) c.models-models.ensures c.sound.ensures.rules) c.requires.there
+    (subst (λ (set : List Interface). HoldsRight set held) (c.set.ensures ∙ ap interfaces_of c.models-models.ensures) c.ready.ensures.right) (sym c.get.ensures ∙ ap option_copied c.in-Some.is) in
+    subst (λ (k : Option ResolvedContent). IfOk c.content_refusal.result (Tells (RefusesDeclared s k (link_view c.args.link.now))))
+    (c.link_called-content.ensures
+    ∙ ap (λ (n : List ℕ). link_called n c.as_slice.result.now) c.as_str.ensures
+    ∙ ap (λ (cs : List ResolvedContent). link_called c.args.link.now.name cs) c.as_slice.ensures
+    ∙ c.judged_alike.ensures.called s i c.in-Some.resolved.now in_it c.args.link.now.name) c.content_refusal.ensures

@@ -1,0 +1,101 @@
+//! What the source's model declares of a relationship's name.
+
+ghost use Rattle.std.specs.Prelude.{◌≡◌, IfOk, Some};
+ghost use Rattle.std.specs.Option.{option_copied};
+ghost use Rattle.graph_bodies.specs.Kept.{link_view, twin_view};
+ghost use Rattle.graph_held.specs.Held.{state_of};
+ghost use Rattle.graph_steps.specs.Inherited.{contents};
+ghost use Rattle.graph_steps.specs.States.{interface_of, set_of, twin_at};
+ghost use Rattle.model_resolve.specs.Resolving.{HoldsRight};
+ghost use Rattle.twin_value.specs.Breaches.{as_link, link_called};
+ghost use Rattle.twin_value.specs.Named.{content_called};
+ghost use Rattle.link_judges.specs.Machinery.Refused.{RefusesDeclared, Tells};
+
+use crate::counting::count_refusal;
+use crate::targets::target_refusal;
+use dt_base::OutOfMemory;
+use dtdl_terms::{ContentKind, Interface, ResolvedContent};
+use graph_asks::Refusal;
+use graph_bodies::judged_alike;
+use graph_held::Lent;
+use model_resolve::Resolutions;
+use twin_value::{Relationship, Twin};
+
+/// The content of a name.
+fn find_content<'a>(contents: &'a [ResolvedContent], name: &str) -> Option<&'a ResolvedContent>
+    ensures { option_copied result ≡ content_called name.now contents.now }
+{
+    for content in contents {
+        if content.content.name.as_str() == name {
+            return Some(content);
+        }
+    }
+    None
+}
+
+/// The content, where it is a relationship.
+#[tactic(auto, using(crate::proofs::Contained::kinds))]
+fn as_link(content: Option<&ResolvedContent>) -> Option<&ResolvedContent>
+    ensures { option_copied result ≡ as_link (option_copied content.entry) }
+{
+    let found = content?;
+    match &found.content.kind {
+        ContentKind::Relationship { .. } => content,
+        ContentKind::Telemetry { .. } => None,
+        ContentKind::Property { .. } => None,
+        ContentKind::Command { .. } => None,
+        ContentKind::Component { .. } => None,
+    }
+}
+
+/// The relationship of a name. Takes no memory.
+fn link_called<'a>(contents: &'a [ResolvedContent], name: &str) -> Option<&'a ResolvedContent>
+    ensures { option_copied result ≡ link_called name.now contents.now }
+{
+    as_link(find_content(contents, name))
+}
+
+/// The refusal of a relationship to this twin by what is declared of its name. Fails only for want of memory.
+fn content_refusal(
+    lent: &Lent<'_>,
+    content: Option<&ResolvedContent>,
+    twin: &Twin,
+    link: &Relationship,
+) -> Result<Option<Refusal>, OutOfMemory>
+    requires { twin_at link.now.target (state_of lent.now) ≡ Some (twin_view twin.now) }
+    ensures { IfOk result (Tells (RefusesDeclared (state_of lent.now) (option_copied content.entry) (link_view link.now))) }
+{
+    let Some(content) = content else {
+        return Ok(None);
+    };
+    if let Some(refusal) = target_refusal(lent, content, &link.target, twin)? {
+        return Ok(Some(refusal));
+    }
+    Ok(count_refusal(lent, content, &link.source, &link.id, &link.name))
+}
+
+/// The refusal of a relationship to this twin by what an interface, which is the source's, declares of its name. Fails only
+/// for want of memory.
+pub(crate) fn declared_refusal(
+    lent: &Lent<'_>,
+    resolutions: &mut Resolutions,
+    interface: &Interface,
+    twin: &Twin,
+    link: &Relationship,
+) -> Result<Option<Refusal>, OutOfMemory>
+    requires there { interface_of (state_of lent.now) interface.now.id ≡ Some interface.now }
+    requires target { twin_at link.now.target (state_of lent.now) ≡ Some (twin_view twin.now) }
+    requires right { HoldsRight (set_of (state_of lent.now)) resolutions.old }
+    ensures right { HoldsRight (set_of (state_of lent.now)) resolutions.new }
+    ensures refusal { IfOk result (Tells (RefusesDeclared (state_of lent.now) (link_called link.now.name (contents (set_of (state_of lent.now)) interface.now)) (link_view link.now))) }
+{
+    let models = lent.models();
+    models.sound();
+    judged_alike();
+    resolutions.ready(models.set(), &interface.id)?;
+    let Some(resolved) = resolutions.get(&interface.id) else {
+        unreachable!();
+    };
+    let content = link_called(resolved.contents.as_slice(), link.name.as_str());
+    content_refusal(lent, content, twin, link)
+}
