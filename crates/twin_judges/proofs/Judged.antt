@@ -1,0 +1,37 @@
+-- What is refused for one reason or else for another.
+use Rattle.std.proofs.Common.{◌≡◌, inl, inr, Result, Ok, Err}
+use Rattle.std.specs.Prelude.{MatchResult}
+use Rattle.graph_asks.specs.declared.refusal.Refusal.{Refusal}
+use Rattle.graph_bodies.specs.Bodies.{FailsBy}
+use Rattle.graph_bodies.specs.declared.failure.BodyFailure.{BodyFailure}
+use Rattle.graph_bodies.specs.declared.failure.BodyFailure.TheVariants as failures
+use Rattle.graph_steps.specs.Refusals.{or_else}
+use Rattle.twin_judges.specs.Machinery.Judged.{IsFree}
+
+pub fails_as : (First Second : Refusal → Type 0) → ((r : Refusal) → First r → Second r) → (e : BodyFailure) → FailsBy First e → FailsBy Second e
+fails_as First Second weaker (failures.Refused r) h = weaker r h
+fails_as First Second weaker failures.OutOfMemory h = tt
+
+module _ (First Second : Refusal → Type 0) where
+  pub fails_first : (e : BodyFailure) → FailsBy First e → FailsBy (or_else First Second) e
+  fails_first e h = fails_as First (or_else First Second) (λ r k. inl k) e h
+
+  module _ (free : IsFree First) where
+    pub free_both : IsFree Second → IsFree (or_else First Second)
+    free_both second r (inl h) = free r h
+    free_both second r (inr h) = second r h.1
+
+    pub fails_second : (e : BodyFailure) → FailsBy Second e → FailsBy (or_else First Second) e
+    fails_second e h = fails_as Second (or_else First Second) (λ r k. inr (free, k)) e h
+
+-- ---- results
+module _ {A : Type 0} (P Q : A → Type 0) (First Second : Refusal → Type 0) where
+  pub judged_as : ((a : A) → P a → Q a) → ((r : Refusal) → First r → Second r) → (res : Result A BodyFailure) → MatchResult res P (FailsBy First) → MatchResult res Q (FailsBy Second)
+  judged_as good bad (Ok a) h = good a h
+  judged_as good bad (Err e) h = fails_as First Second bad e h
+
+-- Judged for the second reason where nothing is refused for the first.
+pub judged_second : {A : Type 0} (E : A → Type 0) (First Second : Refusal → Type 0) → IsFree First → (res : Result A BodyFailure)
+    → MatchResult res (λ a. IsFree Second × E a) (FailsBy Second) → MatchResult res (λ a. IsFree (or_else First Second) × E a) (FailsBy (or_else First Second))
+judged_second E First Second free res h =
+    judged_as (λ a. IsFree Second × E a) (λ a. IsFree (or_else First Second) × E a) Second (or_else First Second) (λ a k. (free_both First Second free k.0, k.1)) (λ r k. inr (free, k)) res h

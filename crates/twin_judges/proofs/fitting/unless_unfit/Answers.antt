@@ -1,0 +1,9 @@
+use Rattle.std.proofs.Common.{sym}
+use Rattle.graph_bodies.specs.Kept.{twin_view}
+use Rattle.graph_held.specs.Held.{state_of}
+use Rattle.twin_judges.proofs.Unfit.{same_fits}
+use Rattle.twin_judges.proofs.fitting.unless_unfit.Goals as goal
+
+pub returns-then-is_one-clause-fits : goal.returns-then-is_one-clause-fits
+returns-then-is_one-clause-fits c =
+    same_fits (state_of c.args.lent.now) c.requires.typed (twin_view c.args.twin.now) (twin_view c.in-Some.old.now) (sym c.in-Some.ensures.at) (c.is_one.ensures.0 c.if-is_one.true)

@@ -1,0 +1,16 @@
+use Rattle.std.proofs.Common.{◌≡◌, ℕ, List, sym, subst}
+use Rattle.std.specs.Prelude.{IfOk}
+use Rattle.graph_bodies.specs.Kept.{twin_view}
+use Rattle.graph_held.specs.Held.{state_of}
+use Rattle.graph_laws.proofs.Twins.{twin_there}
+use Rattle.twin_judges.specs.declared.new_twin.NewTwin.{NewTwin}
+use Rattle.twin_judges.proofs.Judging.{own_place}
+use Rattle.twin_judges.proofs.parts.judged_part_patch.Goals as goal
+
+pub judged_part_of-requires-clause-there : goal.judged_part_of-requires-clause-there
+judged_part_of-requires-clause-there c = own_place (state_of c.args.lent.now) c.in-Some.twin.now.model c.in-Some-interface.interface.now (sym c.in-Some-interface.ensures)
+
+pub returns-clause-id : goal.returns-clause-id
+returns-clause-id c =
+    let own = (twin_there (state_of c.args.lent.now) c.args.id.now (twin_view c.in-Some.twin.now) (sym c.in-Some.ensures.at)).0 in
+    subst (λ (id : List ℕ). IfOk c.judged_part_of.result (λ (new : NewTwin). new.twin.id ≡ id)) own c.judged_part_of.ensures.id

@@ -1,0 +1,19 @@
+use Rattle.std.proofs.Common.{◌≡◌}
+use Rattle.dtmi_name.specs.Grammar.{dtmi_text}
+use Rattle.json_tree.specs.View.{view}
+use Rattle.graph_bodies.specs.Kept.{twin_view}
+use Rattle.graph_held.specs.Held.{state_of}
+use Rattle.graph_steps.specs.States.{interface_of, with_twin}
+use Rattle.graph_steps.specs.TwinAsks.{Frozen, RefusesBody, after_put_twin}
+use Rattle.twin_judges.specs.declared.new_twin.NewTwin.{NewTwin}
+use Rattle.twin_judges.proofs.Judged.{judged_second}
+use Rattle.twin_judges.proofs.putting.judged_put.Goals as goal
+
+pub returns-clause-judged : goal.returns-clause-judged
+returns-clause-judged c =
+    let s = state_of c.args.lent.now in
+    let id = c.args.id.now in
+    let model = c.args.model.now in
+    let v = view c.args.tree.now in
+    judged_second (λ (new : NewTwin). with_twin (twin_view new.twin) s ≡ after_put_twin s id model v) (Frozen s id) (RefusesBody s id (dtmi_text model) v (interface_of s model)) c.in_ok-unless_frozen.ensures
+    c.judged_body.result c.judged_body.ensures.judged

@@ -1,0 +1,2 @@
+-- What proofs alone rest on: no public contract speaks of it.
+pub mod Machinery

@@ -1,0 +1,105 @@
+//! Twins that come with a body, whether they are put or patched.
+
+ghost use Rattle.std.specs.Prelude.{◌≡◌, Some, IfOk, MatchResult};
+ghost use Rattle.dtmi_name.specs.Grammar.{dtmi_text};
+ghost use Rattle.graph_bodies.specs.Bodies.{FailsBy};
+ghost use Rattle.graph_bodies.specs.Kept.{twin_view, IsKeptTwin};
+ghost use Rattle.graph_held.specs.Held.{state_of, IsHeldTwin};
+ghost use Rattle.graph_steps.specs.Refusals.{or_else};
+ghost use Rattle.graph_steps.specs.States.{interface_of, set_of, twin_value, with_twin};
+ghost use Rattle.graph_steps.specs.TwinAsks.{DoesNotFit, RefusesBody, TwinFull, twin_for, with_body};
+ghost use Rattle.graph_steps.specs.Typed.{WellTyped};
+ghost use Rattle.json_tree.specs.Values.{HasDistinctKeys};
+ghost use Rattle.json_tree.specs.View.{view};
+ghost use Rattle.model_resolve.specs.Resolving.{HoldsRight};
+ghost use Rattle.twin_judges.specs.Machinery.Judged.{IsFree};
+
+use crate::fitting::unless_unfit;
+use crate::limits::within_limits;
+use crate::marks::unless_marked;
+use crate::new_twin::NewTwin;
+use crate::refusals::model_not_found;
+use dt_base::Text;
+use dtdl_terms::Interface;
+use dtmi_name::Dtmi;
+use graph_bodies::BodyFailure;
+use graph_held::{Lent, judged_twin};
+use json_tree::Tree;
+use model_resolve::Resolutions;
+use twin_value::Twin;
+
+/// A twin without breach that comes, refused where a relationship would not be well typed or a limit would be passed with
+/// it. Fails for want of memory too.
+fn judged_new(
+    lent: &Lent<'_>,
+    resolutions: &mut Resolutions,
+    twin: Twin,
+) -> Result<NewTwin, BodyFailure>
+    requires typed { WellTyped (state_of lent.now) }
+    requires kept { IsKeptTwin (twin_view twin) }
+    requires right { HoldsRight (set_of (state_of lent.now)) resolutions.old }
+    ensures right { HoldsRight (set_of (state_of lent.now)) resolutions.new }
+    ensures judged { MatchResult result
+        (λ new. IsFree (or_else (DoesNotFit (with_twin (twin_view twin) (state_of lent.now)) twin.id) (TwinFull (with_twin (twin_view twin) (state_of lent.now)) (twin_view twin))) × (new.twin ≡ twin))
+        (FailsBy (or_else (DoesNotFit (with_twin (twin_view twin) (state_of lent.now)) twin.id) (TwinFull (with_twin (twin_view twin) (state_of lent.now)) (twin_view twin)))) }
+    ensures held { IfOk result (λ new. IsHeldTwin (record { twin = new.twin; bytes = new.bytes })) }
+    ensures tree { IfOk result (λ new. view new.tree ≡ twin_value (twin_view new.twin)) }
+{
+    unless_unfit(lent, resolutions, &twin)?;
+    within_limits(lent, twin)
+}
+
+/// The twin of an id for which a body of this interface's twins stands, where it may come. Fails by the first reason why it
+/// may not, or for want of memory.
+fn judged_of(
+    lent: &Lent<'_>,
+    resolutions: &mut Resolutions,
+    id: &Text,
+    interface: &Interface,
+    tree: &Tree,
+) -> Result<NewTwin, BodyFailure>
+    requires typed { WellTyped (state_of lent.now) }
+    requires there { interface_of (state_of lent.now) interface.now.id ≡ Some interface.now }
+    requires distinct { HasDistinctKeys (view tree.now) }
+    requires right { HoldsRight (set_of (state_of lent.now)) resolutions.old }
+    ensures right { HoldsRight (set_of (state_of lent.now)) resolutions.new }
+    ensures judged { MatchResult result
+        (λ new. IsFree (RefusesBody (state_of lent.now) id.now (dtmi_text interface.now.id) (view tree.now) (Some interface.now)) × (twin_view new.twin ≡ twin_for (state_of lent.now) id.now interface.now (view tree.now)))
+        (FailsBy (RefusesBody (state_of lent.now) id.now (dtmi_text interface.now.id) (view tree.now) (Some interface.now))) }
+    ensures held { IfOk result (λ new. IsHeldTwin (record { twin = new.twin; bytes = new.bytes })) }
+    ensures tree { IfOk result (λ new. view new.tree ≡ twin_value (twin_view new.twin)) }
+{
+    unless_marked(lent, id, &interface.id)?;
+    let twin = judged_twin(lent, resolutions, id, interface, tree)?;
+    judged_new(lent, resolutions, twin)
+}
+
+/// The twin of an id for which a body stands that names this model, where it may come. Fails by the first reason why it may
+/// not, or for want of memory.
+pub(crate) fn judged_body(
+    lent: &Lent<'_>,
+    resolutions: &mut Resolutions,
+    id: &Text,
+    model: &Dtmi,
+    tree: &Tree,
+) -> Result<NewTwin, BodyFailure>
+    requires typed { WellTyped (state_of lent.now) }
+    requires distinct { HasDistinctKeys (view tree.now) }
+    requires right { HoldsRight (set_of (state_of lent.now)) resolutions.old }
+    ensures right { HoldsRight (set_of (state_of lent.now)) resolutions.new }
+    ensures judged { MatchResult result
+        (λ new. IsFree (RefusesBody (state_of lent.now) id.now (dtmi_text model.now) (view tree.now) (interface_of (state_of lent.now) model.now))
+            × (with_twin (twin_view new.twin) (state_of lent.now) ≡ with_body (state_of lent.now) id.now (interface_of (state_of lent.now) model.now) (view tree.now)))
+        (FailsBy (RefusesBody (state_of lent.now) id.now (dtmi_text model.now) (view tree.now) (interface_of (state_of lent.now) model.now))) }
+    ensures id { IfOk result (λ new. new.twin.id ≡ id.now) }
+    ensures held { IfOk result (λ new. IsHeldTwin (record { twin = new.twin; bytes = new.bytes })) }
+    ensures tree { IfOk result (λ new. view new.tree ≡ twin_value (twin_view new.twin)) }
+{
+    match lent.interface(model) {
+        Some(interface) => judged_of(lent, resolutions, id, interface, tree),
+        None => {
+            let refusal = model_not_found(lent.alloc(), model)?;
+            Err(BodyFailure::Refused(refusal))
+        }
+    }
+}

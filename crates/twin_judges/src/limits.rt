@@ -1,0 +1,105 @@
+//! The limits of twins and of the graph.
+
+ghost use Rattle.std.specs.Prelude.{◌≡◌, ℕ, ◌+◌, ◌≤◌, length, unwrap_or, IfOk, MatchResult};
+ghost use Rattle.std.specs.Option.{option_map};
+ghost use Rattle.graph_bodies.specs.Bodies.{FailsBy};
+ghost use Rattle.graph_bodies.specs.Kept.{twin_view, IsKeptTwin};
+ghost use Rattle.graph_held.specs.Held.{state_of, IsHeldTwin};
+ghost use Rattle.graph_steps.specs.States.{Twin as GraphTwin, graph_bytes, twin_at, twin_text, twin_value, with_twin};
+ghost use Rattle.graph_steps.specs.TwinAsks.{TwinFull};
+ghost use Rattle.graph_steps.specs.Typed.{WellTyped};
+ghost use Rattle.json_tree.specs.View.{view};
+ghost use Rattle.twin_judges.specs.Machinery.Judged.{IsFree};
+
+use crate::new_twin::{NewTwin, printed};
+use dt_base::Text;
+use dtdl_terms::Limit;
+use graph_asks::Refusal;
+use graph_bodies::BodyFailure;
+use graph_held::Lent;
+use twin_value::Twin;
+
+/// The most bytes that the text of a twin has.
+const MOST_TWIN_BYTES: u64 = 32_768;
+
+/// The most twins that there are.
+const MOST_TWINS: u64 = 100_000;
+
+/// The most bytes that the texts of all twins and relationships have together.
+const MOST_GRAPH_BYTES: u64 = 268_435_456;
+
+/// How many twins there are with one of this id. Takes no memory.
+fn twins_with(lent: &Lent<'_>, id: &Text) -> u64
+    requires { WellTyped (state_of lent.now) }
+    ensures { (t : GraphTwin) → t.id ≡ id.now → result ≡ length (with_twin t (state_of lent.now)).twins }
+{
+    let twins = lent.twins().len();
+    match lent.twin(id) {
+        Some(_) => twins,
+        None => twins + 1,
+    }
+}
+
+/// How many bytes the text of the twin with an id has, 0 where there is none. Takes no memory.
+fn bytes_before(lent: &Lent<'_>, id: &Text) -> u64
+    ensures { result ≡ unwrap_or (option_map (λ t. length (twin_text t)) (twin_at id.now (state_of lent.now))) 0 }
+{
+    lent.right();
+    match lent.twins().bytes_of(id) {
+        Some(bytes) => bytes,
+        None => 0,
+    }
+}
+
+/// How many bytes the texts of all twins and relationships have together with a twin of this id whose text has so many.
+/// Takes no memory.
+fn bytes_with(lent: &Lent<'_>, id: &Text, bytes: u64) -> u64
+    requires typed { WellTyped (state_of lent.now) }
+    requires few { bytes ≤ 32768 }
+    ensures { (t : GraphTwin) → t.id ≡ id.now → bytes ≡ length (twin_text t) → result ≡ graph_bytes (with_twin t (state_of lent.now)) }
+{
+    let before = bytes_before(lent, id);
+    lent.bytes() - before + bytes
+}
+
+/// Refuses where a limit would be passed with a twin that comes, whose text has so many bytes.
+fn unless_full(lent: &Lent<'_>, twin: &Twin, bytes: u64) -> Result<(), BodyFailure>
+    requires typed { WellTyped (state_of lent.now) }
+    requires size { bytes ≡ length (twin_text (twin_view twin.now)) }
+    ensures { MatchResult result
+        (λ _. IsFree (TwinFull (with_twin (twin_view twin.now) (state_of lent.now)) (twin_view twin.now)))
+        (FailsBy (TwinFull (with_twin (twin_view twin.now) (state_of lent.now)) (twin_view twin.now))) }
+{
+    if bytes > MOST_TWIN_BYTES {
+        return Err(BodyFailure::Refused(Refusal::Full {
+            limit: Limit::TwinBytes,
+        }));
+    }
+    if twins_with(lent, &twin.id) > MOST_TWINS {
+        return Err(BodyFailure::Refused(Refusal::Full {
+            limit: Limit::Twins,
+        }));
+    }
+    if bytes_with(lent, &twin.id, bytes) > MOST_GRAPH_BYTES {
+        return Err(BodyFailure::Refused(Refusal::Full {
+            limit: Limit::GraphBytes,
+        }));
+    }
+    Ok(())
+}
+
+/// The twin that comes with what is printed of it, refused where a limit would be passed with it. Fails for want of memory
+/// too.
+pub(crate) fn within_limits(lent: &Lent<'_>, twin: Twin) -> Result<NewTwin, BodyFailure>
+    requires typed { WellTyped (state_of lent.now) }
+    requires kept { IsKeptTwin (twin_view twin) }
+    ensures full { MatchResult result
+        (λ new. IsFree (TwinFull (with_twin (twin_view twin) (state_of lent.now)) (twin_view twin)) × (new.twin ≡ twin))
+        (FailsBy (TwinFull (with_twin (twin_view twin) (state_of lent.now)) (twin_view twin))) }
+    ensures held { IfOk result (λ new. IsHeldTwin (record { twin = new.twin; bytes = new.bytes })) }
+    ensures tree { IfOk result (λ new. view new.tree ≡ twin_value (twin_view new.twin)) }
+{
+    let (tree, bytes) = printed(lent.alloc(), &twin)?;
+    unless_full(lent, &twin, bytes)?;
+    Ok(NewTwin { twin, bytes, tree })
+}

@@ -1,0 +1,129 @@
+//! The ask that patches a component of a twin.
+
+ghost use Rattle.std.specs.Prelude.{◌≡◌, Ok, Some, IfOk, IsSome, MatchResult};
+ghost use Rattle.graph_asks.specs.declared.refusal.Refusal.{Refusal};
+ghost use Rattle.graph_bodies.specs.Bodies.{FailsBy};
+ghost use Rattle.graph_bodies.specs.Kept.{twin_view, IsKeptPart, IsKeptTwin};
+ghost use Rattle.graph_held.specs.Held.{state_of, IsHeldTwin};
+ghost use Rattle.graph_steps.specs.Soundness.{IsReadPatch, IsSound};
+ghost use Rattle.graph_steps.specs.States.{interface_of, part_value, set_of, twin_value, with_twin};
+ghost use Rattle.graph_steps.specs.TwinAsks.{RefusesNewPart, RefusesPatchPart, after_patch_part, component_at, with_new_part, with_part};
+ghost use Rattle.graph_steps.specs.Typed.{WellTyped};
+ghost use Rattle.json_tree.specs.Values.{HasDistinctKeys};
+ghost use Rattle.json_tree.specs.View.{view};
+ghost use Rattle.model_resolve.specs.Resolving.{HoldsRight};
+ghost use Rattle.twin_patch.specs.Operations.{operations_of};
+ghost use Rattle.twin_patch.specs.Patched.{patched_from};
+ghost use Rattle.twin_patch.specs.declared.entry.PatchOf.{PatchOf};
+ghost use Rattle.twin_judges.specs.Machinery.Judged.{IsFree};
+
+use crate::components::with_component;
+use crate::limits::within_limits;
+use crate::new_twin::NewTwin;
+use crate::refusals::{component_not_found, frozen, twin_not_found};
+use dt_base::Text;
+use dtdl_terms::Interface;
+use graph_asks::Ask;
+use graph_bodies::{BodyFailure, kept_part, part_tree, patched};
+use graph_held::{Lent, judged_part};
+use json_tree::Tree;
+use local_rules::value_in;
+use model_resolve::Resolutions;
+use twin_patch::Patch;
+use twin_value::Twin;
+
+/// The twin with the values of a component for which a tree stands that a patch made, where it may come. Fails by the first
+/// reason why it may not, or for want of memory.
+fn judged_values(
+    lent: &Lent<'_>,
+    resolutions: &mut Resolutions,
+    name: &Text,
+    interface: &Interface,
+    twin: &Twin,
+    tree: &Tree,
+) -> Result<NewTwin, BodyFailure>
+    requires typed { WellTyped (state_of lent.now) }
+    requires there { interface_of (state_of lent.now) interface.now.id ≡ Some interface.now }
+    requires kept { IsKeptTwin (twin_view twin.now) }
+    requires has { IsSome (component_at name.now (twin_view twin.now)) }
+    requires distinct { HasDistinctKeys (view tree.now) }
+    requires right { HoldsRight (set_of (state_of lent.now)) resolutions.old }
+    ensures right { HoldsRight (set_of (state_of lent.now)) resolutions.new }
+    ensures judged { MatchResult result
+        (λ new. IsFree (RefusesNewPart (state_of lent.now) name.now interface.now (twin_view twin.now) (Ok (view tree.now))) × (twin_view new.twin ≡ with_part name.now (view tree.now) (twin_view twin.now)))
+        (FailsBy (RefusesNewPart (state_of lent.now) name.now interface.now (twin_view twin.now) (Ok (view tree.now)))) }
+    ensures held { IfOk result (λ new. IsHeldTwin (record { twin = new.twin; bytes = new.bytes })) }
+    ensures tree { IfOk result (λ new. view new.tree ≡ twin_value (twin_view new.twin)) }
+{
+    let values = judged_part(lent, resolutions, name, interface, tree)?;
+    let new = with_component(lent.alloc(), twin, name, values)?;
+    within_limits(lent, new)
+}
+
+/// The twin of which a patch changes a component that it has, where it may come. Fails by the first reason why it may not,
+/// or for want of memory.
+fn judged_part_of(
+    lent: &Lent<'_>,
+    resolutions: &mut Resolutions,
+    name: &Text,
+    interface: &Interface,
+    twin: &Twin,
+    part: &Tree,
+    patch: &Patch,
+) -> Result<NewTwin, BodyFailure>
+    requires typed { WellTyped (state_of lent.now) }
+    requires there { interface_of (state_of lent.now) interface.now.id ≡ Some interface.now }
+    requires kept { IsKeptTwin (twin_view twin.now) }
+    requires has { component_at name.now (twin_view twin.now) ≡ Some (view part.now) }
+    requires read { (of : PatchOf) × IsReadPatch of patch.now }
+    requires right { HoldsRight (set_of (state_of lent.now)) resolutions.old }
+    ensures right { HoldsRight (set_of (state_of lent.now)) resolutions.new }
+    ensures judged { MatchResult result
+        (λ new. IsFree (RefusesNewPart (state_of lent.now) name.now interface.now (twin_view twin.now) (patched_from 0 (operations_of patch.now.ops) (part_value (view part.now))))
+            × (with_twin (twin_view new.twin) (state_of lent.now) ≡ with_new_part (state_of lent.now) name.now (twin_view twin.now) (patched_from 0 (operations_of patch.now.ops) (part_value (view part.now)))))
+        (FailsBy (RefusesNewPart (state_of lent.now) name.now interface.now (twin_view twin.now) (patched_from 0 (operations_of patch.now.ops) (part_value (view part.now))))) }
+    ensures id { IfOk result (λ new. new.twin.id ≡ twin.now.id) }
+    ensures held { IfOk result (λ new. IsHeldTwin (record { twin = new.twin; bytes = new.bytes })) }
+    ensures tree { IfOk result (λ new. view new.tree ≡ twin_value (twin_view new.twin)) }
+{
+    kept_part();
+    let before = part_tree(lent.alloc(), part)?;
+    let after = patched(lent.alloc(), &before, patch)?;
+    judged_values(lent, resolutions, name, interface, twin, &after)
+}
+
+/// The twin that an ask to patch a component brings. Fails by the first reason why it is refused, or for want of memory.
+/// What is lent stays as it is.
+pub fn judged_part_patch(
+    lent: &Lent<'_>,
+    resolutions: &mut Resolutions,
+    id: &Text,
+    name: &Text,
+    patch: &Patch,
+) -> Result<NewTwin, BodyFailure>
+    requires typed { WellTyped (state_of lent.now) }
+    requires sound { IsSound (Ask.PatchPart id.now name.now patch.now) }
+    requires right { HoldsRight (set_of (state_of lent.now)) resolutions.old }
+    ensures right { HoldsRight (set_of (state_of lent.now)) resolutions.new }
+    ensures judged { MatchResult result
+        (λ new. ((r : Refusal) → RefusesPatchPart (state_of lent.now) id.now name.now (operations_of patch.now.ops) r → ⊥)
+            × (with_twin (twin_view new.twin) (state_of lent.now) ≡ after_patch_part (state_of lent.now) id.now name.now (operations_of patch.now.ops)))
+        (FailsBy (RefusesPatchPart (state_of lent.now) id.now name.now (operations_of patch.now.ops))) }
+    ensures id { IfOk result (λ new. new.twin.id ≡ id.now) }
+    ensures held { IfOk result (λ new. IsHeldTwin (record { twin = new.twin; bytes = new.bytes })) }
+    ensures tree { IfOk result (λ new. view new.tree ≡ twin_value (twin_view new.twin)) }
+{
+    let Some(twin) = lent.twin(id) else {
+        let refusal = twin_not_found(lent.alloc(), id)?;
+        return Err(BodyFailure::Refused(refusal));
+    };
+    let Some(interface) = lent.interface(&twin.model) else {
+        let refusal = frozen(lent.alloc(), &twin.model)?;
+        return Err(BodyFailure::Refused(refusal));
+    };
+    let Some(part) = value_in(&twin.parts, name.as_str()) else {
+        let refusal = component_not_found(lent.alloc(), name)?;
+        return Err(BodyFailure::Refused(refusal));
+    };
+    judged_part_of(lent, resolutions, name, interface, twin, part, patch)
+}
