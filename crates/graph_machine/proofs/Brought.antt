@@ -10,7 +10,7 @@ use Rattle.rel_graph.specs.Edges.{key}
 use Rattle.rel_graph.proofs.Tallies.{keys_total}
 use Rattle.twin_patch.specs.declared.patch.Patch.{Patch}
 use Rattle.twin_value.specs.declared.twin.Twin.{Twin}
-use Rattle.graph_asks.specs.Answers.{body, done}
+use Rattle.graph_asks.specs.Answers.{body}
 use Rattle.graph_asks.specs.declared.ask.Ask.{Ask}
 use Rattle.graph_asks.specs.declared.ask.Ask.TheVariants as asks
 use Rattle.graph_asks.specs.declared.refusal.Refusal.{Refusal}
@@ -26,7 +26,7 @@ use Rattle.graph_laws.proofs.Typed.{keeps_typed}
 use Rattle.graph_steps.specs.LinkAsks.{link_at, with_link}
 use Rattle.graph_steps.specs.Soundness.{IsSound}
 use Rattle.graph_steps.specs.States.{State, twin_at, twin_value, link_value, with_twin}
-use Rattle.graph_steps.specs.Steps.{Refuses, changed, Allows, Answers, follows}
+use Rattle.graph_steps.specs.Steps.{Refuses, changed, Allows, follows}
 use Rattle.graph_steps.specs.Typed.{WellTyped}
 use Rattle.graph_held.specs.Held.{link_of, IsHeldTwin, IsHeldLink}
 use Rattle.graph_held.specs.declared.stored.Stored.{Stored}

@@ -1,9 +1,8 @@
 -- The least edge of a vertex: the lesser of the first out of it and the first into it.
-use Rattle.std.proofs.Common.{◌≡◌, ℕ, List, [], ◌∷◌, map, Bool, true, false, cond, ◌||◌, bytes_eq, Option, Some, None, IfSome, Bor, refl, sym, ap, ◌∙◌, Ordering, Less}
-use Rattle.std.specs.Prelude.{slice_get, MatchOption}
-use Rattle.std.specs.Option.{option_copied}
+use Rattle.std.proofs.Common.{◌≡◌, ℕ, List, [], ◌∷◌, map, Bool, true, false, cond, ◌||◌, bytes_eq, Option, Some, None, IfSome, refl, sym, ap, ◌∙◌, Less}
+use Rattle.std.specs.Prelude.{slice_get}
 use Rattle.std.specs.Ordering.{is_lt, ordering_reverse}
-use Rattle.std.specs.List.{AllByRecursion, filter, find}
+use Rattle.std.specs.List.{AllByRecursion, find}
 use Rattle.std.proofs.lemmas.Map.Keys.{sorted_head, sorted_tail}
 use Rattle.rel_graph.specs.Edges.{key_cmp, key, InOrder, is_from, is_into, out_of, into_of}
 use Rattle.rel_graph.specs.declared.edge.Edge.{Edge}
@@ -51,8 +50,3 @@ module _ {P : Type 0} where
       by true false later rest = before_into e (slice_get (into_of id es) 0) (first_after e (into_of id es) (all_filter (After e) (is_into id) es later))
       by false true later rest = before_out e (slice_get (out_of id es) 0) (first_after e (out_of id es) (all_filter (After e) (is_from id) es later))
       by false false later rest = rest
-
--- the first that an iterator gave
-pub first_given : {A : Type 0} (xs ys : List A) (r : Option (Bor A)) → MatchOption r ((xs ≡ []) × (ys ≡ [])) (λ x. xs ≡ x.now ∷ ys) → option_copied r ≡ slice_get xs 0
-first_given xs ys None h = sym (ap (λ l. slice_get l 0) h.0)
-first_given xs ys (Some x) h = sym (ap (λ l. slice_get l 0) h)

@@ -6,10 +6,10 @@ use Rattle.twin_value.proofs.Enumerated.{take-whole}
 use Rattle.std.specs.List.{AllByRecursion, filter}
 use Rattle.json_tree.specs.Values.{Json}
 use Rattle.json_tree.specs.View.{view}
-use Rattle.rel_graph.specs.Edges.{out_of, into_of, out_past, into_past, is_from, is_into}
+use Rattle.rel_graph.specs.Edges.{out_of, into_of, is_from, is_into}
 use Rattle.rel_graph.specs.declared.edge.Edge.{Edge}
 use Rattle.graph_steps.specs.ListAsks.{is_called, out_links, into_links}
-use Rattle.graph_steps.specs.Pages.{on_page, token, page_value}
+use Rattle.graph_steps.specs.Pages.{on_page, page_value}
 use Rattle.graph_steps.specs.States.{Link, link_value}
 use Rattle.graph_bodies.specs.Kept.{IsKeptLink}
 use Rattle.graph_pages.specs.Rows as rows

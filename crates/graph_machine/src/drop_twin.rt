@@ -13,9 +13,9 @@ ghost use Rattle.graph_machine.specs.Machinery.Least.{least_of};
 
 use crate::answers::twin_not_found;
 use crate::machine::Machine;
-use graph_held::Stored;
 use dt_base::{OutOfMemory, Text};
 use graph_asks::{Ask, Refusal, Reply};
+use graph_held::Stored;
 use rel_graph::{Edge, Listing, Rels};
 use std::alloc::Global;
 use std::cmp::Ordering;

@@ -84,11 +84,7 @@ fn refused(
 }
 
 /// Adds models, where they break no rule and pass no limit on models. What is held of others stays right.
-fn add(
-    alloc: Global,
-    models: &mut Models,
-    new: &[Uploaded],
-) -> Result<(), BodyFailure>
+fn add(alloc: Global, models: &mut Models, new: &[Uploaded]) -> Result<(), BodyFailure>
     requires { AreSoundUploads new.now }
     ensures judged { (s : State) → s.models ≡ models.old → MatchResult result (λ _. AreNew models.old new.now × IsSound (interfaces_of models.old) new.now × AreWithinLimits (with_models new.now models.old)) (FailsBy (RefusesPutModels s new.now)) }
     ensures ok { OnOk result (models.new ≡ with_models new.now models.old) }

@@ -15,9 +15,9 @@ ghost use Rattle.graph_machine.specs.Machinery.Listings.{raw_into};
 use crate::answers::twin_not_found;
 use crate::machine::Machine;
 use crate::rows::rows;
-use graph_held::Stored;
 use dt_base::{OutOfMemory, Text};
 use graph_asks::{Ask, Reply};
+use graph_held::Stored;
 use graph_pages::{first_called, into_token, page_tree};
 use json_tree::Tree;
 use rel_graph::{Edge, Into, Rels};
@@ -26,11 +26,7 @@ use std::alloc::Global;
 impl Machine {
     /// A page of the relationships into a twin, past a source and an id where they are given; refused where there is no
     /// such twin. `Err` is want of memory.
-    pub fn list_in(
-        &self,
-        target: &Text,
-        after: &Option<(Text, Text)>,
-    ) -> Result<Reply, OutOfMemory>
+    pub fn list_in(&self, target: &Text, after: &Option<(Text, Text)>) -> Result<Reply, OutOfMemory>
         ensures allowed { IfOk result (Allows (state_of self.now) (Ask.ListIn target.now after.now)) }
         ensures follows { IfOk result (λ reply. follows (state_of self.now) (Ask.ListIn target.now after.now) reply ≡ state_of self.now) }
     {
@@ -41,11 +37,7 @@ impl Machine {
     }
 
     /// The page of the relationships into a twin.
-    fn into_page(
-        &self,
-        target: &Text,
-        after: &Option<(Text, Text)>,
-    ) -> Result<Tree, OutOfMemory>
+    fn into_page(&self, target: &Text, after: &Option<(Text, Text)>) -> Result<Tree, OutOfMemory>
         ensures { IfOk result (λ tree. body (view tree) ≡ listed_in (state_of self.now) target.now after.now) }
     {
         let first = self.first_into(target, after)?;

@@ -16,8 +16,8 @@ use dt_base::{OutOfMemory, Text};
 use graph_asks::{Ask, Reply};
 use graph_bodies::BodyFailure;
 use graph_held::Lent;
-use twin_patch::Patch;
 use twin_judges::{NewTwin, judged_part_patch};
+use twin_patch::Patch;
 
 impl Machine {
     /// Patches a component of a twin; refused, in this order, where the twin is not there, where it is frozen, where it has no
@@ -36,7 +36,11 @@ impl Machine {
     {
         match self.part_judged(id, name, patch) {
             Ok(new) => {
-                let NewTwin { twin, bytes, tree: _tree } = new;
+                let NewTwin {
+                    twin,
+                    bytes,
+                    tree: _tree,
+                } = new;
                 self.enter_twin(twin, bytes)?;
                 Ok(Reply::Done)
             }
@@ -45,12 +49,7 @@ impl Machine {
     }
 
     /// Judges a twin whose component is to be patched. What contracts see stays.
-    fn part_judged(
-        &mut self,
-        id: &Text,
-        name: &Text,
-        patch: &Patch,
-    ) -> Result<NewTwin, BodyFailure>
+    fn part_judged(&mut self, id: &Text, name: &Text, patch: &Patch) -> Result<NewTwin, BodyFailure>
         requires { IsSound (Ask.PatchPart id.now name.now patch.now) }
         ensures judged { MatchResult result (λ new. BringsTwin (state_of self.old) (Ask.PatchPart id.now name.now patch.now) id.now new.twin new.bytes new.tree) (FailsBy (Refuses (state_of self.old) (Ask.PatchPart id.now name.now patch.now))) }
         ensures typed { IfOk result (λ new. WellTyped (with_twin (twin_view new.twin) (state_of self.old))) }

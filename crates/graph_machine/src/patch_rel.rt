@@ -15,9 +15,9 @@ use dt_base::{OutOfMemory, Text};
 use graph_asks::{Ask, Reply};
 use graph_bodies::BodyFailure;
 use graph_held::Lent;
-
 use link_judges::{NewLink, judged_rel_patch};
 use twin_patch::Patch;
+
 impl Machine {
     /// Patches a relationship; refused, in this order, where the source is not there, where this has no such relationship, where
     /// the source is frozen, where an operation does not find what it needs, where the patched body has a breach, and where a

@@ -16,18 +16,14 @@ use dt_base::{OutOfMemory, Text};
 use graph_asks::{Ask, Reply};
 use graph_bodies::BodyFailure;
 use graph_held::Lent;
-use twin_patch::Patch;
 use twin_judges::{NewTwin, judged_patch};
+use twin_patch::Patch;
 
 impl Machine {
     /// Patches a twin; refused, in this order, where it is not there, where it is frozen, where an operation does not find what
     /// it needs, and then for what the patched body would be refused for as that of a twin that comes. `Err` is want of memory,
     /// and nothing changes.
-    pub fn patch_twin(
-        &mut self,
-        id: &Text,
-        patch: &Patch,
-    ) -> Result<Reply, OutOfMemory>
+    pub fn patch_twin(&mut self, id: &Text, patch: &Patch) -> Result<Reply, OutOfMemory>
         requires { IsSound (Ask.PatchTwin id.now patch.now) }
         ensures allowed { IfOk result (Allows (state_of self.old) (Ask.PatchTwin id.now patch.now)) }
         ensures follows { IfOk result (λ reply. state_of self.new ≡ follows (state_of self.old) (Ask.PatchTwin id.now patch.now) reply) }
@@ -35,7 +31,11 @@ impl Machine {
     {
         match self.patch_judged(id, patch) {
             Ok(new) => {
-                let NewTwin { twin, bytes, tree: _tree } = new;
+                let NewTwin {
+                    twin,
+                    bytes,
+                    tree: _tree,
+                } = new;
                 self.enter_twin(twin, bytes)?;
                 Ok(Reply::Done)
             }
@@ -44,11 +44,7 @@ impl Machine {
     }
 
     /// Judges a twin that is to be patched. What contracts see stays.
-    fn patch_judged(
-        &mut self,
-        id: &Text,
-        patch: &Patch,
-    ) -> Result<NewTwin, BodyFailure>
+    fn patch_judged(&mut self, id: &Text, patch: &Patch) -> Result<NewTwin, BodyFailure>
         requires { IsSound (Ask.PatchTwin id.now patch.now) }
         ensures judged { MatchResult result (λ new. BringsTwin (state_of self.old) (Ask.PatchTwin id.now patch.now) id.now new.twin new.bytes new.tree) (FailsBy (Refuses (state_of self.old) (Ask.PatchTwin id.now patch.now))) }
         ensures typed { IfOk result (λ new. WellTyped (with_twin (twin_view new.twin) (state_of self.old))) }

@@ -18,9 +18,9 @@ ghost use Rattle.graph_held.specs.Held.{state_of};
 ghost use Rattle.graph_machine.specs.Machinery.Marks.{id_text_of, unmarked};
 
 use crate::answers::failed;
+use crate::growing::models_come;
 use crate::machine::Machine;
 use crate::trees::mark_tree;
-use crate::growing::models_come;
 use dt_base::{List, OutOfMemory};
 use dtdl_terms::Uploaded;
 use dtmi_name::Dtmi;

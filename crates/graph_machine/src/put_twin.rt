@@ -25,12 +25,7 @@ impl Machine {
     /// frozen, where there is no such model, where the model is decommissioned and the twin is not of it already, where the body
     /// has a breach, where a relationship of the twin would no longer be well typed, and where a limit would be passed. `Err` is
     /// want of memory, and nothing changes.
-    pub fn put_twin(
-        &mut self,
-        id: &Text,
-        model: &Dtmi,
-        body: &Tree,
-    ) -> Result<Reply, OutOfMemory>
+    pub fn put_twin(&mut self, id: &Text, model: &Dtmi, body: &Tree) -> Result<Reply, OutOfMemory>
         requires { IsSound (Ask.PutTwin id.now model.now body.now) }
         ensures allowed { IfOk result (Allows (state_of self.old) (Ask.PutTwin id.now model.now body.now)) }
         ensures follows { IfOk result (λ reply. state_of self.new ≡ follows (state_of self.old) (Ask.PutTwin id.now model.now body.now) reply) }
@@ -47,12 +42,7 @@ impl Machine {
     }
 
     /// Judges a twin that is to come. What contracts see stays.
-    fn twin_judged(
-        &mut self,
-        id: &Text,
-        model: &Dtmi,
-        body: &Tree,
-    ) -> Result<NewTwin, BodyFailure>
+    fn twin_judged(&mut self, id: &Text, model: &Dtmi, body: &Tree) -> Result<NewTwin, BodyFailure>
         requires { IsSound (Ask.PutTwin id.now model.now body.now) }
         ensures judged { MatchResult result (λ new. BringsTwin (state_of self.old) (Ask.PutTwin id.now model.now body.now) id.now new.twin new.bytes new.tree) (FailsBy (Refuses (state_of self.old) (Ask.PutTwin id.now model.now body.now))) }
         ensures typed { IfOk result (λ new. WellTyped (with_twin (twin_view new.twin) (state_of self.old))) }

@@ -7,8 +7,8 @@ ghost use Rattle.graph_bodies.specs.Kept.{IsKeptLink};
 ghost use Rattle.graph_steps.specs.States.{link_value};
 ghost use Rattle.graph_held.specs.Held.{link_of};
 
-use graph_held::{Stored, stored_tree};
 use dt_base::OutOfMemory;
+use graph_held::{Stored, stored_tree};
 use json_tree::Tree;
 use rel_graph::Edge;
 use std::alloc::Global;

@@ -1,4 +1,4 @@
-use Rattle.std.proofs.Common.{◌≡◌, ◌∙◌, [], ◌∷◌}
+use Rattle.std.proofs.Common.{◌∙◌, [], ◌∷◌}
 use Rattle.graph_steps.specs.States.{Link, link_value}
 use Rattle.graph_held.specs.Held.{link_of}
 use Rattle.graph_machine.proofs.Pages.{rows_on_page}

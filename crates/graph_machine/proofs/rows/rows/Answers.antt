@@ -1,4 +1,4 @@
-use Rattle.std.proofs.Common.{◌≡◌, ◌∙◌, Bor, drop, length, sym, arith}
+use Rattle.std.proofs.Common.{Bor, drop, arith}
 use Rattle.rel_graph.specs.declared.edge.Edge.{Edge}
 use Rattle.graph_held.specs.declared.stored.Stored.{Stored}
 use Rattle.std.proofs.Math.ListN.{drop_of_length-le}

@@ -1,4 +1,4 @@
-use Rattle.std.proofs.Common.{◌≡◌, ◌∙◌, sym, ap, Some, None}
+use Rattle.std.proofs.Common.{◌∙◌, sym, ap, Some, None}
 use Rattle.graph_machine.specs.Machinery.Listings.{raw_out}
 use Rattle.graph_machine.proofs.machine.Machine.all_out.Goals as goal
 

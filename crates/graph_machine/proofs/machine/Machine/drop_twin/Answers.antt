@@ -1,4 +1,4 @@
-use Rattle.std.proofs.Common.{◌≡◌, ◌∙◌, sym, ap, refl}
+use Rattle.std.proofs.Common.{◌≡◌, ◌∙◌, sym, refl}
 use Rattle.graph_asks.specs.declared.ask.Ask.TheVariants as asks
 use Rattle.graph_steps.specs.Steps.{Allows, follows}
 use Rattle.graph_held.specs.Held.{state_of}

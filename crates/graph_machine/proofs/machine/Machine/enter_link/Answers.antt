@@ -1,4 +1,4 @@
-use Rattle.std.proofs.Common.{◌≡◌, ◌+◌, ◌∙◌, unwrap_or, sym, ap, subst, arith}
+use Rattle.std.proofs.Common.{◌+◌, ◌∙◌, unwrap_or, sym, ap, subst, arith}
 use Rattle.std.specs.Option.{option_map}
 use Rattle.rel_graph.specs.declared.edge.Edge.{Edge}
 use Rattle.graph_held.specs.declared.stored.Stored.{Stored}

@@ -1,9 +1,7 @@
-use Rattle.std.proofs.Common.{None, ◌≡◌, ◌∙◌, take, sym, ap, subst}
+use Rattle.std.proofs.Common.{None, ◌∙◌, take, ap, subst}
 use Rattle.std.specs.List.{AllByRecursion, filter}
 use Rattle.graph_pages.specs.Rows as rows
-use Rattle.graph_steps.specs.ListAsks.{into_links}
-use Rattle.graph_held.specs.Held.{holding, state_of, IsHeldLink}
-use Rattle.graph_machine.specs.Machinery.Listings.{raw_into}
+use Rattle.graph_held.specs.Held.{IsHeldLink}
 use Rattle.graph_machine.proofs.Pages.{decides_into, kept_into}
 use Rattle.graph_machine.proofs.Told.{weaker}
 use Rattle.graph_machine.proofs.machine.Machine.first_into.Goals as goal

@@ -1,9 +1,8 @@
-use Rattle.std.proofs.Common.{◌≡◌, ◌∙◌, take, sym, ap, subst}
+use Rattle.std.proofs.Common.{◌∙◌, take, ap, subst}
 use Rattle.std.specs.List.{AllByRecursion, filter}
 use Rattle.std.specs.Option.{option_copied}
 use Rattle.graph_pages.specs.Rows as rows
-use Rattle.graph_steps.specs.ListAsks.{is_called, out_links}
-use Rattle.graph_held.specs.Held.{holding, state_of, IsHeldLink}
+use Rattle.graph_held.specs.Held.{IsHeldLink}
 use Rattle.graph_machine.specs.Machinery.Listings.{raw_out}
 use Rattle.graph_machine.proofs.Pages.{decides_out, kept_out}
 use Rattle.graph_machine.proofs.Told.{weaker}

@@ -1,5 +1,5 @@
-use Rattle.std.proofs.Common.{◌≡◌, ◌∙◌, [], ◌∷◌, map, sym, ap, subst, Bor}
-use Rattle.std.specs.List.{AllByRecursion, filter}
+use Rattle.std.proofs.Common.{◌∙◌, [], ◌∷◌, map, sym, ap, subst, Bor}
+use Rattle.std.specs.List.{AllByRecursion}
 use Rattle.rel_graph.specs.declared.edge.Edge.{Edge}
 use Rattle.graph_asks.specs.Answers.{body}
 use Rattle.graph_bodies.specs.Kept.{IsKeptLink}
@@ -18,7 +18,7 @@ into_tree-requires c = subst (AllByRecursion (λ (e : Bor (Edge Stored)). IsKept
 pub returns : goal.returns
 returns c =
     weaker c.into_tree.result _ _ (λ tree h. ap (λ v. body v)
-        (h
-        ∙ ap (λ es. page_value (map (λ (e : Bor (Edge Stored)). (e.now.source ∷ e.now.id ∷ [], link_value (link_of e.now))) es)) c.as_slice.ensures.value
-        ∙ page_decided (λ (l : Link). (l.source ∷ l.id ∷ [], link_value l)) (into_links (state_of c.args.self.now) c.args.target.now c.args.after.now) c.in_ok-first.first.items c.in_ok-first.ensures.edges))
+    (h
+    ∙ ap (λ es. page_value (map (λ (e : Bor (Edge Stored)). (e.now.source ∷ e.now.id ∷ [], link_value (link_of e.now))) es)) c.as_slice.ensures.value
+    ∙ page_decided (λ (l : Link). (l.source ∷ l.id ∷ [], link_value l)) (into_links (state_of c.args.self.now) c.args.target.now c.args.after.now) c.in_ok-first.first.items c.in_ok-first.ensures.edges))
     c.into_tree.ensures

@@ -1,7 +1,7 @@
 use Rattle.std.proofs.Common.{◌≡◌, ◌∙◌, sym, ap, subst, refl}
 use Rattle.graph_asks.specs.Answers.{done}
 use Rattle.graph_asks.specs.declared.ask.Ask.TheVariants as asks
-use Rattle.model_life.specs.Models.{model_at, with_mark}
+use Rattle.model_life.specs.Models.{model_at}
 use Rattle.graph_steps.specs.ModelAsks.{after_mark}
 use Rattle.graph_steps.specs.Steps.{Allows, Answers, follows}
 use Rattle.graph_held.specs.Held.{holding, state_of, IsKept}

@@ -1,4 +1,4 @@
-use Rattle.std.proofs.Common.{◌≡◌, ◌∙◌, IfOk, OnOk, OnErr, ap, subst}
+use Rattle.std.proofs.Common.{◌≡◌, IfOk, OnOk, OnErr, subst}
 use Rattle.std.specs.Prelude.{MatchResult}
 use Rattle.dtdl_terms.specs.Sets.{InOrder}
 use Rattle.graph_asks.specs.declared.ask.Ask.TheVariants as asks

@@ -1,4 +1,4 @@
-use Rattle.std.proofs.Common.{◌≡◌, ◌∙◌, [], ◌∷◌, map, sym, ap, subst, Bor}
+use Rattle.std.proofs.Common.{◌∙◌, [], ◌∷◌, map, sym, ap, subst, Bor}
 use Rattle.std.specs.List.{AllByRecursion, filter}
 use Rattle.rel_graph.specs.declared.edge.Edge.{Edge}
 use Rattle.graph_asks.specs.Answers.{body}
@@ -18,7 +18,7 @@ out_tree-requires c = subst (AllByRecursion (λ (e : Bor (Edge Stored)). IsKeptL
 pub returns : goal.returns
 returns c =
     weaker c.out_tree.result _ _ (λ tree h. ap (λ v. body v)
-        (h
-        ∙ ap (λ es. page_value (map (λ (e : Bor (Edge Stored)). (e.now.id ∷ [], link_value (link_of e.now))) es)) c.as_slice.ensures.value
-        ∙ page_decided (λ (l : Link). (l.id ∷ [], link_value l)) (filter (is_called c.args.name.now) (out_links (state_of c.args.self.now) c.args.source.now c.args.after.now)) c.in_ok-first.first.items c.in_ok-first.ensures.edges))
+    (h
+    ∙ ap (λ es. page_value (map (λ (e : Bor (Edge Stored)). (e.now.id ∷ [], link_value (link_of e.now))) es)) c.as_slice.ensures.value
+    ∙ page_decided (λ (l : Link). (l.id ∷ [], link_value l)) (filter (is_called c.args.name.now) (out_links (state_of c.args.self.now) c.args.source.now c.args.after.now)) c.in_ok-first.first.items c.in_ok-first.ensures.edges))
     c.out_tree.ensures

@@ -1,4 +1,4 @@
-use Rattle.std.proofs.Common.{◌≡◌, ◌∙◌, Bor, sym, ap, subst}
+use Rattle.std.proofs.Common.{◌∙◌, Bor, sym, ap, subst}
 use Rattle.std.specs.Option.{option_map}
 use Rattle.json_tree.specs.View.{view}
 use Rattle.json_tree.specs.declared.tree.Tree.{Tree}

@@ -1,4 +1,3 @@
-use Rattle.std.proofs.Common.{OnErr, ap, subst}
 use Rattle.graph_held.specs.Held.{state_of}
 use Rattle.graph_machine.proofs.Came.{came_allowed, came_follows, came_unchanged, same_state}
 use Rattle.graph_machine.proofs.machine.Machine.put_models.Goals as goal

@@ -1,4 +1,4 @@
-use Rattle.std.proofs.Common.{◌≡◌, ◌∙◌, ◌-◌, sym, ap, subst}
+use Rattle.std.proofs.Common.{◌∙◌, sym, ap, subst}
 use Rattle.rel_graph.specs.Edges.{without_edge}
 use Rattle.graph_steps.specs.LinkAsks.{after_drop_rel}
 use Rattle.graph_held.specs.Held.{holding, state_of, IsKept}

@@ -1,6 +1,5 @@
 use Rattle.std.proofs.Common.{subst}
 use Rattle.graph_asks.specs.Answers.{done}
-use Rattle.graph_steps.specs.Soundness.{IsSound}
 use Rattle.graph_steps.specs.Steps.{Answers}
 use Rattle.graph_held.specs.Held.{state_of}
 use Rattle.graph_machine.proofs.object.MachineObject.step.Goals as goal
