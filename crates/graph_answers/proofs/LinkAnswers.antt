@@ -1,8 +1,8 @@
 -- An ask on relationships has at most one answer.
-use Rattle.std.proofs.Common.{◌≡◌, ℕ, ◌<◌, inl, inr, List, length, Option, Some, None, Result, Ok, Err, refl, sym, ap, ◌∙◌, subst}
+use Rattle.std.proofs.Common.{◌≡◌, ℕ, ◌<◌, List, length, Option, Some, None, Result, Ok, Err, sym, ap, ◌∙◌, subst}
 use Rattle.std.specs.Prelude.{codes}
 use Rattle.std.proofs.lemmas.Option.{same_Some}
-use Rattle.dtmi_name.specs.Grammar.{Identifier, dtmi_text}
+use Rattle.dtmi_name.specs.Grammar.{dtmi_text}
 use Rattle.json_tree.specs.Values.{Json}
 use Rattle.dtdl_terms.specs.declared.interface.Interface.{Interface}
 use Rattle.dtdl_terms.specs.declared.limit.Limit.TheVariants as limits
@@ -33,11 +33,11 @@ one_count s (Some c) source id name r q (most, is, many, e) (other, also, more, 
 one_full : (new : State) (l : Link) → One (LinkFull new l)
 one_full new l =
     both (when (4096 < length (link_text l)) (refusals.Full limits.RelationshipBytes))
-        (or_else (when (400000 < length new.links) (refusals.Full limits.Relationships)) (when (268435456 < graph_bytes new) (refusals.Full limits.GraphBytes)))
-        (one_when (4096 < length (link_text l)) (refusals.Full limits.RelationshipBytes))
+    (or_else (when (400000 < length new.links) (refusals.Full limits.Relationships)) (when (268435456 < graph_bytes new) (refusals.Full limits.GraphBytes)))
+    (one_when (4096 < length (link_text l)) (refusals.Full limits.RelationshipBytes))
     (both (when (400000 < length new.links) (refusals.Full limits.Relationships)) (when (268435456 < graph_bytes new) (refusals.Full limits.GraphBytes))
-        (one_when (400000 < length new.links) (refusals.Full limits.Relationships))
-        (one_when (268435456 < graph_bytes new) (refusals.Full limits.GraphBytes)))
+    (one_when (400000 < length new.links) (refusals.Full limits.Relationships))
+    (one_when (268435456 < graph_bytes new) (refusals.Full limits.GraphBytes)))
 
 one_link_of : (s : State) (i : Interface) (source id name target : List ℕ) (v : Json) → One (RefusesLink s i source id name target v)
 one_link_of s i source id name target v =
@@ -46,7 +46,7 @@ one_link_of s i source id name target v =
     let link = link_for s i source id name target v in
     let new = with_link link s in
     both (BodyFault Broken v)
-        (or_else (TwinNotFound s target) (or_else (WrongTarget s content target) (or_else (Multiplicity s content source id name) (LinkFull new link)))) (one_fault Broken v)
+    (or_else (TwinNotFound s target) (or_else (WrongTarget s content target) (or_else (Multiplicity s content source id name) (LinkFull new link)))) (one_fault Broken v)
     (both (TwinNotFound s target) (or_else (WrongTarget s content target) (or_else (Multiplicity s content source id name) (LinkFull new link))) (one_missing s target)
     (both (WrongTarget s content target) (or_else (Multiplicity s content source id name) (LinkFull new link)) (one_target s content target)
     (both (Multiplicity s content source id name) (LinkFull new link) (one_count s content source id name) (one_full new link))))
@@ -81,8 +81,8 @@ one_patched s source id os r q h k =
     let model : h.interface ≡ k.interface = same_Some h.interface k.interface (sym h.live ∙ k.live) in
     let same : h.link ≡ k.link = same_Some h.link k.link (sym h.at ∙ k.at) in
     let one : RefusesNewLink s k.interface k.link (patched_from 0 os (link_value k.link)) r =
-        subst (λ (i : Interface). RefusesNewLink s i k.link (patched_from 0 os (link_value k.link)) r) model
-        (subst (λ (l : Link). RefusesNewLink s h.interface l (patched_from 0 os (link_value l)) r) same h.refuses) in
+    subst (λ (i : Interface). RefusesNewLink s i k.link (patched_from 0 os (link_value k.link)) r) model
+    (subst (λ (l : Link). RefusesNewLink s h.interface l (patched_from 0 os (link_value l)) r) same h.refuses) in
     one_new_link s k.interface k.link (patched_from 0 os (link_value k.link)) r q one k.refuses
 
 pub one_patch_rel : (s : State) (source id : List ℕ) (os : List Operation) → One (RefusesPatchRel s source id os)

@@ -1,12 +1,11 @@
 -- A sound ask has at most one answer, and asks that are one have one.
-use Rattle.std.proofs.Common.{◌≡◌, inl, inr, refl, ◌∙◌}
+use Rattle.std.proofs.Common.{◌≡◌, inl, inr, refl}
 use Rattle.json_tree.specs.View.{view}
 use Rattle.twin_patch.specs.Operations.{operations_of}
 use Rattle.graph_asks.specs.Answers.{Answer, body, created, canon, done, refused}
 use Rattle.graph_asks.specs.Asks.{AreOneAsk}
 use Rattle.graph_asks.specs.declared.ask.Ask.{Ask}
 use Rattle.graph_asks.specs.declared.ask.Ask.TheVariants as asks
-use Rattle.graph_asks.specs.declared.refusal.Refusal.{Refusal}
 use Rattle.graph_steps.specs.Soundness.{IsSound}
 use Rattle.graph_steps.specs.States.{State}
 use Rattle.graph_steps.specs.Steps.{Answers, changed, followed}

@@ -17,7 +17,7 @@ use Rattle.graph_asks.specs.declared.refusal.At.TheVariants as places
 use Rattle.graph_asks.specs.declared.refusal.Refusal.{Refusal}
 use Rattle.graph_asks.specs.declared.refusal.Refusal.TheVariants as refusals
 use Rattle.graph_steps.specs.Refusals.{or_else, when}
-use Rattle.graph_steps.specs.States.{State, Twin, Link, twin_at}
+use Rattle.graph_steps.specs.States.{State, Twin, twin_at}
 use Rattle.graph_steps.specs.TwinAsks.{BodyFault, DoesNotFit, Frozen, TwinNotFound}
 
 -- There is one such refusal at most.

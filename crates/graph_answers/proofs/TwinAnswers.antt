@@ -1,7 +1,6 @@
 -- An ask on twins has at most one answer.
-use Rattle.std.proofs.Common.{◌≡◌, ℕ, ◌<◌, inl, inr, List, length, Option, Some, None, Result, Ok, Err, refl, sym, ap, ◌∙◌, subst}
+use Rattle.std.proofs.Common.{◌≡◌, ℕ, ◌<◌, List, length, Option, Some, None, Result, Ok, Err, sym, ap, ◌∙◌, subst}
 use Rattle.std.specs.Prelude.{codes}
-use Rattle.std.specs.List.{find}
 use Rattle.std.proofs.lemmas.Option.{same_Some}
 use Rattle.dtmi_name.specs.Grammar.{Identifier, dtmi_text}
 use Rattle.json_tree.specs.Values.{Json}
@@ -16,7 +15,7 @@ use Rattle.graph_asks.specs.declared.refusal.Refusal.{Refusal}
 use Rattle.graph_asks.specs.declared.refusal.Refusal.TheVariants as refusals
 use Rattle.graph_steps.specs.Inherited.{inherited}
 use Rattle.graph_steps.specs.Refusals.{or_else, when}
-use Rattle.graph_steps.specs.States.{State, Twin, Link, set_of, interface_of, twin_at, is_end, twin_value, twin_text, part_value, graph_bytes, with_twin}
+use Rattle.graph_steps.specs.States.{State, Twin, Link, set_of, interface_of, twin_at, twin_value, twin_text, part_value, graph_bytes, with_twin}
 use Rattle.graph_steps.specs.TwinAsks.{TwinNotFound, Frozen, Decommissioned, BodyFault, DoesNotFit, TwinFull, TwinInUse, ComponentNotFound, component_at, twin_for, with_body, interface_in, part_role_in, with_part, RefusesBody, RefusesPutTwin, RefusesNewBody, RefusesPatched, RefusesPatchOf, RefusesPatchTwin, RefusesDropTwin, RefusesGetPart, RefusesNewPart, RefusesPartOf, RefusesPatchPart, GivesTwin, GivesPart}
 use Rattle.graph_answers.proofs.Refusals.{One, both, one_when, one_is, one_held, one_missing, one_frozen, one_fault, one_ill}
 
@@ -27,11 +26,11 @@ one_marked s id model r q h k = h.5 ∙ sym k.5
 pub one_full : (new : State) (t : Twin) → One (TwinFull new t)
 one_full new t =
     both (when (32768 < length (twin_text t)) (refusals.Full limits.TwinBytes))
-        (or_else (when (100000 < length new.twins) (refusals.Full limits.Twins)) (when (268435456 < graph_bytes new) (refusals.Full limits.GraphBytes)))
-        (one_when (32768 < length (twin_text t)) (refusals.Full limits.TwinBytes))
+    (or_else (when (100000 < length new.twins) (refusals.Full limits.Twins)) (when (268435456 < graph_bytes new) (refusals.Full limits.GraphBytes)))
+    (one_when (32768 < length (twin_text t)) (refusals.Full limits.TwinBytes))
     (both (when (100000 < length new.twins) (refusals.Full limits.Twins)) (when (268435456 < graph_bytes new) (refusals.Full limits.GraphBytes))
-        (one_when (100000 < length new.twins) (refusals.Full limits.Twins))
-        (one_when (268435456 < graph_bytes new) (refusals.Full limits.GraphBytes)))
+    (one_when (100000 < length new.twins) (refusals.Full limits.Twins))
+    (one_when (268435456 < graph_bytes new) (refusals.Full limits.GraphBytes)))
 
 one_body : (s : State) (id model : List ℕ) (v : Json) (o : Option Interface) → One (RefusesBody s id model v o)
 one_body s id model v None = one_is (refusals.ModelNotFound model)
@@ -105,9 +104,9 @@ one_part_of s id name os r q h k =
     let part : h.part ≡ k.part = same_Some h.part k.part (sym h.has ∙ ap (component_at name) same ∙ k.has) in
     let model : h.interface ≡ k.interface = same_Some h.interface k.interface (sym h.live ∙ ap (λ (z : Twin). interface_of s z.model) same ∙ k.live) in
     let one : RefusesNewPart s name k.interface k.twin (patched_from 0 os (part_value k.part)) r =
-        subst (λ (i : Interface). RefusesNewPart s name i k.twin (patched_from 0 os (part_value k.part)) r) model
-        (subst (λ (z : Twin). RefusesNewPart s name h.interface z (patched_from 0 os (part_value k.part)) r) same
-        (subst (λ (v : Json). RefusesNewPart s name h.interface h.twin (patched_from 0 os (part_value v)) r) part h.refuses)) in
+    subst (λ (i : Interface). RefusesNewPart s name i k.twin (patched_from 0 os (part_value k.part)) r) model
+    (subst (λ (z : Twin). RefusesNewPart s name h.interface z (patched_from 0 os (part_value k.part)) r) same
+    (subst (λ (v : Json). RefusesNewPart s name h.interface h.twin (patched_from 0 os (part_value v)) r) part h.refuses)) in
     one_new_part s name k.interface k.twin (patched_from 0 os (part_value k.part)) r q one k.refuses
 
 pub one_patch_part : (s : State) (id name : List ℕ) (os : List Operation) → One (RefusesPatchPart s id name os)

@@ -1,5 +1,5 @@
 -- Of the paths of relationships one thing is asked.
-use Rattle.std.proofs.Common.{◌≡◌, ℕ, List, [], ◌∷◌, Option, Some, None, refl, sym, ap, ap₂, ◌∙◌, inl, inr}
+use Rattle.std.proofs.Common.{◌≡◌, ℕ, List, [], ◌∷◌, Option, Some, None, refl, sym, ap, ap₂, ◌∙◌}
 use Rattle.json_tree.specs.Values.{Json}
 use Rattle.twin_patch.specs.declared.entry.PatchOf.TheVariants as patches
 use Rattle.twin_patch.specs.declared.patch.Patch.{Patch}
@@ -14,7 +14,7 @@ use Rattle.graph_routes.specs.TwinRequests.{WithId}
 use Rattle.graph_routes.specs.LinkRequests.{AsksIncoming, AsksLink, AsksLinks, PatchesLink, PutsLink, TakesLink}
 use Rattle.graph_routes.specs.declared.method.Method.{Method}
 use Rattle.graph_routes.specs.declared.method.Method.TheVariants as method
-use Rattle.graph_routes.specs.declared.prepared.Prepared.TheVariants.{Ask, Own}
+use Rattle.graph_routes.specs.declared.prepared.Prepared.TheVariants.{Ask}
 use Rattle.graph_routes.proofs.OneOutcome.{IsOne, Laws, alike, one_named, one_with_body, one_with_patch, one_with_value}
 use Rattle.graph_routes.proofs.OneModels.{not_built}
 use Rattle.graph_routes.proofs.OneTwins.{one_id_named, one_with_id}

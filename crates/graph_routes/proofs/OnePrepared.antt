@@ -3,7 +3,6 @@ use Rattle.std.proofs.Common.{◌≡◌, ℕ, List, refl, sym, ap, subst, ◌∙
 use Rattle.std.specs.Prelude.{codes, bytes_eq, cond}
 use Rattle.http_ends.specs.declared.request.Request.{Request}
 use Rattle.graph_asks.specs.declared.refusal.Refusal.TheVariants as refusals
-use Rattle.graph_routes.specs.Paths.{Matches}
 use Rattle.graph_routes.specs.Methods.{allow_text, method_text}
 use Rattle.graph_routes.specs.Parts.{part_at}
 use Rattle.graph_routes.specs.ModelRequests.{AsksModel}

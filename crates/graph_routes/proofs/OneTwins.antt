@@ -1,9 +1,8 @@
 -- Of the paths of twins and components one thing is asked.
-use Rattle.std.proofs.Common.{◌≡◌, ℕ, List, Some, refl, sym, ap, subst, ◌∙◌, inl, inr}
+use Rattle.std.proofs.Common.{◌≡◌, ℕ, List, Some, refl, sym, ◌∙◌}
 use Rattle.dtmi_name.specs.Grammar.{Identifier, dtmi_text}
 use Rattle.dtmi_name.proofs.Cuts.{HasDtmiForm-unique}
 use Rattle.json_tree.specs.Values.{Json}
-use Rattle.json_tree.specs.View.{view}
 use Rattle.twin_patch.specs.declared.entry.PatchOf.TheVariants as patches
 use Rattle.twin_patch.specs.declared.patch.Patch.{Patch}
 use Rattle.twin_value.specs.Breaches.{IsOuterBreach}
@@ -18,7 +17,7 @@ use Rattle.graph_routes.specs.TwinRequests.{AsksPart, AsksTwin, PatchesPart, Pat
 use Rattle.graph_routes.specs.declared.method.Method.{Method}
 use Rattle.graph_routes.specs.declared.method.Method.TheVariants as method
 use Rattle.graph_routes.specs.declared.prepared.Prepared.{Prepared}
-use Rattle.graph_routes.specs.declared.prepared.Prepared.TheVariants.{Ask, Own}
+use Rattle.graph_routes.specs.declared.prepared.Prepared.TheVariants.{Ask}
 use Rattle.graph_routes.proofs.OneOutcome.{IsOne, Laws, alike, one_named, one_with_body, one_with_patch, one_with_value}
 use Rattle.graph_routes.proofs.OneModels.{not_built}
 

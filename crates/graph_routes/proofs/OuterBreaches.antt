@@ -1,12 +1,12 @@
 -- Breaches that show without a model: where they stand, and what a body without them tells.
-use Rattle.std.proofs.Common.{◌≡◌, ℕ, suc, ◌<◌, ◌≤◌, ◌⊎◌, inl, inr, List, [], ◌∷◌, length, Bool, true, false, codes, bytes_eq, Option, Some, None, refl, sym, ap, subst, ◌∙◌, lit≤, arith}
+use Rattle.std.proofs.Common.{◌≡◌, ℕ, suc, ◌≤◌, inl, inr, List, [], ◌∷◌, length, Bool, true, false, codes, bytes_eq, Option, Some, None, refl, sym, ap, subst, ◌∙◌, lit≤, arith}
 use Rattle.std.specs.Prelude.{IsTrue, if◌then◌else◌}
 use Rattle.std.specs.Option.{IsSomeAnd, option_and_then}
 use Rattle.std.proofs.lemmas.Slice.Eq.{bytes_eq-Decides}
 use Rattle.json_decimal.specs.Number.{Number}
 use Rattle.json_tree.specs.Values.{Json, null, truth, number, text, array, object, Members, no_members, member}
 use Rattle.json_tree.specs.Places.{IsPart, member_at}
-use Rattle.local_rules.specs.Members.{text_in, value_at, value_in, members_in}
+use Rattle.local_rules.specs.Members.{text_in, value_at, value_in}
 use Rattle.dtmi_name.specs.Grammar.{Identifier, NameText, OwnDtmiText, dtmi_text}
 use Rattle.dtdl_terms.specs.Terms.{no_contents}
 use Rattle.twin_value.specs.Codes.{code_number}

@@ -3,7 +3,6 @@ use Rattle.std.proofs.Common.{◌≡◌, ℕ, List, [], ◌∷◌, Option, Some,
 use Rattle.std.specs.Prelude.{IfSome, codes}
 use Rattle.std.specs.List.{AllByRecursion}
 use Rattle.json_tree.specs.Values.{Json}
-use Rattle.json_tree.specs.Grammar.{Spells}
 use Rattle.local_rules.specs.Members.{members_in}
 use Rattle.twin_patch.specs.declared.entry.PatchOf.TheVariants as patches
 use Rattle.twin_patch.specs.declared.patch.Patch.{Patch}
@@ -38,13 +37,16 @@ right_component part Gives p right h = right_named (NamesComponent part) (refusa
 -- ---- twins
 right_taken : (id : List ℕ) (v : Json) (p : Prepared) → IsTwinId id → IsReadValue v → PutsTwin id v p → IsRight p
 right_taken id v p is read h = right_value (IsOuterBreach v) (twin_ids id) v (TakesTwin id v) p (λ none same (model, body, own, named, seen, e).
-    right_by p (Ask (asks.PutTwin id model body)) e
-    (is, own, subst (IsTwinBody id model) (sym seen) (record {
-      read = read;
-      unbroken = none;
-      names = named;
-      agrees = agrees id (twin_ids id) (codes "$dtId") refl (members_in v) same;
-    }))) h
+    right_by p (Ask (asks.PutTwin id model body)) e (
+      is,
+      own,
+      subst (IsTwinBody id model) (sym seen) (record {
+        read = read;
+        unbroken = none;
+        names = named;
+        agrees = agrees id (twin_ids id) (codes "$dtId") refl (members_in v) same;
+      }),
+    )) h
 
 pub right_twin : (m : Method) (part body : List ℕ) (p : Prepared) → AsksTwin m part body p → IsRight p
 right_twin method.Get part body p h = right_id 0 part (λ id given. given ≡ Ask (asks.GetTwin id)) p (λ id is e. right_by p (Ask (asks.GetTwin id)) e is) h
@@ -69,15 +71,20 @@ right_part method.Put part second body p e = right_not_built p e
 -- ---- relationships
 right_led : (source id : List ℕ) (v : Json) (p : Prepared) → IsTwinId source → IsTwinId id → IsReadValue v → PutsLink source id v p → IsRight p
 right_led source id v p from is read h = right_value (IsOuterLinkBreach v) (link_ids source id) v (TakesLink source id v) p (λ none same (name, target, body, own, to, named, leads, seen, e).
-    right_by p (Ask (asks.PutRel source id name target body)) e
-    (from, is, own, to, subst (IsLinkBody source id name target) (sym seen) (record {
-      read = read;
-      unbroken = none;
-      named = named;
-      leads = leads;
-      agrees = agrees id (link_ids source id) (codes "$relationshipId") refl (members_in v) same;
-      begins = agrees source (link_ids source id) (codes "$sourceId") refl (members_in v) same;
-    }))) h
+    right_by p (Ask (asks.PutRel source id name target body)) e (
+      from,
+      is,
+      own,
+      to,
+      subst (IsLinkBody source id name target) (sym seen) (record {
+        read = read;
+        unbroken = none;
+        named = named;
+        leads = leads;
+        agrees = agrees id (link_ids source id) (codes "$relationshipId") refl (members_in v) same;
+        begins = agrees source (link_ids source id) (codes "$sourceId") refl (members_in v) same;
+      }),
+    )) h
 
 pub right_link : (m : Method) (part second body : List ℕ) (p : Prepared) → AsksLink m part second body p → IsRight p
 right_link method.Get part second body p h = right_id 0 part (λ source. WithId 1 second (λ id given. given ≡ Ask (asks.GetRel source id))) p

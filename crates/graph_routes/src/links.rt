@@ -84,12 +84,7 @@ fn puts_link(alloc: Global, source: Text, id: Text, body: &[u8]) -> Result<Prepa
 }
 
 /// What a body of a patch of a relationship comes to.
-fn patches_link(
-    alloc: Global,
-    source: Text,
-    id: Text,
-    body: &[u8],
-) -> Result<Prepared, OutOfMemory>
+fn patches_link(alloc: Global, source: Text, id: Text, body: &[u8]) -> Result<Prepared, OutOfMemory>
     ensures { IfOk result (WithBody body.now (PatchesLink source id)) }
 {
     match patch_in(alloc, body, PatchOf::Rel)? {
@@ -110,12 +105,7 @@ fn get_link(alloc: Global, part: &str, second: &str) -> Result<Prepared, OutOfMe
     }
 }
 
-fn put_link(
-    alloc: Global,
-    part: &str,
-    second: &str,
-    body: &[u8],
-) -> Result<Prepared, OutOfMemory>
+fn put_link(alloc: Global, part: &str, second: &str, body: &[u8]) -> Result<Prepared, OutOfMemory>
     ensures { IfOk result (AsksLink Method.Put part.now second.now body.now) }
 {
     let Some(source) = id_named(alloc, part)? else {
@@ -127,12 +117,7 @@ fn put_link(
     }
 }
 
-fn patch_link(
-    alloc: Global,
-    part: &str,
-    second: &str,
-    body: &[u8],
-) -> Result<Prepared, OutOfMemory>
+fn patch_link(alloc: Global, part: &str, second: &str, body: &[u8]) -> Result<Prepared, OutOfMemory>
     ensures { IfOk result (AsksLink Method.Patch part.now second.now body.now) }
 {
     let Some(source) = id_named(alloc, part)? else {

@@ -16,11 +16,7 @@ use std::alloc::Global;
 use twin_patch::{Patch, PatchEnd, PatchOf, read_patch};
 
 /// The patch that a value is, or the refusal of one that is none.
-fn patch_of(
-    alloc: Global,
-    tree: &Tree,
-    of: PatchOf,
-) -> Result<Result<Patch, Refusal>, OutOfMemory>
+fn patch_of(alloc: Global, tree: &Tree, of: PatchOf) -> Result<Result<Patch, Refusal>, OutOfMemory>
     ensures { IfOk result (λ found. MatchResult found (λ patch. IsPatch of (view tree.now) (operations_of patch.ops)) (RefusesPatch of (view tree.now))) }
 {
     match read_patch(alloc, tree, of) {

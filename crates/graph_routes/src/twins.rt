@@ -137,12 +137,7 @@ pub fn asked_of_twin(
 }
 
 /// What a body of a patch of a component comes to.
-fn patches_part(
-    alloc: Global,
-    id: Text,
-    name: Text,
-    body: &[u8],
-) -> Result<Prepared, OutOfMemory>
+fn patches_part(alloc: Global, id: Text, name: Text, body: &[u8]) -> Result<Prepared, OutOfMemory>
     ensures { IfOk result (WithBody body.now (PatchesPart id name)) }
 {
     match patch_in(alloc, body, PatchOf::Part)? {
@@ -163,12 +158,7 @@ fn get_part(alloc: Global, part: &str, second: &str) -> Result<Prepared, OutOfMe
     }
 }
 
-fn patch_part(
-    alloc: Global,
-    part: &str,
-    second: &str,
-    body: &[u8],
-) -> Result<Prepared, OutOfMemory>
+fn patch_part(alloc: Global, part: &str, second: &str, body: &[u8]) -> Result<Prepared, OutOfMemory>
     ensures { IfOk result (AsksPart Method.Patch part.now second.now body.now) }
 {
     let Some(id) = id_named(alloc, part)? else {

@@ -17,7 +17,7 @@ use Rattle.graph_asks.specs.declared.reply.Reply.{Reply}
 use Rattle.graph_asks.specs.declared.reply.Reply.TheVariants as replies
 use Rattle.graph_steps.specs.States.{State, Twin, Link, interface_of, twin_value, part_value, link_value, with_twin}
 use Rattle.graph_steps.specs.ModelAsks.{RefusesPutModels, RefusesDropModel}
-use Rattle.graph_steps.specs.TwinAsks.{TwinNotFound, Frozen, BodyFault, TwinFull, RefusesBody, RefusesPutTwin, RefusesPatched, RefusesPatchTwin, RefusesDropTwin, RefusesGetPart, RefusesNewPart, RefusesPatchPart, interface_in, twin_for, with_body, with_part}
+use Rattle.graph_steps.specs.TwinAsks.{Frozen, BodyFault, TwinFull, RefusesBody, RefusesPutTwin, RefusesPatched, RefusesPatchTwin, RefusesDropTwin, RefusesGetPart, RefusesNewPart, RefusesPatchPart, interface_in, twin_for, with_body, with_part}
 use Rattle.graph_steps.specs.LinkAsks.{Multiplicity, WrongTarget, LinkFull, RefusesLink, RefusesPutRel, LinkNotFound, RefusesNewLink, RefusesPatchRel, link_for, with_link, with_payload}
 use Rattle.graph_steps.specs.Steps.{Allows, Gives, Refuses}
 use Rattle.graph_routes.specs.Responses.{AnswersMethods, ListsMethods}

@@ -1,5 +1,5 @@
 -- There is one replay of a stream.
-use Rattle.std.proofs.Common.{◌≡◌, ℕ, List, [], Option, refl, sym, ap, subst, ◌∙◌}
+use Rattle.std.proofs.Common.{◌≡◌, ℕ, List, [], Option, refl, sym, ap, ◌∙◌}
 use Rattle.json_tree.specs.Printing.{printed}
 use Rattle.http_ends.specs.declared.request.Request.{Request}
 use Rattle.http_ends.specs.declared.response.Response.{Response}

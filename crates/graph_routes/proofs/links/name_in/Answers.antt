@@ -13,7 +13,7 @@ pub unreachable-requires : goal.unreachable-requires
 unreachable-requires c =
     let v = view c.args.tree.now in
     let told : option_map (λ t. t.now) c.text_at.result ≡ text_under (codes "$relationshipName") v =
-        c.text_at.ensures ∙ ap (λ (ms : Members Number). option_and_then text_in (value_at (codes "$relationshipName") ms)) c.members_in.ensures in
+    c.text_at.ensures ∙ ap (λ (ms : Members Number). option_and_then text_in (value_at (codes "$relationshipName") ms)) c.members_in.ensures in
     elim c.in_default.branch [
       | in_default-via-in-Some+else-is_name w ↦ bad_name v w.in-Some.name.now c.requires (sym told ∙ ap (λ (o : Option (Bor (List ℕ))). option_map (λ t. t.now) o) w.in-Some.is)
           (λ h. true≢false (sym (w.is_name.ensures.1 h) ∙ w.if-is_name.false))

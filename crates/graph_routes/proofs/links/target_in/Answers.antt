@@ -13,7 +13,7 @@ pub unreachable-requires : goal.unreachable-requires
 unreachable-requires c =
     let v = view c.args.tree.now in
     let told : option_map (λ t. t.now) c.text_at.result ≡ text_under (codes "$targetId") v =
-        c.text_at.ensures ∙ ap (λ (ms : Members Number). option_and_then text_in (value_at (codes "$targetId") ms)) c.members_in.ensures in
+    c.text_at.ensures ∙ ap (λ (ms : Members Number). option_and_then text_in (value_at (codes "$targetId") ms)) c.members_in.ensures in
     elim c.in_default.branch [
       | in_default-via-in-Some+else-is_twin_id w ↦ bad_target v w.in-Some.target.now c.requires (sym told ∙ ap (λ (o : Option (Bor (List ℕ))). option_map (λ t. t.now) o) w.in-Some.is)
           (λ h. true≢false (sym (w.is_twin_id.ensures.1 h) ∙ w.if-is_twin_id.false))

@@ -2,7 +2,7 @@ use Rattle.std.proofs.Common.{◌≡◌, ℕ, ◌≤◌, List, length, Option, S
 use Rattle.std.specs.Option.{option_map, option_and_then}
 use Rattle.dtmi_name.specs.Grammar.{Identifier, OwnDtmiText}
 use Rattle.json_decimal.specs.Number.{Number}
-use Rattle.json_tree.specs.Values.{Json, Members}
+use Rattle.json_tree.specs.Values.{Members}
 use Rattle.json_tree.specs.View.{view}
 use Rattle.json_tree.specs.declared.tree.Tree.{Tree}
 use Rattle.local_rules.specs.Members.{text_in, value_at, value_in}
@@ -19,7 +19,7 @@ unreachable-requires-in_default-text_at c =
     let m = view c.in-Some.metadata.now in
     let meta : value_in (codes "$metadata") v ≡ Some m = sym c.value_in.ensures ∙ ap (λ (o : Option (Bor Tree)). option_map (λ t. view t.now) o) c.in-Some.is in
     let told : option_map (λ t. t.now) c.text_at.result ≡ text_under (codes "$model") m =
-        c.text_at.ensures ∙ ap (λ (ms : Members Number). option_and_then text_in (value_at (codes "$model") ms)) c.members_in.ensures in
+    c.text_at.ensures ∙ ap (λ (ms : Members Number). option_and_then text_in (value_at (codes "$model") ms)) c.members_in.ensures in
     no_model v m c.requires meta (sym told ∙ ap (λ (o : Option (Bor (List ℕ))). option_map (λ t. t.now) o) c.in_default-text_at.is)
 
 pub unreachable-requires-in-None : goal.unreachable-requires-in-None
@@ -29,6 +29,6 @@ unreachable-requires-in-None c =
     let t = c.in-Some-text_at.text.now in
     let meta : value_in (codes "$metadata") v ≡ Some m = sym c.value_in.ensures ∙ ap (λ (o : Option (Bor Tree)). option_map (λ t. view t.now) o) c.in-Some.is in
     let told : option_map (λ t. t.now) c.text_at.result ≡ text_under (codes "$model") m =
-        c.text_at.ensures ∙ ap (λ (ms : Members Number). option_and_then text_in (value_at (codes "$model") ms)) c.members_in.ensures in
+    c.text_at.ensures ∙ ap (λ (ms : Members Number). option_and_then text_in (value_at (codes "$model") ms)) c.members_in.ensures in
     let none : (id : Identifier) → OwnDtmiText t id → length t ≤ 128 → ⊥ = rw c.in-None.is at c.in_ok-id.ensures in
     bad_model v m t c.requires meta (sym told ∙ ap (λ (o : Option (Bor (List ℕ))). option_map (λ t. t.now) o) c.in-Some-text_at.is) none
