@@ -1,5 +1,5 @@
 -- What is refused for one reason or else for another.
-use Rattle.std.proofs.Common.{◌≡◌, inl, inr, Result, Ok, Err}
+use Rattle.std.proofs.Common.{inl, inr, Result, Ok, Err}
 use Rattle.std.specs.Prelude.{MatchResult}
 use Rattle.graph_asks.specs.declared.refusal.Refusal.{Refusal}
 use Rattle.graph_bodies.specs.Bodies.{FailsBy}
@@ -12,17 +12,9 @@ pub fails_as : (First Second : Refusal → Type 0) → ((r : Refusal) → First 
 fails_as First Second weaker (failures.Refused r) h = weaker r h
 fails_as First Second weaker failures.OutOfMemory h = tt
 
-module _ (First Second : Refusal → Type 0) where
-  pub fails_first : (e : BodyFailure) → FailsBy First e → FailsBy (or_else First Second) e
-  fails_first e h = fails_as First (or_else First Second) (λ r k. inl k) e h
-
-  module _ (free : IsFree First) where
-    pub free_both : IsFree Second → IsFree (or_else First Second)
-    free_both second r (inl h) = free r h
-    free_both second r (inr h) = second r h.1
-
-    pub fails_second : (e : BodyFailure) → FailsBy Second e → FailsBy (or_else First Second) e
-    fails_second e h = fails_as Second (or_else First Second) (λ r k. inr (free, k)) e h
+pub free_both : (First Second : Refusal → Type 0) → IsFree First → IsFree Second → IsFree (or_else First Second)
+free_both First Second first second r (inl h) = first r h
+free_both First Second first second r (inr h) = second r h.1
 
 -- ---- results
 module _ {A : Type 0} (P Q : A → Type 0) (First Second : Refusal → Type 0) where

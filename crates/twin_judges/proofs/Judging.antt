@@ -1,6 +1,6 @@
 -- A twin that comes with a body, judged.
-use Rattle.std.proofs.Common.{◌≡◌, ℕ, List, Option, Some, None, inl, inr, Result, Ok, Err, refl, sym, ap, ◌∙◌, subst}
-use Rattle.std.specs.Prelude.{MatchResult, IfOk}
+use Rattle.std.proofs.Common.{◌≡◌, ℕ, List, Option, Some, inr, Result, sym, ap, ◌∙◌, subst}
+use Rattle.std.specs.Prelude.{MatchResult}
 use Rattle.dtmi_name.specs.Grammar.{Identifier, dtmi_text}
 use Rattle.dtdl_terms.specs.declared.interface.Interface.{Interface}
 use Rattle.json_tree.specs.Values.{Json}
@@ -9,17 +9,16 @@ use Rattle.twin_value.specs.Breaches.{HasNoBreach, IsTwinBreach}
 use Rattle.twin_value.specs.declared.code.BodyCode.{BodyCode}
 use Rattle.twin_value.specs.declared.twin.Twin as values
 use Rattle.graph_asks.specs.declared.refusal.Refusal.{Refusal}
-use Rattle.graph_asks.specs.declared.refusal.Refusal.TheVariants as refusals
 use Rattle.graph_bodies.specs.Bodies.{FailsBy}
 use Rattle.graph_bodies.specs.Kept.{twin_view}
 use Rattle.graph_bodies.specs.declared.failure.BodyFailure.{BodyFailure}
 use Rattle.graph_steps.specs.Inherited.{inherited}
 use Rattle.graph_steps.specs.Refusals.{or_else}
 use Rattle.graph_steps.specs.States.{State, Twin, set_of, interface_of, with_twin}
-use Rattle.graph_steps.specs.TwinAsks.{Frozen, Decommissioned, BodyFault, DoesNotFit, TwinFull, RefusesBody, RefusesPutTwin, twin_for, with_body}
+use Rattle.graph_steps.specs.TwinAsks.{Decommissioned, BodyFault, DoesNotFit, TwinFull, RefusesBody, twin_for, with_body}
 use Rattle.twin_judges.specs.Machinery.Judged.{IsFree}
 use Rattle.twin_judges.specs.declared.new_twin.NewTwin.{NewTwin}
-use Rattle.twin_judges.proofs.Judged.{fails_first, fails_second, free_both, judged_as}
+use Rattle.twin_judges.proofs.Judged.{free_both, judged_as}
 
 pub clear_free : (Broken : List ℕ → BodyCode → Type 0) (v : Json) → HasNoBreach Broken → IsFree (BodyFault Broken v)
 clear_free Broken v clear r (place, pointer, code, first, is, e) = clear place code first.breach
@@ -41,31 +40,20 @@ module _ (s : State) (id : List ℕ) (i : Interface) (v : Json) where
   abbrev pub IsJudgedOf : Result NewTwin BodyFailure → Type 0
   IsJudgedOf res = MatchResult res (λ (new : NewTwin). IsFree (RefusesBody s id (dtmi_text i.id) v (Some i)) × (twin_view new.twin ≡ twin_for s id i v)) (FailsBy (RefusesBody s id (dtmi_text i.id) v (Some i)))
 
-  pub body_marked : (e : BodyFailure) → FailsBy Marked e → FailsBy (RefusesBody s id (dtmi_text i.id) v (Some i)) e
-  body_marked e h = fails_first Marked (or_else Faulty (Unfit s made)) e h
+  module _ (free : IsFree Marked) (clear : HasNoBreach (IsTwinBreach (inherited (set_of s) i) v)) where
+    faultless : IsFree Faulty
+    faultless = clear_free (IsTwinBreach (inherited (set_of s) i) v) v clear
 
-  module _ (free : IsFree Marked) where
-    pub body_faulty : (e : BodyFailure) → FailsBy Faulty e → FailsBy (RefusesBody s id (dtmi_text i.id) v (Some i)) e
-    body_faulty e h = fails_second Marked (or_else Faulty (Unfit s made)) free e (fails_first Faulty (Unfit s made) e h)
-
-    module _ (clear : HasNoBreach (IsTwinBreach (inherited (set_of s) i) v)) where
-      faultless : IsFree Faulty
-      faultless = clear_free (IsTwinBreach (inherited (set_of s) i) v) v clear
-
-      pub body_judged : (twin : values.Twin) → twin_view twin ≡ twin_for s id i v → (res : Result NewTwin BodyFailure)
-          → MatchResult res (λ (new : NewTwin). IsFree (Unfit s (twin_view twin)) × (new.twin ≡ twin)) (FailsBy (Unfit s (twin_view twin))) → IsJudgedOf res
-      body_judged twin same res h =
-          judged_as (λ (new : NewTwin). IsFree (Unfit s (twin_view twin)) × (new.twin ≡ twin)) (λ (new : NewTwin). IsFree (RefusesBody s id (dtmi_text i.id) v (Some i)) × (twin_view new.twin ≡ twin_for s id i v))
-          (Unfit s (twin_view twin)) (RefusesBody s id (dtmi_text i.id) v (Some i))
-          (λ new k. (
-            free_both Marked (or_else Faulty (Unfit s made)) free (free_both Faulty (Unfit s made) faultless (subst (λ (t : Twin). IsFree (Unfit s t)) same k.0)),
-            ap (λ (t : values.Twin). twin_view t) k.1 ∙ same,
-          ))
-          (λ r k. inr (free, inr (faultless, subst (λ (t : Twin). Unfit s t r) same k))) res h
-
-  pub its_id : (res : Result NewTwin BodyFailure) → IsJudgedOf res → IfOk res (λ (new : NewTwin). new.twin.id ≡ id)
-  its_id (Ok new) h = ap (λ (t : Twin). t.id) h.1
-  its_id (Err e) h = tt
+    pub body_judged : (twin : values.Twin) → twin_view twin ≡ twin_for s id i v → (res : Result NewTwin BodyFailure)
+        → MatchResult res (λ (new : NewTwin). IsFree (Unfit s (twin_view twin)) × (new.twin ≡ twin)) (FailsBy (Unfit s (twin_view twin))) → IsJudgedOf res
+    body_judged twin same res h =
+        judged_as (λ (new : NewTwin). IsFree (Unfit s (twin_view twin)) × (new.twin ≡ twin)) (λ (new : NewTwin). IsFree (RefusesBody s id (dtmi_text i.id) v (Some i)) × (twin_view new.twin ≡ twin_for s id i v))
+        (Unfit s (twin_view twin)) (RefusesBody s id (dtmi_text i.id) v (Some i))
+        (λ new k. (
+          free_both Marked (or_else Faulty (Unfit s made)) free (free_both Faulty (Unfit s made) faultless (subst (λ (t : Twin). IsFree (Unfit s t)) same k.0)),
+          ap (λ (t : values.Twin). twin_view t) k.1 ∙ same,
+        ))
+        (λ r k. inr (free, inr (faultless, subst (λ (t : Twin). Unfit s t r) same k))) res h
 
 -- ---- by the model that the body names
 pub own_place : (s : State) (model : Identifier) (i : Interface) → interface_of s model ≡ Some i → interface_of s i.id ≡ Some i
@@ -74,9 +62,6 @@ own_place s model i live = in_found (λ (j : Interface). j.id) dtmi_text (dtmi_t
 module _ (s : State) (id : List ℕ) (model : Identifier) (v : Json) where
   abbrev pub IsJudgedBody : Option Interface → Result NewTwin BodyFailure → Type 0
   IsJudgedBody o res = MatchResult res (λ (new : NewTwin). IsFree (RefusesBody s id (dtmi_text model) v o) × (with_twin (twin_view new.twin) s ≡ with_body s id o v)) (FailsBy (RefusesBody s id (dtmi_text model) v o))
-
-  pub no_model : interface_of s model ≡ None → RefusesBody s id (dtmi_text model) v (interface_of s model) (refusals.ModelNotFound (dtmi_text model))
-  no_model none = subst (λ (o : Option Interface). RefusesBody s id (dtmi_text model) v o (refusals.ModelNotFound (dtmi_text model))) (sym none) refl
 
   module _ (i : Interface) (live : interface_of s model ≡ Some i) where
     pub at_model : (res : Result NewTwin BodyFailure) → IsJudgedOf s id i v res → IsJudgedBody (interface_of s model) res

@@ -1,28 +1,25 @@
 -- A twin of which one component that it has gets other values.
-use Rattle.std.proofs.Common.{◌≡◌, ℕ, zero, suc, ◌+◌, ◌<◌, slice_index_or, arith, List, [], ◌∷◌, Bool, true, false, cond, codes, bytes_eq, Option, Some, None, IsSome, Result, Ok, Err, refl, sym, ap, ◌∙◌, subst, Ordering, Less, Equal, Greater, true≢false}
+use Rattle.std.proofs.Common.{◌≡◌, ℕ, zero, suc, ◌<◌, slice_index_or, arith, List, [], ◌∷◌, Bool, true, false, cond, codes, bytes_eq, Some, IsSome, refl, sym, ◌∙◌, subst, Ordering, Less, Equal, Greater, true≢false}
 use Rattle.std.specs.Prelude.{All}
 use Rattle.std.specs.Ordering.{match_ordering}
-use Rattle.std.specs.Option.{option_map}
-use Rattle.std.proofs.lemmas.Option.{none-some}
 use Rattle.std.proofs.lemmas.Slice.Eq.{bytes_eq-Decides}
 use Rattle.json_decimal.specs.Number.{Number}
-use Rattle.json_tree.specs.Values.{Json, null, truth, number, text, array, object, Members, no_members, member, LacksKey, HasDistinctKeys, MembersHaveDistinctKeys}
+use Rattle.json_tree.specs.Values.{Json, object, Members, no_members, member, LacksKey, HasDistinctKeys, MembersHaveDistinctKeys}
 use Rattle.json_tree.specs.View.{view}
 use Rattle.json_tree.specs.declared.tree.Tree.{Tree}
 use Rattle.local_rules.specs.Members.{members_in, value_at}
-use Rattle.twin_patch.specs.Objects.{value_under, with_member, sorted_value}
-use Rattle.twin_patch.specs.Operations.{Operation, replace, change_of, BringsDistinctKeys}
-use Rattle.twin_patch.specs.Patched.{go_on, patched_from, patched}
+use Rattle.twin_patch.specs.Objects.{with_member, sorted_value}
+use Rattle.twin_patch.specs.Operations.{change_of, BringsDistinctKeys}
 use Rattle.twin_patch.specs.declared.patch.Op.{Op}
 use Rattle.twin_patch.specs.declared.patch.OpKind.TheVariants as kinds
 use Rattle.twin_patch.specs.declared.patch.Patch.{Patch}
-use Rattle.twin_patch.specs.Machinery.Orders.{compared, IsInOrder, AreInOrder}
+use Rattle.twin_patch.specs.Machinery.Orders.{compared, AreInOrder}
 use Rattle.twin_patch.proofs.Ordered.{with_order}
 use Rattle.twin_value.specs.Twins.{picked, joined, any_key, with_metadata, without_metadata}
 use Rattle.graph_steps.specs.States.{Twin}
 use Rattle.graph_steps.specs.Typed.{AllKeys}
 use Rattle.graph_steps.specs.TwinAsks.{component_at, with_part}
-use Rattle.graph_bodies.specs.Kept.{IsSorted, IsKeptTwin, IsKeptPart}
+use Rattle.graph_bodies.specs.Kept.{IsKeptTwin, IsKeptPart}
 use Rattle.graph_bodies.proofs.Keys.{AllValues, order_sorted, sorted_in_order, members_in_order, members_distinct, keys_weaker, lacks_joined, lacks_picked, distinct_joined, distinct_picked, distinct_right, distinct_values}
 
 -- ---- what is patched

@@ -7,7 +7,6 @@ use Rattle.dtdl_terms.specs.Sets.{InOrder as InterfacesInOrder}
 use Rattle.dtdl_terms.specs.declared.interface.Interface.{Interface}
 use Rattle.model_life.specs.Models.{Model, interfaces_of, model_at}
 use Rattle.model_resolve.proofs.ByKey.{at, at-spelling, contained, in_contained}
-use Rattle.graph_asks.specs.declared.refusal.Refusal.{Refusal}
 use Rattle.graph_asks.specs.declared.refusal.Refusal.TheVariants as refusals
 use Rattle.graph_steps.specs.States.{State, twin_at}
 use Rattle.graph_steps.specs.TwinAsks.{Decommissioned}

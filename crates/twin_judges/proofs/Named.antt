@@ -3,7 +3,7 @@ use Rattle.std.proofs.Common.{◌≡◌, ℕ, ◌≤◌, List, [], ◌∷◌, Bo
 use Rattle.std.specs.Prelude.{IsTrue}
 use Rattle.std.specs.Option.{IsSomeAnd, option_and_then}
 use Rattle.std.specs.List.{find}
-use Rattle.dtmi_name.specs.Grammar.{Identifier, OwnDtmiText, dtmi_text}
+use Rattle.dtmi_name.specs.Grammar.{Identifier, dtmi_text}
 use Rattle.json_tree.specs.Values.{Json, null, truth, number, text, array, object}
 use Rattle.local_rules.specs.Members.{text_in, value_in}
 use Rattle.dtdl_terms.specs.Sets.{interface_at}
@@ -49,16 +49,28 @@ text_known key v w t e f = ap (λ (o : Option Json). option_and_then text_in o) 
 is_id : (w : Json) (t : List ℕ) → NoOuter model_id w → text_in w ≡ Some t → (IsModelId t → ⊥) → ⊥
 is_id w t h e no_id = h [] code.BadId (subst (λ (o : Option (List ℕ)). IsSomeAnd o (λ bytes. IsModelId bytes → ⊥)) (sym e) no_id) (lit≤ tt)
 
+metadata_of : (v : Json) → NoOuter (twin_body no_library []) v → (m : Json) × (value_in (codes "$metadata") v ≡ Some m) × NoOuter twin_metadata m
+metadata_of v h =
+    let m = has_at (is_object v) (value_in (codes "$metadata") v) (λ e. h [] code.WrongKind e (lit≤ tt)) (λ e. h [] code.MissingKey e (lit≤ tt)) in
+    (m.0, m.1, under (twin_body no_library []) v (codes "$metadata") m.0 h m.1)
+
+value_of : (m : Json) → NoOuter twin_metadata m → (w : Json) × (value_in (codes "$model") m ≡ Some w) × NoOuter model_id w
+value_of m h =
+    let w = has_at (is_object m) (value_in (codes "$model") m) (λ e. h [] code.WrongKind e (lit≤ tt)) (λ e. h [] code.MissingKey e (lit≤ tt)) in
+    (w.0, w.1, under twin_metadata m (codes "$model") w.0 h w.1)
+
+text_of : (m : Json) → NoOuter twin_metadata m → (t : List ℕ) × (text_under (codes "$model") m ≡ Some t) × ((IsModelId t → ⊥) → ⊥)
+text_of m h =
+    let w = value_of m h in
+    let t = some_text (text_in w.0) (λ e. w.2 [] code.WrongKind e (lit≤ tt)) in
+    (t.0, text_known (codes "$model") m w.0 t.0 w.1 t.1, is_id w.0 t.0 w.2 t.1)
+
 pub outer_model : (v : Json) → HasNoBreach (IsOuterBreach v) → IsSomeAnd (model_text v) (λ model. (IsModelId model → ⊥) → ⊥)
 outer_model v clear =
-    let h : NoOuter (twin_body no_library []) v = λ place broken b low. clear place broken (b, low) in
-    let m = has_at (is_object v) (value_in (codes "$metadata") v) (λ e. h [] code.WrongKind e (lit≤ tt)) (λ e. h [] code.MissingKey e (lit≤ tt)) in
-    let hm : NoOuter twin_metadata m.0 = under (twin_body no_library []) v (codes "$metadata") m.0 h m.1 in
-    let w = has_at (is_object m.0) (value_in (codes "$model") m.0) (λ e. hm [] code.WrongKind e (lit≤ tt)) (λ e. hm [] code.MissingKey e (lit≤ tt)) in
-    let hw : NoOuter model_id w.0 = under twin_metadata m.0 (codes "$model") w.0 hm w.1 in
-    let t = some_text (text_in w.0) (λ e. hw [] code.WrongKind e (lit≤ tt)) in
-    let known : model_text v ≡ Some t.0 = ap (λ (o : Option Json). option_and_then (text_under (codes "$model")) o) m.1 ∙ text_known (codes "$model") m.0 w.0 t.0 w.1 t.1 in
-    subst (λ (o : Option (List ℕ)). IsSomeAnd o (λ model. (IsModelId model → ⊥) → ⊥)) (sym known) (is_id w.0 t.0 hw t.1)
+    let m = metadata_of v (λ place broken b low. clear place broken (b, low)) in
+    let t = text_of m.0 m.2 in
+    let known : model_text v ≡ Some t.0 = ap (λ (o : Option Json). option_and_then (text_under (codes "$model")) o) m.1 ∙ t.1 in
+    subst (λ (o : Option (List ℕ)). IsSomeAnd o (λ model. (IsModelId model → ⊥) → ⊥)) (sym known) t.2
 
 pub some_and : {X : Type 0} (o : Option X) (P : X → Type 0) → IsSomeAnd o P → IsSome o
 some_and (Some x) P h = refl

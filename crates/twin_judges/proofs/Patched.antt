@@ -1,7 +1,6 @@
 -- A twin or a component that is patched, judged.
-use Rattle.std.proofs.Common.{◌≡◌, ℕ, List, true, false, true≢false, codes, Option, Some, None, inl, inr, Result, Ok, Err, refl, sym, ap, ◌∙◌, subst}
-use Rattle.std.specs.Prelude.{MatchResult, IfOk}
-use Rattle.std.specs.Option.{is_some}
+use Rattle.std.proofs.Common.{◌≡◌, ℕ, List, Option, Some, inr, Result, Ok, refl, sym, ap, ◌∙◌, subst}
+use Rattle.std.specs.Prelude.{MatchResult}
 use Rattle.std.proofs.lemmas.Option.{none-some, same_Some}
 use Rattle.dtmi_name.specs.Grammar.{Identifier, dtmi_text}
 use Rattle.dtdl_terms.specs.declared.interface.Interface.{Interface}
@@ -12,17 +11,16 @@ use Rattle.twin_value.specs.Breaches.{HasNoBreach, IsBreach, IsOuterBreach}
 use Rattle.twin_value.specs.Twins.{model_text}
 use Rattle.twin_value.specs.declared.twin.Twin as values
 use Rattle.graph_asks.specs.declared.refusal.Refusal.{Refusal}
-use Rattle.graph_asks.specs.declared.refusal.Refusal.TheVariants as refusals
 use Rattle.graph_bodies.specs.Bodies.{FailsBy}
 use Rattle.graph_bodies.specs.Kept.{twin_view}
 use Rattle.graph_bodies.specs.declared.failure.BodyFailure.{BodyFailure}
 use Rattle.graph_laws.proofs.Twins.{twin_there}
 use Rattle.graph_steps.specs.Refusals.{or_else}
-use Rattle.graph_steps.specs.States.{State, Twin, interface_of, is_live, twin_at, twin_value, part_value, with_twin}
-use Rattle.graph_steps.specs.TwinAsks.{TwinNotFound, Frozen, BodyFault, PatchFault, TwinFull, ComponentNotFound, RefusesBody, RefusesNewBody, RefusesPatched, RefusesPatchOf, RefusesPatchTwin, RefusesNewPart, RefusesPartOf, RefusesPatchPart, interface_in, with_body, with_patched, after_patch_twin, component_at, part_role_in, with_part, with_new_part, after_patch_part}
+use Rattle.graph_steps.specs.States.{State, Twin, interface_of, twin_at, twin_value, with_twin}
+use Rattle.graph_steps.specs.TwinAsks.{TwinNotFound, Frozen, BodyFault, TwinFull, RefusesBody, RefusesNewBody, RefusesPatched, RefusesPatchOf, RefusesPatchTwin, RefusesNewPart, interface_in, with_body, with_patched, after_patch_twin, part_role_in, with_part, with_new_part}
 use Rattle.twin_judges.specs.Machinery.Judged.{IsFree}
 use Rattle.twin_judges.specs.declared.new_twin.NewTwin.{NewTwin}
-use Rattle.twin_judges.proofs.Judged.{fails_as, fails_first, fails_second, free_both, judged_as}
+use Rattle.twin_judges.proofs.Judged.{free_both, judged_as}
 use Rattle.twin_judges.proofs.Judging.{clear_free, IsJudgedBody}
 use Rattle.twin_judges.proofs.Named.{same_interface}
 
@@ -36,9 +34,6 @@ module _ (s : State) (id : List ℕ) (v : Json) where
 
   abbrev pub IsJudgedNew : Result NewTwin BodyFailure → Type 0
   IsJudgedNew res = MatchResult res (λ (new : NewTwin). IsFree (RefusesNewBody s id v) × (with_twin (twin_view new.twin) s ≡ with_body s id (interface_in s v) v)) (FailsBy (RefusesNewBody s id v))
-
-  pub new_outer : (r : Refusal) → BodyFault (IsOuterBreach v) v r → RefusesNewBody s id v r
-  new_outer r h = inl h
 
   pub new_judged : HasNoBreach (IsOuterBreach v) → (model : Identifier) → model_text v ≡ Some (dtmi_text model) → (res : Result NewTwin BodyFailure) → IsJudgedBody s id model v (interface_of s model) res → IsJudgedNew res
   new_judged clear model named res h =
@@ -59,10 +54,6 @@ abbrev pub IsJudgedPatched : State → List ℕ → Result Json ℕ → Result N
 IsJudgedPatched s id made res = MatchResult res (λ (new : NewTwin). IsFree (RefusesPatched s id made) × (with_twin (twin_view new.twin) s ≡ with_patched s id made)) (FailsBy (RefusesPatched s id made))
 
 module _ (s : State) (id : List ℕ) (os : List Operation) (before : Json) where
-  pub patched_fault : (e : BodyFailure) → FailsBy (PatchFault os before) e → FailsBy (RefusesPatched s id (patched_from 0 os before)) e
-  patched_fault e h =
-      fails_as (PatchFault os before) (RefusesPatched s id (patched_from 0 os before)) (λ r k. subst (λ (made : Result Json ℕ). RefusesPatched s id made r) (sym k.1) k.2) e h
-
   pub patched_judged : (v : Json) → patched_from 0 os before ≡ Ok v → (res : Result NewTwin BodyFailure) → IsJudgedNew s id v res → IsJudgedPatched s id (patched_from 0 os before) res
   patched_judged v made res h = subst (λ (m : Result Json ℕ). IsJudgedPatched s id m res) (sym made) h
 
@@ -72,18 +63,12 @@ there s id t found r h = none-some t (sym h.0 ∙ found)
 abbrev pub IsJudgedPatch : State → List ℕ → List Operation → Result NewTwin BodyFailure → Type 0
 IsJudgedPatch s id os res = MatchResult res (λ (new : NewTwin). IsFree (RefusesPatchTwin s id os) × (with_twin (twin_view new.twin) s ≡ after_patch_twin s id os)) (FailsBy (RefusesPatchTwin s id os))
 
-pub patch_missing : (s : State) (id : List ℕ) (os : List Operation) → twin_at id s ≡ None → RefusesPatchTwin s id os (refusals.TwinNotFound id)
-patch_missing s id os none = inl (none, refl)
-
 module _ (s : State) (id : List ℕ) (os : List Operation) (t : Twin) (found : twin_at id s ≡ Some t) where
   abbrev Edited : Refusal → Type 0
   Edited r = (u : Twin) × (twin_at id s ≡ Some u) × RefusesPatchOf s os u r
 
   abbrev made : Result Json ℕ
   made = patched_from 0 os (twin_value t)
-
-  pub patch_frozen : (e : BodyFailure) → FailsBy (Frozen s id) e → FailsBy (RefusesPatchTwin s id os) e
-  patch_frozen e h = fails_second (TwinNotFound s id) (or_else (Frozen s id) Edited) (there s id t found) e (fails_first (Frozen s id) Edited e h)
 
   same_after : after_patch_twin s id os ≡ with_patched s id (patched_from 0 os (twin_value t))
   same_after = rw found refl
@@ -114,9 +99,6 @@ module _ (s : State) (name : List ℕ) (i : Interface) (t : Twin) (v : Json) whe
   abbrev pub IsJudgedValues : Result NewTwin BodyFailure → Type 0
   IsJudgedValues res = MatchResult res (λ (new : NewTwin). IsFree (RefusesNewPart s name i t (Ok v)) × (twin_view new.twin ≡ with_part name v t)) (FailsBy (RefusesNewPart s name i t (Ok v)))
 
-  pub values_fault : (e : BodyFailure) → FailsBy (BodyFault (IsBreach (part_role_in s i name) v) v) e → FailsBy (RefusesNewPart s name i t (Ok v)) e
-  values_fault e h = fails_first Broken (Full (with_part name v t)) e h
-
   pub values_judged : HasNoBreach (IsBreach (part_role_in s i name) v) → (x : values.Twin) → twin_view x ≡ with_part name v t → (res : Result NewTwin BodyFailure)
       → MatchResult res (λ (new : NewTwin). IsFree (TwinFull (with_twin (twin_view x) s) (twin_view x)) × (new.twin ≡ x)) (FailsBy (TwinFull (with_twin (twin_view x) s) (twin_view x))) → IsJudgedValues res
   values_judged clear x same res h =
@@ -129,10 +111,6 @@ abbrev pub IsJudgedPart : State → List ℕ → Interface → Twin → Result J
 IsJudgedPart s name i t made res = MatchResult res (λ (new : NewTwin). IsFree (RefusesNewPart s name i t made) × (with_twin (twin_view new.twin) s ≡ with_new_part s name t made)) (FailsBy (RefusesNewPart s name i t made))
 
 module _ (s : State) (name : List ℕ) (i : Interface) (t : Twin) (os : List Operation) (before : Json) where
-  pub part_fault : (e : BodyFailure) → FailsBy (PatchFault os before) e → FailsBy (RefusesNewPart s name i t (patched_from 0 os before)) e
-  part_fault e h =
-      fails_as (PatchFault os before) (RefusesNewPart s name i t (patched_from 0 os before)) (λ r k. subst (λ (made : Result Json ℕ). RefusesNewPart s name i t made r) (sym k.1) k.2) e h
-
   pub part_judged : (v : Json) → patched_from 0 os before ≡ Ok v → (res : Result NewTwin BodyFailure) → IsJudgedValues s name i t v res → IsJudgedPart s name i t (patched_from 0 os before) res
   part_judged v made res h =
       subst (λ (m : Result Json ℕ). IsJudgedPart s name i t m res) (sym made)

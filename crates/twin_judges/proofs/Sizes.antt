@@ -1,6 +1,5 @@
 -- How many twins there are with one that comes, and how many bytes their texts have.
-use Rattle.std.proofs.Common.{◌≡◌, ℕ, ◌+◌, ◌-◌, ◌<◌, ◌≤◌, inl, inr, List, [], ◌∷◌, map, length, cond, Option, Some, None, unwrap_or, refl, sym, ap, ◌∙◌, subst, is_eq, arith}
-use Rattle.std.specs.Prelude.{sum}
+use Rattle.std.proofs.Common.{◌≡◌, ℕ, ◌+◌, ◌-◌, ◌<◌, ◌≤◌, inl, inr, List, [], ◌∷◌, length, cond, Option, Some, None, unwrap_or, refl, sym, ap, ◌∙◌, is_eq, arith}
 use Rattle.std.specs.Option.{option_map}
 use Rattle.std.specs.List.{AllByRecursion, find, sum_by}
 use Rattle.std.specs.Map.{lookup, values_of}
@@ -10,7 +9,7 @@ use Rattle.std.proofs.lemmas.Map.Entries.{sum_by-insert_entry, sum_by-remove_ent
 use Rattle.ordered_table.proofs.Flat.{C, c_total}
 use Rattle.twin_table.specs.Held.{held_at}
 use Rattle.twin_table.specs.declared.held.Held.{Held}
-use Rattle.graph_steps.specs.States.{State, Twin, Link, twin_at, twin_text, link_text, graph_bytes, keyed_twins, with_twin}
+use Rattle.graph_steps.specs.States.{State, Twin, twin_at, twin_text, graph_bytes, keyed_twins, with_twin}
 use Rattle.dtdl_terms.specs.declared.limit.Limit.TheVariants as limits
 use Rattle.graph_asks.specs.declared.refusal.Refusal.TheVariants as refusals
 use Rattle.graph_steps.specs.TwinAsks.{TwinFull}

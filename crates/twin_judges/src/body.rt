@@ -89,7 +89,7 @@ pub(crate) fn judged_body(
     ensures right { HoldsRight (set_of (state_of lent.now)) resolutions.new }
     ensures judged { MatchResult result
         (λ new. IsFree (RefusesBody (state_of lent.now) id.now (dtmi_text model.now) (view tree.now) (interface_of (state_of lent.now) model.now))
-            × (with_twin (twin_view new.twin) (state_of lent.now) ≡ with_body (state_of lent.now) id.now (interface_of (state_of lent.now) model.now) (view tree.now)))
+        × (with_twin (twin_view new.twin) (state_of lent.now) ≡ with_body (state_of lent.now) id.now (interface_of (state_of lent.now) model.now) (view tree.now)))
         (FailsBy (RefusesBody (state_of lent.now) id.now (dtmi_text model.now) (view tree.now) (interface_of (state_of lent.now) model.now))) }
     ensures id { IfOk result (λ new. new.twin.id ≡ id.now) }
     ensures held { IfOk result (λ new. IsHeldTwin (record { twin = new.twin; bytes = new.bytes })) }

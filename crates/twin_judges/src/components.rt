@@ -30,12 +30,7 @@ fn replacing(alloc: Global, key: &Text, value: Tree) -> Result<Patch, OutOfMemor
 }
 
 /// The components of a twin with these values as those of one that it has. Fails only for want of memory.
-fn with_values(
-    alloc: Global,
-    twin: &Twin,
-    name: &Text,
-    values: Tree,
-) -> Result<Tree, OutOfMemory>
+fn with_values(alloc: Global, twin: &Twin, name: &Text, values: Tree) -> Result<Tree, OutOfMemory>
     requires kept { IsKeptTwin (twin_view twin.now) }
     requires part { IsKeptPart (view values) }
     requires there { IsSome (component_at name.now (twin_view twin.now)) }

@@ -80,7 +80,7 @@ fn judged_part_of(
     ensures right { HoldsRight (set_of (state_of lent.now)) resolutions.new }
     ensures judged { MatchResult result
         (λ new. IsFree (RefusesNewPart (state_of lent.now) name.now interface.now (twin_view twin.now) (patched_from 0 (operations_of patch.now.ops) (part_value (view part.now))))
-            × (with_twin (twin_view new.twin) (state_of lent.now) ≡ with_new_part (state_of lent.now) name.now (twin_view twin.now) (patched_from 0 (operations_of patch.now.ops) (part_value (view part.now)))))
+        × (with_twin (twin_view new.twin) (state_of lent.now) ≡ with_new_part (state_of lent.now) name.now (twin_view twin.now) (patched_from 0 (operations_of patch.now.ops) (part_value (view part.now)))))
         (FailsBy (RefusesNewPart (state_of lent.now) name.now interface.now (twin_view twin.now) (patched_from 0 (operations_of patch.now.ops) (part_value (view part.now))))) }
     ensures id { IfOk result (λ new. new.twin.id ≡ twin.now.id) }
     ensures held { IfOk result (λ new. IsHeldTwin (record { twin = new.twin; bytes = new.bytes })) }
@@ -107,7 +107,7 @@ pub fn judged_part_patch(
     ensures right { HoldsRight (set_of (state_of lent.now)) resolutions.new }
     ensures judged { MatchResult result
         (λ new. ((r : Refusal) → RefusesPatchPart (state_of lent.now) id.now name.now (operations_of patch.now.ops) r → ⊥)
-            × (with_twin (twin_view new.twin) (state_of lent.now) ≡ after_patch_part (state_of lent.now) id.now name.now (operations_of patch.now.ops)))
+        × (with_twin (twin_view new.twin) (state_of lent.now) ≡ after_patch_part (state_of lent.now) id.now name.now (operations_of patch.now.ops)))
         (FailsBy (RefusesPatchPart (state_of lent.now) id.now name.now (operations_of patch.now.ops))) }
     ensures id { IfOk result (λ new. new.twin.id ≡ id.now) }
     ensures held { IfOk result (λ new. IsHeldTwin (record { twin = new.twin; bytes = new.bytes })) }

@@ -56,7 +56,7 @@ fn judged_new_body(
     ensures right { HoldsRight (set_of (state_of lent.now)) resolutions.new }
     ensures judged { MatchResult result
         (λ new. IsFree (RefusesNewBody (state_of lent.now) id.now (view tree.now))
-            × (with_twin (twin_view new.twin) (state_of lent.now) ≡ with_body (state_of lent.now) id.now (interface_in (state_of lent.now) (view tree.now)) (view tree.now)))
+        × (with_twin (twin_view new.twin) (state_of lent.now) ≡ with_body (state_of lent.now) id.now (interface_in (state_of lent.now) (view tree.now)) (view tree.now)))
         (FailsBy (RefusesNewBody (state_of lent.now) id.now (view tree.now))) }
     ensures id { IfOk result (λ new. new.twin.id ≡ id.now) }
     ensures held { IfOk result (λ new. IsHeldTwin (record { twin = new.twin; bytes = new.bytes })) }
@@ -83,7 +83,7 @@ fn judged_patched(
     ensures right { HoldsRight (set_of (state_of lent.now)) resolutions.new }
     ensures judged { MatchResult result
         (λ new. IsFree (RefusesPatched (state_of lent.now) id.now (patched_from 0 (operations_of patch.now.ops) (twin_value (twin_view twin.now))))
-            × (with_twin (twin_view new.twin) (state_of lent.now) ≡ with_patched (state_of lent.now) id.now (patched_from 0 (operations_of patch.now.ops) (twin_value (twin_view twin.now)))))
+        × (with_twin (twin_view new.twin) (state_of lent.now) ≡ with_patched (state_of lent.now) id.now (patched_from 0 (operations_of patch.now.ops) (twin_value (twin_view twin.now)))))
         (FailsBy (RefusesPatched (state_of lent.now) id.now (patched_from 0 (operations_of patch.now.ops) (twin_value (twin_view twin.now))))) }
     ensures id { IfOk result (λ new. new.twin.id ≡ id.now) }
     ensures held { IfOk result (λ new. IsHeldTwin (record { twin = new.twin; bytes = new.bytes })) }
@@ -108,7 +108,7 @@ pub fn judged_patch(
     ensures right { HoldsRight (set_of (state_of lent.now)) resolutions.new }
     ensures judged { MatchResult result
         (λ new. ((r : Refusal) → RefusesPatchTwin (state_of lent.now) id.now (operations_of patch.now.ops) r → ⊥)
-            × (with_twin (twin_view new.twin) (state_of lent.now) ≡ after_patch_twin (state_of lent.now) id.now (operations_of patch.now.ops)))
+        × (with_twin (twin_view new.twin) (state_of lent.now) ≡ after_patch_twin (state_of lent.now) id.now (operations_of patch.now.ops)))
         (FailsBy (RefusesPatchTwin (state_of lent.now) id.now (operations_of patch.now.ops))) }
     ensures id { IfOk result (λ new. new.twin.id ≡ id.now) }
     ensures held { IfOk result (λ new. IsHeldTwin (record { twin = new.twin; bytes = new.bytes })) }

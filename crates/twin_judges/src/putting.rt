@@ -38,7 +38,7 @@ pub fn judged_put(
     ensures right { HoldsRight (set_of (state_of lent.now)) resolutions.new }
     ensures judged { MatchResult result
         (λ new. ((r : Refusal) → RefusesPutTwin (state_of lent.now) id.now model.now (view tree.now) r → ⊥)
-            × (with_twin (twin_view new.twin) (state_of lent.now) ≡ after_put_twin (state_of lent.now) id.now model.now (view tree.now)))
+        × (with_twin (twin_view new.twin) (state_of lent.now) ≡ after_put_twin (state_of lent.now) id.now model.now (view tree.now)))
         (FailsBy (RefusesPutTwin (state_of lent.now) id.now model.now (view tree.now))) }
     ensures id { IfOk result (λ new. new.twin.id ≡ id.now) }
     ensures held { IfOk result (λ new. IsHeldTwin (record { twin = new.twin; bytes = new.bytes })) }
