@@ -11,3 +11,4 @@ pub mod Pages
 pub mod Brought
 pub mod Taken
 pub mod Came
+pub mod Frost

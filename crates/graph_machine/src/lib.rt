@@ -1,6 +1,7 @@
 //! The typed graph of digital twins as an object that answers one ask at a time. `IsBuilt` says which asks are built.
 #![tactic(auto)]
 
+mod answering;
 mod answers;
 mod canon;
 mod drop_model;

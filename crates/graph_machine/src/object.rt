@@ -1,16 +1,18 @@
 //! The machine as an object that answers one ask at a time.
 
-ghost use Rattle.std.specs.Prelude.{◌≡◌, IfOk, IsOk, OnErr};
+ghost use Rattle.std.specs.Prelude.{◌≡◌, Contains, IfOk, IsOk, OnErr, false};
 ghost use Rattle.graph_asks.specs.Answers.{done};
+ghost use Rattle.graph_laws.specs.Frozen.{StaysFrozen};
 ghost use Rattle.graph_steps.specs.Soundness.{IsSound};
 ghost use Rattle.graph_steps.specs.Steps.{Allows, Answers, follows};
-ghost use Rattle.graph_steps.specs.States.{State};
+ghost use Rattle.graph_steps.specs.States.{State, Twin, is_live};
 ghost use Rattle.graph_machine.specs.Built.{IsBuilt, NeedsNoMemory};
 ghost use Rattle.graph_held.specs.Held.{state_of};
 
 use crate::machine::Machine;
 use dt_base::{Object, OutOfMemory};
 use graph_asks::{Ask, Reply};
+use graph_laws::stays_frozen;
 
 impl Object for Machine {
     type Ask = Ask;
@@ -27,45 +29,19 @@ impl Object for Machine {
 
     ghost follows = { follows };
 
-    /// Answers an ask. The answer and the state that follows are those of the step of the graph. `Err` is want of memory,
-    /// and nothing changes; a mark and drops that are done take no memory.
+    /// Answers an ask. The answer and the state that follows are those of the step of the graph. A twin whose model is not
+    /// there stays as it is with the relationships out of it, but for what the ask drops, and is live again only where models
+    /// come. `Err` is want of memory, and nothing changes; a mark and drops that are done take no memory.
     fn step(&mut self, ask: &Ask) -> Result<Reply, OutOfMemory>
         requires sound { IsSound ask.now × IsBuilt ask.now }
         ensures allowed { IfOk result (Allows (state_of self.old) ask.now) }
         ensures follows { IfOk result (λ reply. state_of self.new ≡ follows (state_of self.old) ask.now reply) }
         ensures unchanged { OnErr result (state_of self.new ≡ state_of self.old) }
+        ensures frozen { IfOk result (λ _. (t : Twin) → Contains (state_of self.old).twins t → is_live (state_of self.old) t ≡ false → StaysFrozen (state_of self.old) ask.now (state_of self.new) t) }
         ensures free { NeedsNoMemory ask.now → Answers (state_of self.old) ask.now done → IsOk result }
     {
-        match ask {
-            Ask::PutModels { models } => self.put_models(models.as_slice()),
-            Ask::GetModel { id } => self.get_model(id),
-            Ask::ListModels => self.list_models(),
-            Ask::Mark { id, on } => self.mark(id, *on),
-            Ask::DropModel { id } => self.drop_model(id),
-            Ask::Canon => self.canon(),
-            Ask::PutTwin { id, model, body } => self.put_twin(id, model, body),
-            Ask::GetTwin { id } => self.get_twin(id),
-            Ask::PatchTwin { id, patch } => self.patch_twin(id, patch),
-            Ask::DropTwin { id } => self.drop_twin(id),
-            Ask::GetPart { id, name } => self.get_part(id, name),
-            Ask::PatchPart { id, name, patch } => self.patch_part(id, name, patch),
-            Ask::PutRel {
-                source,
-                id,
-                name,
-                target,
-                body,
-            } => self.put_rel(source, id, name, target, body),
-            Ask::GetRel { source, id } => self.get_rel(source, id),
-            Ask::PatchRel { source, id, patch } => self.patch_rel(source, id, patch),
-            Ask::DropRel { source, id } => self.drop_rel(source, id),
-            Ask::ListOut {
-                source,
-                name,
-                after,
-            } => self.list_out(source, name, after),
-            Ask::ListIn { target, after } => self.list_in(target, after),
-            _ => unreachable!(),
-        }
+        stays_frozen();
+        self.typed();
+        self.answered(ask)
     }
 }
