@@ -1,4 +1,3 @@
 pub mod Conditions
 pub mod Queries
 pub mod Codes
-pub mod Machinery

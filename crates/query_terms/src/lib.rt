@@ -3,7 +3,6 @@
 
 mod cond;
 mod copies;
-mod copying;
 mod operand;
 mod query;
 

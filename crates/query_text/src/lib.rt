@@ -4,7 +4,6 @@
 mod conditions;
 mod escapes;
 mod operands;
-mod pieces;
 mod printing;
 
 pub use printing::text;
