@@ -1,7 +1,7 @@
 //! What a model declares of a relationship.
 
 ghost use Rattle.std.specs.Prelude.{◌≡◌};
-ghost use Rattle.std.specs.Option.{option_copied, option_map};
+ghost use Rattle.std.specs.Option.{option_copied};
 ghost use Rattle.dtdl_terms.specs.TermViews.{kind_term};
 ghost use Rattle.graph_steps.specs.Typed.{target_of, most_of};
 ghost use Rattle.twin_value.specs.Breaches.{as_link, link_called};

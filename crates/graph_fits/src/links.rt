@@ -3,7 +3,6 @@
 ghost use Rattle.std.specs.Prelude.{◌≡◌, ◌↔◌, IfOk, IsTrue, Some};
 ghost use Rattle.std.specs.Option.{option_copied, option_map};
 ghost use Rattle.dtdl_terms.specs.TermViews.{kind_term};
-ghost use Rattle.dtdl_terms.specs.declared.interface.Interface.{Interface as Entry};
 ghost use Rattle.model_resolve.specs.Resolving.{HoldsRight};
 ghost use Rattle.rel_graph.specs.Edges.{named};
 ghost use Rattle.twin_value.specs.Breaches.{HasNoBreach, IsLinkBreach};

@@ -3,14 +3,13 @@
 ghost use Rattle.std.specs.Prelude.{◌≡◌, ◌↔◌, IfOk, IsTrue, Some};
 ghost use Rattle.std.specs.List.{AllByRecursion};
 ghost use Rattle.std.specs.Option.{option_copied};
-ghost use Rattle.std.specs.Ordering.{is_lt, nat_cmp};
+ghost use Rattle.std.specs.Ordering.{nat_cmp};
 ghost use Rattle.std.specs.Cmp.Lexicographic.{slice_cmp};
-ghost use Rattle.dtdl_terms.specs.declared.interface.Interface.{Interface as Entry};
 ghost use Rattle.model_life.specs.Refusals.{AreNew};
 ghost use Rattle.model_resolve.specs.Resolving.{HoldsRight};
-ghost use Rattle.graph_bodies.specs.Kept.{twin_view, IsKeptTwin};
+ghost use Rattle.graph_bodies.specs.Kept.{twin_view};
 ghost use Rattle.graph_steps.specs.ModelAsks.{after_uploads};
-ghost use Rattle.graph_steps.specs.States.{State, interface_of, set_of, twin_at};
+ghost use Rattle.graph_steps.specs.States.{State, set_of};
 ghost use Rattle.graph_held.specs.Held.{state_of};
 ghost use Rattle.graph_fits.specs.Ill.{IsLeastMisfit};
 ghost use Rattle.graph_fits.specs.Machinery.Firsts.{IsFirstOf, IsLeastOf, lesser};

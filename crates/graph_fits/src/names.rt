@@ -1,6 +1,6 @@
 //! The names of what twins have.
 
-ghost use Rattle.std.specs.Prelude.{◌≡◌, ◌↔◌, IsTrue, map};
+ghost use Rattle.std.specs.Prelude.{◌≡◌, ◌↔◌, IsTrue};
 ghost use Rattle.json_tree.specs.View.{members_view, view};
 ghost use Rattle.local_rules.specs.Members.{members_in};
 ghost use Rattle.graph_fits.specs.Machinery.Keys.{keys_in, HaveSameNames};

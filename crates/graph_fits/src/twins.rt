@@ -1,7 +1,6 @@
 //! One twin, judged by its model.
 
 ghost use Rattle.std.specs.Prelude.{◌≡◌, ◌↔◌, IfOk, IsTrue, Some};
-ghost use Rattle.dtdl_terms.specs.declared.interface.Interface.{Interface as Entry};
 ghost use Rattle.model_resolve.specs.Resolving.{HoldsRight};
 ghost use Rattle.graph_bodies.specs.Kept.{twin_view, IsKeptTwin};
 ghost use Rattle.graph_steps.specs.States.{interface_of, set_of};
