@@ -103,6 +103,7 @@ fn takes_marks_and_drops_models(rt: HostRuntime) -> Result<(), Fail> {
     answers(&rt, alloc, &mut machine, &Ask::ListModels, LISTED)?;
     let counts = machine.counts();
     assert_eq!(rt; counts.models, 2);
-    assert_eq!(rt; counts.twins + counts.relationships, 0);
+    assert_eq!(rt; counts.twins, 0);
+    assert_eq!(rt; counts.relationships, 0);
     Ok(())
 }
