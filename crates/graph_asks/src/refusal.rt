@@ -37,8 +37,6 @@ pub enum Refusal {
     /// The path is served, but not for this method. `allow` lists the methods that are, as the field `Allow` of a
     /// reply has them (RFC 9110, section 10.2.1).
     BadMethod { allow: Text },
-    /// What is asked for is not built yet.
-    NotBuilt,
     /// The stream begins with no head of a request.
     BadHead,
     /// The stream ends inside a body.
@@ -105,7 +103,6 @@ impl Refusal {
             Refusal::BadMethod { allow } => Ok(Refusal::BadMethod {
                 allow: allow.copy(alloc)?,
             }),
-            Refusal::NotBuilt => Ok(Refusal::NotBuilt),
             Refusal::BadHead => Ok(Refusal::BadHead),
             Refusal::CutOff => Ok(Refusal::CutOff),
             Refusal::TransferCoding => Ok(Refusal::TransferCoding),

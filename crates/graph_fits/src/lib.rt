@@ -1,7 +1,6 @@
 //! Whether twins and relationships fit the models that there are.
 #![tactic(auto)]
 
-mod declared;
 mod ends;
 mod links;
 mod misfits;

@@ -13,12 +13,11 @@ ghost use Rattle.graph_steps.specs.Typed.{target_of, IsAtMost, FitsSource, LinkI
 ghost use Rattle.graph_held.specs.Held.{link_of, state_of};
 ghost use Rattle.graph_fits.specs.Machinery.Judged.{with_given, SuitsAmong, SuitsDeclared, SuitsKind};
 
-use crate::declared::{link_called, most_of, target_of};
 use dt_base::{OutOfMemory, Text};
 use dtdl_terms::{ContentKind, Interface, Resolved};
 use dtmi_name::Dtmi;
 use graph_bodies::{BodyFailure, is_model_a};
-use graph_held::{Lent, Stored, judged_link, stored_tree};
+use graph_held::{Lent, Stored, judged_link, link_called, most_of, stored_tree, target_of};
 use model_resolve::Resolutions;
 use rel_graph::Edge;
 use twin_value::Twin;

@@ -8,6 +8,7 @@ pub mod Twins
 pub mod Links
 pub mod Least
 pub mod Pages
+pub mod Viewing
 pub mod Brought
 pub mod Taken
 pub mod Came

@@ -1,4 +1,4 @@
 -- What public contracts cite.
-pub mod Built
+pub mod Memory
 -- What proofs alone rest on: no public contract speaks of it.
 pub mod Machinery

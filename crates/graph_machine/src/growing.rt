@@ -83,7 +83,8 @@ fn refused(
     }
 }
 
-/// Adds models, where they break no rule and pass no limit on models. What is held of others stays right.
+/// Adds models, where they break no rule and pass no limit on models. Fails by the refusal, or for want of memory: no model
+/// comes.
 fn add(alloc: Global, models: &mut Models, new: &[Uploaded]) -> Result<(), BodyFailure>
     requires { AreSoundUploads new.now }
     ensures judged { (s : State) → s.models ≡ models.old → MatchResult result (λ _. AreNew models.old new.now × IsSound (interfaces_of models.old) new.now × AreWithinLimits (with_models new.now models.old)) (FailsBy (RefusesPutModels s new.now)) }

@@ -1,4 +1,4 @@
-//! The typed graph of digital twins as an object that answers one ask at a time. `IsBuilt` says which asks are built.
+//! The typed graph of digital twins as an object that answers one ask at a time.
 #![tactic(auto)]
 
 mod answering;
@@ -26,7 +26,9 @@ mod patch_twin;
 mod put_models;
 mod put_rel;
 mod put_twin;
+mod query;
 mod rows;
 mod trees;
+mod view;
 
 pub use machine::{Counts, Machine};

@@ -6,7 +6,7 @@ ghost use Rattle.graph_laws.specs.Frozen.{StaysFrozen};
 ghost use Rattle.graph_steps.specs.Soundness.{IsSound};
 ghost use Rattle.graph_steps.specs.Steps.{Allows, Answers, follows};
 ghost use Rattle.graph_steps.specs.States.{State, Twin, is_live};
-ghost use Rattle.graph_machine.specs.Built.{IsBuilt, NeedsNoMemory};
+ghost use Rattle.graph_machine.specs.Memory.{NeedsNoMemory};
 ghost use Rattle.graph_held.specs.Held.{state_of};
 
 use crate::machine::Machine;
@@ -23,7 +23,7 @@ impl Object for Machine {
 
     ghost state = { state_of };
 
-    ghost sound = { λ ask. IsSound ask × IsBuilt ask };
+    ghost sound = { IsSound };
 
     ghost allowed = { Allows };
 
@@ -33,7 +33,7 @@ impl Object for Machine {
     /// there stays as it is with the relationships out of it, but for what the ask drops, and is live again only where models
     /// come. `Err` is want of memory, and nothing changes; a mark and drops that are done take no memory.
     fn step(&mut self, ask: &Ask) -> Result<Reply, OutOfMemory>
-        requires sound { IsSound ask.now × IsBuilt ask.now }
+        requires sound { IsSound ask.now }
         ensures allowed { IfOk result (Allows (state_of self.old) ask.now) }
         ensures follows { IfOk result (λ reply. state_of self.new ≡ follows (state_of self.old) ask.now reply) }
         ensures unchanged { OnErr result (state_of self.new ≡ state_of self.old) }

@@ -84,7 +84,8 @@ impl Machine {
         ensures unchanged { OnErr result (self.new ≡ self.old) }
     {
         let tree = created(self.alloc, new)?;
-        answered(tree, self.models_in(new))
+        let end = self.models_in(new);
+        answered(tree, end)
     }
 
     /// Takes models, where nothing refuses them. Fails by the refusal, or for want of memory: nothing changes.

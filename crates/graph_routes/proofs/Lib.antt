@@ -11,6 +11,7 @@ pub mod OneOutcome
 pub mod OneModels
 pub mod OneTwins
 pub mod OneLinks
+pub mod OneQueries
 pub mod OnePrepared
 pub mod DistinctKeys
 pub mod Nested
@@ -18,7 +19,9 @@ pub mod Ordinals
 pub mod Uploads
 pub mod Agreeing
 pub mod Differing
+pub mod Listed
 pub mod SoundModels
 pub mod SoundOutcome
 pub mod SoundTwins
+pub mod SoundQueries
 pub mod SoundAsks

@@ -1,12 +1,12 @@
 -- Of the paths of relationships one thing is asked.
-use Rattle.std.proofs.Common.{◌≡◌, ℕ, List, [], ◌∷◌, Option, Some, None, refl, sym, ap, ap₂, ◌∙◌}
+use Rattle.std.proofs.Common.{◌≡◌, ℕ, List, [], ◌∷◌, Option, Some, None, refl, sym, ap, ◌∙◌}
 use Rattle.json_tree.specs.Values.{Json}
 use Rattle.twin_patch.specs.declared.entry.PatchOf.TheVariants as patches
 use Rattle.twin_patch.specs.declared.patch.Patch.{Patch}
 use Rattle.twin_value.specs.Breaches.{IsOuterLinkBreach}
-use Rattle.page_tokens.specs.Tokens.{IsToken, NameIds}
 use Rattle.graph_asks.specs.declared.ask.Ask.TheVariants as asks
 use Rattle.graph_asks.specs.declared.refusal.Refusal.TheVariants as refusals
+use Rattle.query_bodies.proofs.OneOutcome.{token_once}
 use Rattle.graph_routes.specs.Identifiers.{link_ids}
 use Rattle.graph_routes.specs.Outcomes.{Named, WithBody}
 use Rattle.graph_routes.specs.Parameters.{BeginsPast, BeginsPastPair, name_asked, token_given}
@@ -16,21 +16,11 @@ use Rattle.graph_routes.specs.declared.method.Method.{Method}
 use Rattle.graph_routes.specs.declared.method.Method.TheVariants as method
 use Rattle.graph_routes.specs.declared.prepared.Prepared.TheVariants.{Ask}
 use Rattle.graph_routes.proofs.OneOutcome.{IsOne, Laws, alike, one_named, one_with_body, one_with_patch, one_with_value}
-use Rattle.graph_routes.proofs.OneModels.{not_built}
-use Rattle.graph_routes.proofs.OneTwins.{one_id_named, one_with_id}
+use Rattle.graph_routes.specs.declared.route.Route.TheVariants as route
+use Rattle.graph_routes.proofs.OneModels.{one_not_allowed}
+use Rattle.graph_routes.proofs.OneTwins.{one_with_id}
 
 -- ---- tokens
-ids_once : (parts ids others : List (List ℕ)) → NameIds parts ids → NameIds parts others → ids ≡ others
-ids_once [] [] [] h g = refl
-ids_once [] [] (y ∷ ys) h g = absurd g
-ids_once [] (x ∷ xs) others h g = absurd h
-ids_once (part ∷ parts) [] others h g = absurd h
-ids_once (part ∷ parts) (x ∷ xs) [] h g = absurd g
-ids_once (part ∷ parts) (x ∷ xs) (y ∷ ys) h g = ap₂ (λ (z : List ℕ) (zs : List (List ℕ)). z ∷ zs) (one_id_named part x y h.0 g.0) (ids_once parts xs ys h.1 g.1)
-
-token_once : (token : List ℕ) (count : ℕ) (ids others : List (List ℕ)) → IsToken token count ids → IsToken token count others → ids ≡ others
-token_once token count ids others h g = ids_once _ ids others h.named g.named
-
 past_once : (token : Option (List ℕ)) (x y : Option (List ℕ)) → BeginsPast token x → BeginsPast token y → x ≡ y
 past_once None x y h g = h ∙ sym g
 past_once (Some token) x y (id, is, h) (other, has, g) =
@@ -76,24 +66,24 @@ one_of_link laws method.Patch part second body =
 one_of_link laws method.Delete part second body =
     one_with_id 0 part (λ source. WithId 1 second (λ id given. given ≡ Ask (asks.DropRel source id)))
     (λ source. one_with_id 1 second (λ id given. given ≡ Ask (asks.DropRel source id)) (λ id p q x y. alike p q (Ask (asks.DropRel source id)) (Ask (asks.DropRel source id)) x y refl))
-one_of_link laws method.Post part second body = not_built
+one_of_link laws method.Post part second body = one_not_allowed route.Relationship
 
 pub one_of_links : (m : Method) (part query : List ℕ) → IsOne (AsksLinks m part query)
 one_of_links method.Get part query =
     one_with_id 0 part (λ source. Named (BeginsPast (token_given query)) refusals.BadToken (λ after given. given ≡ Ask (asks.ListOut source (name_asked query) after)))
     (λ source. one_named (BeginsPast (token_given query)) refusals.BadToken (λ after given. given ≡ Ask (asks.ListOut source (name_asked query) after)) (past_once (token_given query))
     (λ after p q x y. alike p q (Ask (asks.ListOut source (name_asked query) after)) (Ask (asks.ListOut source (name_asked query) after)) x y refl))
-one_of_links method.Delete part query = not_built
-one_of_links method.Patch part query = not_built
-one_of_links method.Post part query = not_built
-one_of_links method.Put part query = not_built
+one_of_links method.Delete part query = one_not_allowed route.Relationships
+one_of_links method.Patch part query = one_not_allowed route.Relationships
+one_of_links method.Post part query = one_not_allowed route.Relationships
+one_of_links method.Put part query = one_not_allowed route.Relationships
 
 pub one_of_incoming : (m : Method) (part query : List ℕ) → IsOne (AsksIncoming m part query)
 one_of_incoming method.Get part query =
     one_with_id 0 part (λ target. Named (BeginsPastPair (token_given query)) refusals.BadToken (λ after given. given ≡ Ask (asks.ListIn target after)))
     (λ target. one_named (BeginsPastPair (token_given query)) refusals.BadToken (λ after given. given ≡ Ask (asks.ListIn target after)) (past_pair_once (token_given query))
     (λ after p q x y. alike p q (Ask (asks.ListIn target after)) (Ask (asks.ListIn target after)) x y refl))
-one_of_incoming method.Delete part query = not_built
-one_of_incoming method.Patch part query = not_built
-one_of_incoming method.Post part query = not_built
-one_of_incoming method.Put part query = not_built
+one_of_incoming method.Delete part query = one_not_allowed route.IncomingRelationships
+one_of_incoming method.Patch part query = one_not_allowed route.IncomingRelationships
+one_of_incoming method.Post part query = one_not_allowed route.IncomingRelationships
+one_of_incoming method.Put part query = one_not_allowed route.IncomingRelationships

@@ -19,15 +19,18 @@ use Rattle.graph_asks.specs.declared.refusal.Refusal.TheVariants as refusals
 use Rattle.graph_routes.specs.Parts.{NamesModel}
 use Rattle.graph_routes.specs.Bodies.{DeclaresModels, RefusesModels, SetsMark, SetsTo, most_models}
 use Rattle.graph_routes.specs.ModelRequests.{AsksCanon, AsksModel, AsksModels, Marks, PutsModels}
-use Rattle.graph_routes.specs.Outcomes.{WithBody}
+use Rattle.graph_routes.specs.Methods.{allow_text}
+use Rattle.graph_routes.specs.Outcomes.{WithBody, not_allowed}
 use Rattle.graph_routes.specs.declared.method.Method.{Method}
 use Rattle.graph_routes.specs.declared.method.Method.TheVariants as method
 use Rattle.graph_routes.specs.declared.prepared.Prepared.{Prepared}
 use Rattle.graph_routes.specs.declared.prepared.Prepared.TheVariants.{Ask, Own}
+use Rattle.graph_routes.specs.declared.route.Route.{Route}
+use Rattle.graph_routes.specs.declared.route.Route.TheVariants as route
 use Rattle.graph_routes.proofs.OneOutcome.{IsOne, Laws, alike, one_named, one_patch_fault, one_with_body, refused}
 
-pub not_built : IsOne (λ (p : Prepared). p ≡ Own refusals.NotBuilt)
-not_built p q x y = refused refusals.NotBuilt refusals.NotBuilt p q x y refl
+pub one_not_allowed : (r : Route) → IsOne (λ (p : Prepared). p ≡ not_allowed r)
+one_not_allowed r p q x y = refused (refusals.BadMethod (allow_text r)) (refusals.BadMethod (allow_text r)) p q x y refl
 
 -- ---- models
 one_breached : (v : Json) (r s : Refusal) → RefusesModels v r → RefusesModels v s → r ≡ s
@@ -82,9 +85,9 @@ one_model_named part i j h g = HasDtmiForm-unique _ i j h.text.text.form g.text.
 pub one_of_models : Laws → (m : Method) (body : List ℕ) → IsOne (AsksModels m body)
 one_of_models laws method.Get body p q x y = alike p q (Ask asks.ListModels) (Ask asks.ListModels) x y refl
 one_of_models laws method.Post body p q x y = one_with_body laws.number body PutsModels one_put p q x y
-one_of_models laws method.Delete body p q x y = not_built p q x y
-one_of_models laws method.Patch body p q x y = not_built p q x y
-one_of_models laws method.Put body p q x y = not_built p q x y
+one_of_models laws method.Delete body p q x y = one_not_allowed route.Models p q x y
+one_of_models laws method.Patch body p q x y = one_not_allowed route.Models p q x y
+one_of_models laws method.Put body p q x y = one_not_allowed route.Models p q x y
 
 pub one_of_model : Laws → (m : Method) (part body : List ℕ) → IsOne (AsksModel m part body)
 one_of_model laws method.Get part body p q x y =
@@ -96,12 +99,12 @@ one_of_model laws method.Delete part body p q x y =
 one_of_model laws method.Patch part body p q x y =
     one_named (NamesModel part) (refusals.BadId 0) (λ id. WithBody body (Marks id)) (one_model_named part)
     (λ id. one_with_body laws.number body (Marks id) (one_marks laws id)) p q x y
-one_of_model laws method.Post part body p q x y = not_built p q x y
-one_of_model laws method.Put part body p q x y = not_built p q x y
+one_of_model laws method.Post part body p q x y = one_not_allowed route.Model p q x y
+one_of_model laws method.Put part body p q x y = one_not_allowed route.Model p q x y
 
 pub one_of_canon : (m : Method) → IsOne (AsksCanon m)
 one_of_canon method.Get p q x y = alike p q (Ask asks.Canon) (Ask asks.Canon) x y refl
-one_of_canon method.Delete p q x y = not_built p q x y
-one_of_canon method.Patch p q x y = not_built p q x y
-one_of_canon method.Post p q x y = not_built p q x y
-one_of_canon method.Put p q x y = not_built p q x y
+one_of_canon method.Delete p q x y = one_not_allowed route.Canon p q x y
+one_of_canon method.Patch p q x y = one_not_allowed route.Canon p q x y
+one_of_canon method.Post p q x y = one_not_allowed route.Canon p q x y
+one_of_canon method.Put p q x y = one_not_allowed route.Canon p q x y

@@ -18,16 +18,13 @@ use Rattle.twin_patch.specs.declared.code.PatchCode.{PatchCode}
 use Rattle.twin_patch.specs.declared.entry.PatchOf.{PatchOf}
 use Rattle.twin_patch.specs.declared.patch.Patch.{Patch}
 use Rattle.twin_patch.specs.Reading.{IsPatch, IsFault as IsPatchFault}
-use Rattle.twin_value.specs.Breaches.{HasNoBreach}
-use Rattle.twin_value.specs.Codes.{code_name}
 use Rattle.twin_value.specs.declared.code.BodyCode.{BodyCode}
-use Rattle.twin_value.proofs.OneBreach.{one_first}
 use Rattle.graph_asks.specs.Asks.{AreOneAsk}
 use Rattle.graph_asks.specs.declared.ask.Ask as ask_type
 use Rattle.graph_asks.specs.declared.refusal.At.TheVariants as at
 use Rattle.graph_asks.specs.declared.refusal.Refusal.{Refusal}
 use Rattle.graph_asks.specs.declared.refusal.Refusal.TheVariants as refusals
-use Rattle.graph_steps.specs.TwinAsks.{BodyFault}
+use Rattle.query_bodies.proofs.OneOutcome.{fault_breaks, one_body_fault}
 use Rattle.graph_routes.specs.Bodies.{RefusesFor, RefusesJson, RefusesPatch, RefusesPlace}
 use Rattle.graph_routes.specs.Identifiers.{first_difference}
 use Rattle.graph_routes.specs.Outcomes.{Named, WithBody, WithPatch, WithValue}
@@ -106,34 +103,24 @@ one_with_patch laws of ask one v p q (inr (a, is, x)) (inr (b, has, y)) =
     alike p q (Ask (ask a)) (Ask (ask b)) x y (one a b (laws.patch of v (operations_of a.ops) (operations_of b.ops) is has))
 
 -- ---- values
-module _ (Broken : List ℕ → BodyCode → Type 0) (v : Json) where
-  one_body_fault : (r s : Refusal) → BodyFault Broken v r → BodyFault Broken v s → r ≡ s
-  one_body_fault r s (place, pointer, code, first, leads, x) (other, points, another, least, goes, y) =
-      let same = one_first Broken place other code another first least in
-      let e : pointer ≡ points = one_pointer v place pointer points leads (subst (λ (p : List ℕ). IsPointerOf v p points) (sym same.0) goes) in
-      x ∙ ap₂ (λ (p : List ℕ) (c : BodyCode). refusals.BodyFault (at.Pointer p) (code_name c)) e same.1 ∙ sym y
+module _ (Broken : List ℕ → BodyCode → Type 0) (v : Json) (ids : List ℕ → Option (List ℕ)) where
+  one_difference : (a b : List ℕ × List ℕ) → first_difference ids (members_in v) ≡ Some a → first_difference ids (members_in v) ≡ Some b → refusals.IdDiffers a.0 a.1 ≡ refusals.IdDiffers b.0 b.1
+  one_difference a b h g =
+      let both : Some a ≡ Some b = sym h ∙ g in
+      let same : a ≡ b = cc in
+      ap (λ (d : List ℕ × List ℕ). refusals.IdDiffers d.0 d.1) same
 
-  broken : (r : Refusal) → BodyFault Broken v r → HasNoBreach Broken → ⊥
-  broken r h none = none h.0 h.2 h.3.breach
+  differs : (a : List ℕ × List ℕ) → first_difference ids (members_in v) ≡ Some a → first_difference ids (members_in v) ≡ None → ⊥
+  differs a h g = let both : Some a ≡ None = sym h ∙ g in absurd cc
 
-  module _ (ids : List ℕ → Option (List ℕ)) where
-    one_difference : (a b : List ℕ × List ℕ) → first_difference ids (members_in v) ≡ Some a → first_difference ids (members_in v) ≡ Some b → refusals.IdDiffers a.0 a.1 ≡ refusals.IdDiffers b.0 b.1
-    one_difference a b h g =
-        let both : Some a ≡ Some b = sym h ∙ g in
-        let same : a ≡ b = cc in
-        ap (λ (d : List ℕ × List ℕ). refusals.IdDiffers d.0 d.1) same
-
-    differs : (a : List ℕ × List ℕ) → first_difference ids (members_in v) ≡ Some a → first_difference ids (members_in v) ≡ None → ⊥
-    differs a h g = let both : Some a ≡ None = sym h ∙ g in absurd cc
-
-    pub one_with_value : (Gives : Prepared → Type 0) → IsOne Gives → IsOne (WithValue Broken ids v Gives)
-    one_with_value Gives one p q (inl (r, h, x)) (inl (s, g, y)) = refused r s p q x y (one_body_fault r s h g)
-    one_with_value Gives one p q (inl (r, h, x)) (inr (inl (none, g))) = absurd (broken r h none)
-    one_with_value Gives one p q (inl (r, h, x)) (inr (inr (none, g, y))) = absurd (broken r h none)
-    one_with_value Gives one p q (inr (inl (none, h))) (inl (s, g, y)) = absurd (broken s g none)
-    one_with_value Gives one p q (inr (inr (none, h, x))) (inl (s, g, y)) = absurd (broken s g none)
-    one_with_value Gives one p q (inr (inl (none, (given, path, h, x)))) (inr (inl (also, (other, its, g, y)))) =
-        refused (refusals.IdDiffers given path) (refusals.IdDiffers other its) p q x y (one_difference (given, path) (other, its) h g)
-    one_with_value Gives one p q (inr (inl (none, (given, path, h, x)))) (inr (inr (also, g, y))) = absurd (differs (given, path) h g)
-    one_with_value Gives one p q (inr (inr (none, h, x))) (inr (inl (also, (other, its, g, y)))) = absurd (differs (other, its) g h)
-    one_with_value Gives one p q (inr (inr (none, h, x))) (inr (inr (also, g, y))) = one p q x y
+  pub one_with_value : (Gives : Prepared → Type 0) → IsOne Gives → IsOne (WithValue Broken ids v Gives)
+  one_with_value Gives one p q (inl (r, h, x)) (inl (s, g, y)) = refused r s p q x y (one_body_fault Broken v r s h g)
+  one_with_value Gives one p q (inl (r, h, x)) (inr (inl (none, g))) = absurd (fault_breaks Broken v r h none)
+  one_with_value Gives one p q (inl (r, h, x)) (inr (inr (none, g, y))) = absurd (fault_breaks Broken v r h none)
+  one_with_value Gives one p q (inr (inl (none, h))) (inl (s, g, y)) = absurd (fault_breaks Broken v s g none)
+  one_with_value Gives one p q (inr (inr (none, h, x))) (inl (s, g, y)) = absurd (fault_breaks Broken v s g none)
+  one_with_value Gives one p q (inr (inl (none, (given, path, h, x)))) (inr (inl (also, (other, its, g, y)))) =
+      refused (refusals.IdDiffers given path) (refusals.IdDiffers other its) p q x y (one_difference (given, path) (other, its) h g)
+  one_with_value Gives one p q (inr (inl (none, (given, path, h, x)))) (inr (inr (also, g, y))) = absurd (differs (given, path) h g)
+  one_with_value Gives one p q (inr (inr (none, h, x))) (inr (inl (also, (other, its, g, y)))) = absurd (differs (other, its) g h)
+  one_with_value Gives one p q (inr (inr (none, h, x))) (inr (inr (also, g, y))) = one p q x y

@@ -17,9 +17,10 @@ use Rattle.graph_routes.specs.declared.route.Route.TheVariants as route
 use Rattle.graph_routes.proofs.OneMatch.{one_match}
 use Rattle.graph_routes.proofs.Pieces.{first_between, second_between}
 use Rattle.graph_routes.proofs.OneOutcome.{Laws, refused}
-use Rattle.graph_routes.proofs.OneModels.{not_built, one_of_canon, one_of_model, one_of_models}
+use Rattle.graph_routes.proofs.OneModels.{one_of_canon, one_of_model, one_of_models}
 use Rattle.graph_routes.proofs.OneTwins.{one_of_part, one_of_twin}
 use Rattle.graph_routes.proofs.OneLinks.{one_of_incoming, one_of_link, one_of_links}
+use Rattle.graph_routes.proofs.OneQueries.{one_of_query}
 
 -- ---- methods
 abbrev spelled_by : List ℕ → Method
@@ -58,7 +59,7 @@ one_ask laws route.Relationship m parts others request p q first second x y =
     (subst (λ (t : List ℕ). AsksLink m (part_at 0 others) t request.body p) second (subst (λ (t : List ℕ). AsksLink m t (part_at 1 parts) request.body p) first x)) y
 one_ask laws route.IncomingRelationships m parts others request p q first second x y =
     one_of_incoming m (part_at 0 others) request.query p q (subst (λ (t : List ℕ). AsksIncoming m t request.query p) first x) y
-one_ask laws route.Query m parts others request p q first second x y = not_built p q x y
+one_ask laws route.Query m parts others request p q first second x y = one_of_query laws m request.body p q x y
 
 one_asked : Laws → (r : Route) (parts others : List (List ℕ)) (request : Request) (p q : Prepared) → part_at 0 parts ≡ part_at 0 others → part_at 1 parts ≡ part_at 1 others
     → AsksOf r parts request p → AsksOf r others request q → ArePreparedAlike p q

@@ -19,9 +19,10 @@ use Rattle.graph_routes.specs.declared.method.Method.TheVariants as method
 use Rattle.graph_routes.specs.declared.prepared.Prepared.{Prepared}
 use Rattle.graph_routes.specs.declared.prepared.Prepared.TheVariants.{Ask}
 use Rattle.graph_routes.proofs.OneOutcome.{IsOne, Laws, alike, one_named, one_with_body, one_with_patch, one_with_value}
-use Rattle.graph_routes.proofs.OneModels.{not_built}
+use Rattle.graph_routes.specs.declared.route.Route.TheVariants as route
+use Rattle.graph_routes.proofs.OneModels.{one_not_allowed}
 
-pub one_id_named : (part x y : List ℕ) → NamesId part x → NamesId part y → x ≡ y
+one_id_named : (part x y : List ℕ) → NamesId part x → NamesId part y → x ≡ y
 one_id_named part x y h g = sym h.decoded ∙ g.decoded
 
 one_component_named : (part x y : List ℕ) → NamesComponent part x → NamesComponent part y → x ≡ y
@@ -66,7 +67,7 @@ one_of_twin laws method.Put part body = one_with_id 0 part (λ id. WithBody body
 one_of_twin laws method.Patch part body = one_with_id 0 part (λ id. WithBody body (PatchesTwin id)) (λ id. one_with_body laws.number body (PatchesTwin id) (one_patched laws id))
 one_of_twin laws method.Delete part body =
     one_with_id 0 part (λ id given. given ≡ Ask (asks.DropTwin id)) (λ id p q x y. alike p q (Ask (asks.DropTwin id)) (Ask (asks.DropTwin id)) x y refl)
-one_of_twin laws method.Post part body = not_built
+one_of_twin laws method.Post part body = one_not_allowed route.Twin
 
 pub one_of_part : Laws → (m : Method) (part second body : List ℕ) → IsOne (AsksPart m part second body)
 one_of_part laws method.Get part second body =
@@ -75,6 +76,6 @@ one_of_part laws method.Get part second body =
 one_of_part laws method.Patch part second body =
     one_with_id 0 part (λ id. WithComponent second (λ name. WithBody body (PatchesPart id name)))
     (λ id. one_with_component second (λ name. WithBody body (PatchesPart id name)) (λ name. one_with_body laws.number body (PatchesPart id name) (one_part_patched laws id name)))
-one_of_part laws method.Delete part second body = not_built
-one_of_part laws method.Post part second body = not_built
-one_of_part laws method.Put part second body = not_built
+one_of_part laws method.Delete part second body = one_not_allowed route.Component
+one_of_part laws method.Post part second body = one_not_allowed route.Component
+one_of_part laws method.Put part second body = one_not_allowed route.Component

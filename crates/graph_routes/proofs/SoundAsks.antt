@@ -1,17 +1,16 @@
 -- The ask that a request makes is sound, and a refusal that its bytes decide lists the methods of a path.
-use Rattle.std.proofs.Common.{◌≡◌, ◌≤◌, ℕ, List, Option, length, refl, sym, subst, inl, inr}
+use Rattle.std.proofs.Common.{◌≡◌, ◌≤◌, ℕ, List, length, true, refl, sym, subst, inl, inr}
 use Rattle.dtmi_name.specs.Grammar.{Identifier, OwnDtmiText, dtmi_text}
 use Rattle.json_tree.specs.Values.{Json}
 use Rattle.json_tree.specs.Grammar.{Spells}
 use Rattle.http_ends.specs.declared.request.Request.{Request}
 use Rattle.percent_encoding.specs.Percent.{percent_decode}
-use Rattle.query_terms.specs.declared.query.Query.{Query}
 use Rattle.graph_asks.specs.declared.ask.Ask as ask_type
 use Rattle.graph_asks.specs.declared.ask.Ask.TheVariants as asks
 use Rattle.graph_asks.specs.declared.refusal.Refusal.{Refusal}
 use Rattle.graph_asks.specs.declared.refusal.Refusal.TheVariants as refusals
 use Rattle.graph_steps.specs.Soundness.{IsModelOf, IsSound}
-use Rattle.graph_routes.specs.Methods.{allow_text}
+use Rattle.graph_routes.specs.Methods.{allow_text, methods}
 use Rattle.graph_routes.specs.Parts.{NamesModel, part_at}
 use Rattle.graph_routes.specs.Bodies.{most_models}
 use Rattle.graph_routes.specs.ModelRequests.{AsksCanon, AsksModel, AsksModels, Marks, PutsModels}
@@ -24,9 +23,11 @@ use Rattle.graph_routes.specs.declared.prepared.Prepared.{Prepared}
 use Rattle.graph_routes.specs.declared.prepared.Prepared.TheVariants.{Ask, Own}
 use Rattle.graph_routes.specs.declared.route.Route.{Route}
 use Rattle.graph_routes.specs.declared.route.Route.TheVariants as route
+use Rattle.graph_routes.proofs.Listed.{has, listed_method}
 use Rattle.graph_routes.proofs.SoundModels.{TypesAreTold, sound_models}
-use Rattle.graph_routes.proofs.SoundOutcome.{IsRight, made_sound, right_body, right_by, right_named}
-use Rattle.graph_routes.proofs.SoundTwins.{right_incoming, right_link, right_links, right_not_built, right_part, right_twin}
+use Rattle.graph_routes.proofs.SoundOutcome.{IsRight, right_body, right_by, right_named}
+use Rattle.graph_routes.proofs.SoundQueries.{right_query}
+use Rattle.graph_routes.proofs.SoundTwins.{right_incoming, right_link, right_links, right_part, right_twin}
 
 listed : (r : Route) → ListsMethods (refusals.BadMethod (allow_text r))
 listed route.Models = (refl, refl)
@@ -53,53 +54,50 @@ put told body v p spelled (inl (many, e)) = right_by p (Own (refusals.TooManyMod
 put told body v p spelled (inr (inl (few, (r, (place, broken, pointer, first, is, x), e)))) = right_by p (Own r) e (subst ListsMethods (sym x) tt)
 put told body v p spelled (inr (inr (few, (models, h, e)))) = right_by p (Ask (asks.PutModels models)) e (sound_models told body v models spelled h)
 
-right_models : TypesAreTold → (m : Method) (body : List ℕ) (p : Prepared) → AsksModels m body p → IsRight p
-right_models told method.Get body p e = right_by p (Ask asks.ListModels) e tt
-right_models told method.Post body p h = right_body body PutsModels p (λ v spelled. put told body v p spelled) h
-right_models told method.Delete body p e = right_not_built p e
-right_models told method.Patch body p e = right_not_built p e
-right_models told method.Put body p e = right_not_built p e
+right_models : TypesAreTold → (m : Method) (body : List ℕ) (p : Prepared) → AsksModels m body p → has (methods route.Models) m ≡ true → IsRight p
+right_models told method.Get body p e there = right_by p (Ask asks.ListModels) e tt
+right_models told method.Post body p h there = right_body body PutsModels p (λ v spelled. put told body v p spelled) h
+right_models told method.Delete body p e there = absurd cc
+right_models told method.Patch body p e there = absurd cc
+right_models told method.Put body p e there = absurd cc
 
-right_model : (m : Method) (part body : List ℕ) (p : Prepared) → AsksModel m part body p → IsRight p
-right_model method.Get part body p h =
+right_model : (m : Method) (part body : List ℕ) (p : Prepared) → AsksModel m part body p → has (methods route.Model) m ≡ true → IsRight p
+right_model method.Get part body p h there =
     right_named (NamesModel part) (refusals.BadId 0) (λ id given. given ≡ Ask (asks.GetModel id)) p tt (λ id is e. right_by p (Ask (asks.GetModel id)) e (model_of part id is)) h
-right_model method.Delete part body p h =
+right_model method.Delete part body p h there =
     right_named (NamesModel part) (refusals.BadId 0) (λ id given. given ≡ Ask (asks.DropModel id)) p tt (λ id is e. right_by p (Ask (asks.DropModel id)) e (model_of part id is)) h
-right_model method.Patch part body p h =
+right_model method.Patch part body p h there =
     right_named (NamesModel part) (refusals.BadId 0) (λ id. WithBody body (Marks id)) p tt
     (λ id is. right_body body (Marks id) p (λ v spelled. marked id (model_of part id is) v p)) h
-right_model method.Post part body p e = right_not_built p e
-right_model method.Put part body p e = right_not_built p e
+right_model method.Post part body p e there = absurd cc
+right_model method.Put part body p e there = absurd cc
 
-right_canon : (m : Method) (p : Prepared) → AsksCanon m p → IsRight p
-right_canon method.Get p e = right_by p (Ask asks.Canon) e tt
-right_canon method.Delete p e = right_not_built p e
-right_canon method.Patch p e = right_not_built p e
-right_canon method.Post p e = right_not_built p e
-right_canon method.Put p e = right_not_built p e
+right_canon : (m : Method) (p : Prepared) → AsksCanon m p → has (methods route.Canon) m ≡ true → IsRight p
+right_canon method.Get p e there = right_by p (Ask asks.Canon) e tt
+right_canon method.Delete p e there = absurd cc
+right_canon method.Patch p e there = absurd cc
+right_canon method.Post p e there = absurd cc
+right_canon method.Put p e there = absurd cc
 
-asked : TypesAreTold → (r : Route) (m : Method) (parts : List (List ℕ)) (request : Request) (p : Prepared) → Asks r m parts request p → IsRight p
-asked told route.Models m parts request p h = right_models told m request.body p h
-asked told route.Model m parts request p h = right_model m (part_at 0 parts) request.body p h
-asked told route.Canon m parts request p h = right_canon m p h
-asked told route.Twin m parts request p h = right_twin m (part_at 0 parts) request.body p h
-asked told route.Component m parts request p h = right_part m (part_at 0 parts) (part_at 1 parts) request.body p h
-asked told route.Relationships m parts request p h = right_links m (part_at 0 parts) request.query p h
-asked told route.Relationship m parts request p h = right_link m (part_at 0 parts) (part_at 1 parts) request.body p h
-asked told route.IncomingRelationships m parts request p h = right_incoming m (part_at 0 parts) request.query p h
-asked told route.Query m parts request p e = right_not_built p e
+asked : TypesAreTold → (r : Route) (m : Method) (parts : List (List ℕ)) (request : Request) (p : Prepared) → Asks r m parts request p → has (methods r) m ≡ true → IsRight p
+asked told route.Models m parts request p h there = right_models told m request.body p h there
+asked told route.Model m parts request p h there = right_model m (part_at 0 parts) request.body p h there
+asked told route.Canon m parts request p h there = right_canon m p h there
+asked told route.Twin m parts request p h there = right_twin m (part_at 0 parts) request.body p h there
+asked told route.Component m parts request p h there = right_part m (part_at 0 parts) (part_at 1 parts) request.body p h there
+asked told route.Relationships m parts request p h there = right_links m (part_at 0 parts) request.query p h there
+asked told route.Relationship m parts request p h there = right_link m (part_at 0 parts) (part_at 1 parts) request.body p h there
+asked told route.IncomingRelationships m parts request p h there = right_incoming m (part_at 0 parts) request.query p h there
+asked told route.Query m parts request p h there = right_query m request.body p h there
 
 right : TypesAreTold → (request : Request) (p : Prepared) → IsPrepared request p → IsRight p
 unfolding IsPrepared
 right told request p (inl (none, e)) = right_by p (Own refusals.NoRoute) e tt
 right told request p (inr (r, parts, m, inl (none, e))) = right_by p (Own (refusals.BadMethod (allow_text r))) e (listed r)
-right told request p (inr (r, parts, m, inr (n, is, h))) = asked told r n parts request p h
+right told request p (inr (r, parts, m, inr (n, is, h))) = asked told r n parts request p h (listed_method (methods r) n is.1)
 
 pub sound_ask : TypesAreTold → (request : Request) (ask : ask_type.Ask) → IsPrepared request (Ask ask) → IsSound ask
-sound_ask told request ask h = made_sound ask (right told request (Ask ask) h)
-
-pub no_query : TypesAreTold → (request : Request) (query : Query) (after : Option (List (List ℕ))) → IsPrepared request (Ask (asks.Query query after)) → ⊥
-no_query told request query after h = right told request (Ask (asks.Query query after)) h
+sound_ask told request ask h = right told request (Ask ask) h
 
 pub lists_methods : TypesAreTold → (request : Request) (refusal : Refusal) → IsPrepared request (Own refusal) → ListsMethods refusal
 lists_methods told request refusal h = right told request (Own refusal) h

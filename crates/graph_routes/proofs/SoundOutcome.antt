@@ -1,7 +1,8 @@
 -- What comes of one thing in a request is right.
-use Rattle.std.proofs.Common.{◌≡◌, ℕ, List, Option, None, sym, subst, inl, inr}
+use Rattle.std.proofs.Common.{◌≡◌, ℕ, List, Option, Some, None, sym, subst, inl, inr}
 use Rattle.json_tree.specs.Values.{Json}
 use Rattle.json_tree.specs.Grammar.{Spells}
+use Rattle.http_ends.specs.Replies.{IsAllowed}
 use Rattle.json_read.specs.declared.fault.JsonFault.{JsonFault}
 use Rattle.json_read.specs.declared.fault.JsonFault.TheVariants as faults
 use Rattle.local_rules.specs.Members.{members_in}
@@ -10,7 +11,6 @@ use Rattle.twin_patch.specs.declared.patch.Patch.{Patch}
 use Rattle.twin_value.specs.Breaches.{HasNoBreach}
 use Rattle.twin_value.specs.declared.code.BodyCode.{BodyCode}
 use Rattle.graph_asks.specs.declared.ask.Ask as ask_type
-use Rattle.graph_asks.specs.declared.ask.Ask.TheVariants as asks
 use Rattle.graph_asks.specs.declared.refusal.Refusal.{Refusal}
 use Rattle.graph_asks.specs.declared.refusal.Refusal.TheVariants as refusals
 use Rattle.graph_steps.specs.Soundness.{IsReadPatch, IsReadValue, IsSound}
@@ -23,18 +23,9 @@ use Rattle.graph_routes.specs.declared.prepared.Prepared.TheVariants.{Ask, Own}
 use Rattle.graph_routes.proofs.DistinctKeys.{spelled_distinct}
 use Rattle.graph_routes.proofs.Nested.{spelled_nests}
 
--- Sound, and no query.
-abbrev pub IsMade : ask_type.Ask → Type 0
-IsMade (asks.Query query after) = ⊥
-IsMade ask = IsSound ask
-
-pub made_sound : (ask : ask_type.Ask) → IsMade ask → IsSound ask
-made_sound (asks.Query query after) h = absurd h
-made_sound ask h = h
-
--- What is right of an answer: its ask is sound and no query, or its refusal lists the methods of a path.
+-- What is right of an answer: its ask is sound, or its refusal lists the methods of a path, if it lists any.
 abbrev pub IsRight : Prepared → Type 0
-IsRight (Ask ask) = IsMade ask
+IsRight (Ask ask) = IsSound ask
 IsRight (Own refusal) = ListsMethods refusal
 
 pub right_by : (p q : Prepared) → p ≡ q → IsRight q → IsRight p
@@ -59,7 +50,7 @@ pub right_body : (body : List ℕ) (Gives : Json → Prepared → Type 0) (p : P
 right_body body Gives p right (inl (r, (fault, is, x), e)) = right_by p (Own r) e (for_fault body fault r x)
 right_body body Gives p right (inr (v, spelled, h)) = right v spelled h
 
-pub right_patch : (of : PatchOf) (ask : Patch → ask_type.Ask) (v : Json) (p : Prepared) → IsReadValue v → ((patch : Patch) → IsReadPatch of patch → IsMade (ask patch)) → WithPatch of ask v p → IsRight p
+pub right_patch : (of : PatchOf) (ask : Patch → ask_type.Ask) (v : Json) (p : Prepared) → IsReadValue v → ((patch : Patch) → IsReadPatch of patch → IsSound (ask patch)) → WithPatch of ask v p → IsRight p
 right_patch of ask v p read sound (inl (r, (index, code, h, x), e)) = right_by p (Own r) e (subst ListsMethods (sym x) tt)
 right_patch of ask v p read sound (inr (patch, is, e)) = right_by p (Ask (ask patch)) e (sound patch (v, read, is))
 

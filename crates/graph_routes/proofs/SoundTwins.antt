@@ -1,5 +1,5 @@
 -- The asks on twins, components and relationships that requests make are sound.
-use Rattle.std.proofs.Common.{◌≡◌, ℕ, List, [], ◌∷◌, Option, Some, None, refl, sym, subst}
+use Rattle.std.proofs.Common.{◌≡◌, ℕ, List, [], ◌∷◌, Option, Some, None, true, refl, sym, subst}
 use Rattle.std.specs.Prelude.{IfSome, codes}
 use Rattle.std.specs.List.{AllByRecursion}
 use Rattle.json_tree.specs.Values.{Json}
@@ -11,6 +11,7 @@ use Rattle.page_tokens.specs.Tokens.{NamesId, NameIds, token_parts}
 use Rattle.graph_asks.specs.declared.ask.Ask.TheVariants as asks
 use Rattle.graph_asks.specs.declared.refusal.Refusal.TheVariants as refusals
 use Rattle.graph_steps.specs.Soundness.{IsLinkBody, IsReadValue, IsTwinBody}
+use Rattle.graph_routes.specs.Methods.{methods}
 use Rattle.graph_routes.specs.Parts.{NamesComponent}
 use Rattle.graph_routes.specs.Identifiers.{link_ids, twin_ids}
 use Rattle.graph_routes.specs.Outcomes.{Named, WithBody}
@@ -20,12 +21,11 @@ use Rattle.graph_routes.specs.LinkRequests.{AsksIncoming, AsksLink, AsksLinks, P
 use Rattle.graph_routes.specs.declared.method.Method.{Method}
 use Rattle.graph_routes.specs.declared.method.Method.TheVariants as method
 use Rattle.graph_routes.specs.declared.prepared.Prepared.{Prepared}
-use Rattle.graph_routes.specs.declared.prepared.Prepared.TheVariants.{Ask, Own}
+use Rattle.graph_routes.specs.declared.prepared.Prepared.TheVariants.{Ask}
+use Rattle.graph_routes.specs.declared.route.Route.TheVariants as route
+use Rattle.graph_routes.proofs.Listed.{has}
 use Rattle.graph_routes.proofs.Agreeing.{agrees}
 use Rattle.graph_routes.proofs.SoundOutcome.{IsRight, read_value, right_body, right_by, right_named, right_patch, right_value}
-
-pub right_not_built : (p : Prepared) → p ≡ Own refusals.NotBuilt → IsRight p
-right_not_built p e = right_by p (Own refusals.NotBuilt) e tt
 
 -- ---- parts
 right_id : (at : ℕ) (part : List ℕ) (Gives : List ℕ → Prepared → Type 0) (p : Prepared) → ((id : List ℕ) → IsTwinId id → Gives id p → IsRight p) → WithId at part Gives p → IsRight p
@@ -48,25 +48,25 @@ right_taken id v p is read h = right_value (IsOuterBreach v) (twin_ids id) v (Ta
       }),
     )) h
 
-pub right_twin : (m : Method) (part body : List ℕ) (p : Prepared) → AsksTwin m part body p → IsRight p
-right_twin method.Get part body p h = right_id 0 part (λ id given. given ≡ Ask (asks.GetTwin id)) p (λ id is e. right_by p (Ask (asks.GetTwin id)) e is) h
-right_twin method.Delete part body p h = right_id 0 part (λ id given. given ≡ Ask (asks.DropTwin id)) p (λ id is e. right_by p (Ask (asks.DropTwin id)) e is) h
-right_twin method.Put part body p h = right_id 0 part (λ id. WithBody body (PutsTwin id)) p
+pub right_twin : (m : Method) (part body : List ℕ) (p : Prepared) → AsksTwin m part body p → has (methods route.Twin) m ≡ true → IsRight p
+right_twin method.Get part body p h there = right_id 0 part (λ id given. given ≡ Ask (asks.GetTwin id)) p (λ id is e. right_by p (Ask (asks.GetTwin id)) e is) h
+right_twin method.Delete part body p h there = right_id 0 part (λ id given. given ≡ Ask (asks.DropTwin id)) p (λ id is e. right_by p (Ask (asks.DropTwin id)) e is) h
+right_twin method.Put part body p h there = right_id 0 part (λ id. WithBody body (PutsTwin id)) p
     (λ id is. right_body body (PutsTwin id) p (λ v spelled. right_taken id v p is (read_value body v spelled))) h
-right_twin method.Patch part body p h = right_id 0 part (λ id. WithBody body (PatchesTwin id)) p
+right_twin method.Patch part body p h there = right_id 0 part (λ id. WithBody body (PatchesTwin id)) p
     (λ id is. right_body body (PatchesTwin id) p (λ v spelled. right_patch patches.Twin (λ (patch : Patch). asks.PatchTwin id patch) v p (read_value body v spelled) (λ patch r. (is, r)))) h
-right_twin method.Post part body p e = right_not_built p e
+right_twin method.Post part body p e there = absurd cc
 
-pub right_part : (m : Method) (part second body : List ℕ) (p : Prepared) → AsksPart m part second body p → IsRight p
-right_part method.Get part second body p h = right_id 0 part (λ id. WithComponent second (λ name given. given ≡ Ask (asks.GetPart id name))) p
+pub right_part : (m : Method) (part second body : List ℕ) (p : Prepared) → AsksPart m part second body p → has (methods route.Component) m ≡ true → IsRight p
+right_part method.Get part second body p h there = right_id 0 part (λ id. WithComponent second (λ name given. given ≡ Ask (asks.GetPart id name))) p
     (λ id is. right_component second (λ name given. given ≡ Ask (asks.GetPart id name)) p (λ name named e. right_by p (Ask (asks.GetPart id name)) e (is, named.grammar))) h
-right_part method.Patch part second body p h = right_id 0 part (λ id. WithComponent second (λ name. WithBody body (PatchesPart id name))) p
+right_part method.Patch part second body p h there = right_id 0 part (λ id. WithComponent second (λ name. WithBody body (PatchesPart id name))) p
     (λ id is. right_component second (λ name. WithBody body (PatchesPart id name)) p
     (λ name named. right_body body (PatchesPart id name) p
     (λ v spelled. right_patch patches.Part (λ (patch : Patch). asks.PatchPart id name patch) v p (read_value body v spelled) (λ patch r. (is, named.grammar, r))))) h
-right_part method.Delete part second body p e = right_not_built p e
-right_part method.Post part second body p e = right_not_built p e
-right_part method.Put part second body p e = right_not_built p e
+right_part method.Delete part second body p e there = absurd cc
+right_part method.Post part second body p e there = absurd cc
+right_part method.Put part second body p e there = absurd cc
 
 -- ---- relationships
 right_led : (source id : List ℕ) (v : Json) (p : Prepared) → IsTwinId source → IsTwinId id → IsReadValue v → PutsLink source id v p → IsRight p
@@ -86,19 +86,19 @@ right_led source id v p from is read h = right_value (IsOuterLinkBreach v) (link
       }),
     )) h
 
-pub right_link : (m : Method) (part second body : List ℕ) (p : Prepared) → AsksLink m part second body p → IsRight p
-right_link method.Get part second body p h = right_id 0 part (λ source. WithId 1 second (λ id given. given ≡ Ask (asks.GetRel source id))) p
+pub right_link : (m : Method) (part second body : List ℕ) (p : Prepared) → AsksLink m part second body p → has (methods route.Relationship) m ≡ true → IsRight p
+right_link method.Get part second body p h there = right_id 0 part (λ source. WithId 1 second (λ id given. given ≡ Ask (asks.GetRel source id))) p
     (λ source from. right_id 1 second (λ id given. given ≡ Ask (asks.GetRel source id)) p (λ id is e. right_by p (Ask (asks.GetRel source id)) e (from, is))) h
-right_link method.Delete part second body p h = right_id 0 part (λ source. WithId 1 second (λ id given. given ≡ Ask (asks.DropRel source id))) p
+right_link method.Delete part second body p h there = right_id 0 part (λ source. WithId 1 second (λ id given. given ≡ Ask (asks.DropRel source id))) p
     (λ source from. right_id 1 second (λ id given. given ≡ Ask (asks.DropRel source id)) p (λ id is e. right_by p (Ask (asks.DropRel source id)) e (from, is))) h
-right_link method.Put part second body p h = right_id 0 part (λ source. WithId 1 second (λ id. WithBody body (PutsLink source id))) p
+right_link method.Put part second body p h there = right_id 0 part (λ source. WithId 1 second (λ id. WithBody body (PutsLink source id))) p
     (λ source from. right_id 1 second (λ id. WithBody body (PutsLink source id)) p
     (λ id is. right_body body (PutsLink source id) p (λ v spelled. right_led source id v p from is (read_value body v spelled)))) h
-right_link method.Patch part second body p h = right_id 0 part (λ source. WithId 1 second (λ id. WithBody body (PatchesLink source id))) p
+right_link method.Patch part second body p h there = right_id 0 part (λ source. WithId 1 second (λ id. WithBody body (PatchesLink source id))) p
     (λ source from. right_id 1 second (λ id. WithBody body (PatchesLink source id)) p
     (λ id is. right_body body (PatchesLink source id) p
     (λ v spelled. right_patch patches.Rel (λ (patch : Patch). asks.PatchRel source id patch) v p (read_value body v spelled) (λ patch r. (from, is, r))))) h
-right_link method.Post part second body p e = right_not_built p e
+right_link method.Post part second body p e there = absurd cc
 
 -- ---- pages
 ids_are : (parts ids : List (List ℕ)) → NameIds parts ids → AllByRecursion IsTwinId ids
@@ -120,22 +120,22 @@ past_pair_is (Some token) after (source, id, is, e) =
     let both = ids_are (token_parts token) (source ∷ id ∷ []) is.named in
     subst AreIds (sym e) (both.0, both.1.0)
 
-pub right_links : (m : Method) (part query : List ℕ) (p : Prepared) → AsksLinks m part query p → IsRight p
-right_links method.Get part query p h =
+pub right_links : (m : Method) (part query : List ℕ) (p : Prepared) → AsksLinks m part query p → has (methods route.Relationships) m ≡ true → IsRight p
+right_links method.Get part query p h there =
     right_id 0 part (λ source. Named (BeginsPast (token_given query)) refusals.BadToken (λ after given. given ≡ Ask (asks.ListOut source (name_asked query) after))) p
     (λ source from. right_named (BeginsPast (token_given query)) refusals.BadToken (λ after given. given ≡ Ask (asks.ListOut source (name_asked query) after)) p tt
     (λ after is e. right_by p (Ask (asks.ListOut source (name_asked query) after)) e (from, past_is (token_given query) after is))) h
-right_links method.Delete part query p e = right_not_built p e
-right_links method.Patch part query p e = right_not_built p e
-right_links method.Post part query p e = right_not_built p e
-right_links method.Put part query p e = right_not_built p e
+right_links method.Delete part query p e there = absurd cc
+right_links method.Patch part query p e there = absurd cc
+right_links method.Post part query p e there = absurd cc
+right_links method.Put part query p e there = absurd cc
 
-pub right_incoming : (m : Method) (part query : List ℕ) (p : Prepared) → AsksIncoming m part query p → IsRight p
-right_incoming method.Get part query p h =
+pub right_incoming : (m : Method) (part query : List ℕ) (p : Prepared) → AsksIncoming m part query p → has (methods route.IncomingRelationships) m ≡ true → IsRight p
+right_incoming method.Get part query p h there =
     right_id 0 part (λ target. Named (BeginsPastPair (token_given query)) refusals.BadToken (λ after given. given ≡ Ask (asks.ListIn target after))) p
     (λ target to. right_named (BeginsPastPair (token_given query)) refusals.BadToken (λ after given. given ≡ Ask (asks.ListIn target after)) p tt
     (λ after is e. right_by p (Ask (asks.ListIn target after)) e (to, past_pair_is (token_given query) after is))) h
-right_incoming method.Delete part query p e = right_not_built p e
-right_incoming method.Patch part query p e = right_not_built p e
-right_incoming method.Post part query p e = right_not_built p e
-right_incoming method.Put part query p e = right_not_built p e
+right_incoming method.Delete part query p e there = absurd cc
+right_incoming method.Patch part query p e there = absurd cc
+right_incoming method.Post part query p e there = absurd cc
+right_incoming method.Put part query p e there = absurd cc

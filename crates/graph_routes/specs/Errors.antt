@@ -11,7 +11,6 @@ use Rattle.graph_asks.specs.declared.refusal.Refusal.TheVariants as refusals
 abbrev pub status_of : Refusal → ℕ
 status_of refusals.NoRoute = 404
 status_of (refusals.BadMethod allow) = 405
-status_of refusals.NotBuilt = 501
 status_of refusals.BadHead = 400
 status_of refusals.CutOff = 400
 status_of refusals.TransferCoding = 501
@@ -67,7 +66,6 @@ placed (Some place) members = place_member place ∷ members
 abbrev pub members_of : Refusal → List (List ℕ)
 members_of refusals.NoRoute = code (codes "NoRoute") ∷ []
 members_of (refusals.BadMethod allow) = code (codes "BadMethod") ∷ []
-members_of refusals.NotBuilt = code (codes "NotBuilt") ∷ []
 members_of refusals.BadHead = code (codes "BadHead") ∷ []
 members_of refusals.CutOff = code (codes "CutOff") ∷ []
 members_of refusals.TransferCoding = code (codes "TransferCoding") ∷ []

@@ -8,6 +8,7 @@ pub mod Outcomes
 pub mod ModelRequests
 pub mod TwinRequests
 pub mod LinkRequests
+pub mod QueryRequests
 pub mod Prepared
 pub mod Errors
 pub mod Responses

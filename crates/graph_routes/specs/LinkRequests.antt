@@ -10,13 +10,14 @@ use Rattle.twin_value.specs.Breaches.{IsOuterLinkBreach, IsTwinId, text_under}
 use Rattle.graph_asks.specs.declared.ask.Ask.TheVariants as asks
 use Rattle.graph_asks.specs.declared.refusal.Refusal.TheVariants as refusals
 use Rattle.graph_routes.specs.Identifiers.{link_ids}
-use Rattle.graph_routes.specs.Outcomes.{Named, WithBody, WithPatch, WithValue}
+use Rattle.graph_routes.specs.Outcomes.{Named, WithBody, WithPatch, WithValue, not_allowed}
 use Rattle.graph_routes.specs.Parameters.{BeginsPast, BeginsPastPair, name_asked, token_given}
 use Rattle.graph_routes.specs.TwinRequests.{WithId}
 use Rattle.graph_routes.specs.declared.method.Method.{Method}
 use Rattle.graph_routes.specs.declared.method.Method.TheVariants as method
 use Rattle.graph_routes.specs.declared.prepared.Prepared.{Prepared}
 use Rattle.graph_routes.specs.declared.prepared.Prepared.TheVariants.{Ask, Own}
+use Rattle.graph_routes.specs.declared.route.Route.TheVariants as route
 
 -- The ask with the value as a relationship of this source and id, of the name and to the target that the value gives.
 abbrev pub TakesLink : List ℕ → List ℕ → Json → Prepared → Type 0
@@ -37,16 +38,16 @@ AsksLink method.Get part second body answer = WithId 0 part (λ source. WithId 1
 AsksLink method.Put part second body answer = WithId 0 part (λ source. WithId 1 second (λ id. WithBody body (PutsLink source id))) answer
 AsksLink method.Patch part second body answer = WithId 0 part (λ source. WithId 1 second (λ id. WithBody body (PatchesLink source id))) answer
 AsksLink method.Delete part second body answer = WithId 0 part (λ source. WithId 1 second (λ id given. given ≡ Ask (asks.DropRel source id))) answer
-AsksLink other part second body answer = answer ≡ Own refusals.NotBuilt
+AsksLink other part second body answer = answer ≡ not_allowed route.Relationship
 
 -- `/digitaltwins/{id}/relationships` with this part and these parameters.
 abbrev pub AsksLinks : Method → List ℕ → List ℕ → Prepared → Type 0
 AsksLinks method.Get part query answer = WithId 0 part
     (λ source. Named (BeginsPast (token_given query)) refusals.BadToken (λ after given. given ≡ Ask (asks.ListOut source (name_asked query) after))) answer
-AsksLinks other part query answer = answer ≡ Own refusals.NotBuilt
+AsksLinks other part query answer = answer ≡ not_allowed route.Relationships
 
 -- `/digitaltwins/{id}/incomingrelationships` with this part and these parameters.
 abbrev pub AsksIncoming : Method → List ℕ → List ℕ → Prepared → Type 0
 AsksIncoming method.Get part query answer = WithId 0 part
     (λ target. Named (BeginsPastPair (token_given query)) refusals.BadToken (λ after given. given ≡ Ask (asks.ListIn target after))) answer
-AsksIncoming other part query answer = answer ≡ Own refusals.NotBuilt
+AsksIncoming other part query answer = answer ≡ not_allowed route.IncomingRelationships

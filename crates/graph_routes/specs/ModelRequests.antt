@@ -9,11 +9,12 @@ use Rattle.graph_asks.specs.declared.refusal.Refusal.{Refusal}
 use Rattle.graph_asks.specs.declared.refusal.Refusal.TheVariants as refusals
 use Rattle.graph_routes.specs.Parts.{NamesModel}
 use Rattle.graph_routes.specs.Bodies.{DeclaresModels, IsTooMany, RefusesModels, RefusesPatch, SetsMark, most_models}
-use Rattle.graph_routes.specs.Outcomes.{Named, WithBody}
+use Rattle.graph_routes.specs.Outcomes.{Named, WithBody, not_allowed}
 use Rattle.graph_routes.specs.declared.method.Method.{Method}
 use Rattle.graph_routes.specs.declared.method.Method.TheVariants as method
 use Rattle.graph_routes.specs.declared.prepared.Prepared.{Prepared}
 use Rattle.graph_routes.specs.declared.prepared.Prepared.TheVariants.{Ask, Own}
+use Rattle.graph_routes.specs.declared.route.Route.TheVariants as route
 
 -- Models to put.
 abbrev pub PutsModels : Json → Prepared → Type 0
@@ -34,16 +35,16 @@ WithModel part Gives answer = Named (NamesModel part) (refusals.BadId 0) Gives a
 abbrev pub AsksModels : Method → List ℕ → Prepared → Type 0
 AsksModels method.Get body answer = answer ≡ Ask asks.ListModels
 AsksModels method.Post body answer = WithBody body PutsModels answer
-AsksModels other body answer = answer ≡ Own refusals.NotBuilt
+AsksModels other body answer = answer ≡ not_allowed route.Models
 
 -- `/models/{id}` with this part and body.
 abbrev pub AsksModel : Method → List ℕ → List ℕ → Prepared → Type 0
 AsksModel method.Get part body answer = WithModel part (λ id given. given ≡ Ask (asks.GetModel id)) answer
 AsksModel method.Patch part body answer = WithModel part (λ id. WithBody body (Marks id)) answer
 AsksModel method.Delete part body answer = WithModel part (λ id given. given ≡ Ask (asks.DropModel id)) answer
-AsksModel other part body answer = answer ≡ Own refusals.NotBuilt
+AsksModel other part body answer = answer ≡ not_allowed route.Model
 
 -- `/canon`.
 abbrev pub AsksCanon : Method → Prepared → Type 0
 AsksCanon method.Get answer = answer ≡ Ask asks.Canon
-AsksCanon other answer = answer ≡ Own refusals.NotBuilt
+AsksCanon other answer = answer ≡ not_allowed route.Canon

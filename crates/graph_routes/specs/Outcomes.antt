@@ -15,8 +15,14 @@ use Rattle.graph_asks.specs.declared.refusal.Refusal.TheVariants as refusals
 use Rattle.graph_steps.specs.TwinAsks.{BodyFault}
 use Rattle.graph_routes.specs.Bodies.{RefusesJson, RefusesPatch}
 use Rattle.graph_routes.specs.Identifiers.{first_difference}
+use Rattle.graph_routes.specs.Methods.{allow_text}
 use Rattle.graph_routes.specs.declared.prepared.Prepared.{Prepared}
 use Rattle.graph_routes.specs.declared.prepared.Prepared.TheVariants.{Ask, Own}
+use Rattle.graph_routes.specs.declared.route.Route.{Route}
+
+-- The refusal of a method that a path does not have; it lists those that the path has.
+abbrev pub not_allowed : Route → Prepared
+not_allowed r = Own (refusals.BadMethod (allow_text r))
 
 -- What has to name something: the refusal where it names nothing, or what comes of that which it names.
 abbrev pub Named : {A : Type 0} → (A → Type 0) → Refusal → (A → Prepared → Type 0) → Prepared → Type 0

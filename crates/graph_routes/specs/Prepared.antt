@@ -1,16 +1,19 @@
 -- The ask that a request makes, or the refusal that its own bytes decide. The refusals are decided in this order: no such
--- path, no such method, not built, the first part that is no identifier, a parameter that is no token, a body that is no JSON
--- text, too many models, the faults of models, patches and bodies, and identifiers that differ from those of the path.
+-- path, no such method, the first part that is no identifier, a parameter that is no token, a body that is no JSON text, too many
+-- models, the faults of models, patches and bodies, identifiers that differ from those of the path, a text that is no query, and
+-- a token in a body that is none.
 use Rattle.std.specs.Prelude.{◌≡◌, ◌⊎◌, ℕ, List, Contains}
 use Rattle.http_ends.specs.declared.request.Request.{Request}
 use Rattle.graph_asks.specs.Asks.{AreOneAsk}
 use Rattle.graph_asks.specs.declared.refusal.Refusal.TheVariants as refusals
 use Rattle.graph_routes.specs.Paths.{Matches}
-use Rattle.graph_routes.specs.Methods.{allow_text, method_text, methods}
+use Rattle.graph_routes.specs.Methods.{method_text, methods}
+use Rattle.graph_routes.specs.Outcomes.{not_allowed}
 use Rattle.graph_routes.specs.Parts.{part_at}
 use Rattle.graph_routes.specs.ModelRequests.{AsksCanon, AsksModel, AsksModels}
 use Rattle.graph_routes.specs.TwinRequests.{AsksPart, AsksTwin}
 use Rattle.graph_routes.specs.LinkRequests.{AsksIncoming, AsksLink, AsksLinks}
+use Rattle.graph_routes.specs.QueryRequests.{AsksQuery}
 use Rattle.graph_routes.specs.declared.method.Method.{Method}
 use Rattle.graph_routes.specs.declared.prepared.Prepared.{Prepared}
 use Rattle.graph_routes.specs.declared.prepared.Prepared.TheVariants.{Ask, Own}
@@ -27,7 +30,7 @@ Asks route.Component m parts request answer = AsksPart m (part_at 0 parts) (part
 Asks route.Relationships m parts request answer = AsksLinks m (part_at 0 parts) request.query answer
 Asks route.Relationship m parts request answer = AsksLink m (part_at 0 parts) (part_at 1 parts) request.body answer
 Asks route.IncomingRelationships m parts request answer = AsksIncoming m (part_at 0 parts) request.query answer
-Asks route.Query m parts request answer = answer ≡ Own refusals.NotBuilt
+Asks route.Query m parts request answer = AsksQuery m request.body answer
 
 -- The name is that of a method which the path has.
 abbrev pub IsMethodOf : Route → List ℕ → Method → Type 0
@@ -35,7 +38,7 @@ IsMethodOf r name m = (name ≡ method_text m) × Contains (methods r) m
 
 -- What is asked of a path of the table.
 abbrev pub AsksOf : Route → List (List ℕ) → Request → Prepared → Type 0
-AsksOf r parts request answer = (((m : Method) → IsMethodOf r request.method m → ⊥) × (answer ≡ Own (refusals.BadMethod (allow_text r))))
+AsksOf r parts request answer = (((m : Method) → IsMethodOf r request.method m → ⊥) × (answer ≡ not_allowed r))
     ⊎ ((m : Method) × IsMethodOf r request.method m × Asks r m parts request answer)
 
 -- The request is this ask, or its bytes decide this refusal.

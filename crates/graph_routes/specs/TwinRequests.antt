@@ -14,11 +14,12 @@ use Rattle.graph_asks.specs.declared.refusal.Refusal.TheVariants as refusals
 use Rattle.graph_steps.specs.Soundness.{IsModelOf}
 use Rattle.graph_routes.specs.Parts.{NamesComponent}
 use Rattle.graph_routes.specs.Identifiers.{twin_ids}
-use Rattle.graph_routes.specs.Outcomes.{Named, WithBody, WithPatch, WithValue}
+use Rattle.graph_routes.specs.Outcomes.{Named, WithBody, WithPatch, WithValue, not_allowed}
 use Rattle.graph_routes.specs.declared.method.Method.{Method}
 use Rattle.graph_routes.specs.declared.method.Method.TheVariants as method
 use Rattle.graph_routes.specs.declared.prepared.Prepared.{Prepared}
 use Rattle.graph_routes.specs.declared.prepared.Prepared.TheVariants.{Ask, Own}
+use Rattle.graph_routes.specs.declared.route.Route.TheVariants as route
 
 -- The part of a path at this position, which has to name a twin or a relationship.
 abbrev pub WithId : ℕ → List ℕ → (List ℕ → Prepared → Type 0) → Prepared → Type 0
@@ -49,10 +50,10 @@ AsksTwin method.Get part body answer = WithId 0 part (λ id given. given ≡ Ask
 AsksTwin method.Put part body answer = WithId 0 part (λ id. WithBody body (PutsTwin id)) answer
 AsksTwin method.Patch part body answer = WithId 0 part (λ id. WithBody body (PatchesTwin id)) answer
 AsksTwin method.Delete part body answer = WithId 0 part (λ id given. given ≡ Ask (asks.DropTwin id)) answer
-AsksTwin other part body answer = answer ≡ Own refusals.NotBuilt
+AsksTwin other part body answer = answer ≡ not_allowed route.Twin
 
 -- `/digitaltwins/{id}/components/{name}` with these parts and this body.
 abbrev pub AsksPart : Method → List ℕ → List ℕ → List ℕ → Prepared → Type 0
 AsksPart method.Get part second body answer = WithId 0 part (λ id. WithComponent second (λ name given. given ≡ Ask (asks.GetPart id name))) answer
 AsksPart method.Patch part second body answer = WithId 0 part (λ id. WithComponent second (λ name. WithBody body (PatchesPart id name))) answer
-AsksPart other part second body answer = answer ≡ Own refusals.NotBuilt
+AsksPart other part second body answer = answer ≡ not_allowed route.Component

@@ -2,17 +2,19 @@
 
 ghost use Rattle.std.specs.Prelude.{◌≡◌, ℕ, List, IfOk};
 ghost use Rattle.graph_routes.specs.ModelRequests.{AsksCanon, AsksModel, AsksModels};
+ghost use Rattle.graph_routes.specs.Outcomes.{not_allowed};
 ghost use Rattle.graph_routes.specs.Paths.{Matches};
 ghost use Rattle.graph_routes.specs.Prepared.{Asks};
 
 use crate::bodies::{marks, puts_models};
 use crate::links::{asked_of_incoming, asked_of_link, asked_of_links};
-use crate::method::Method;
+use crate::method::{Method, allow_text};
 use crate::parts::{first_part, model_named, second_part};
 use crate::prepared::Prepared;
+use crate::queries::asked_of_query;
 use crate::route::Route;
 use crate::twins::{asked_of_part, asked_of_twin};
-use dt_base::OutOfMemory;
+use dt_base::{OutOfMemory, Text};
 use graph_asks::{Ask, Refusal};
 use http_ends::Request;
 use std::alloc::Global;
@@ -22,6 +24,15 @@ pub fn bad_id(part: u64) -> Prepared
     ensures { result ≡ Prepared.Own (Refusal.BadId part) }
 {
     Prepared::Own(Refusal::BadId { part })
+}
+
+/// The refusal of a method that a path does not have. Fails only for want of memory.
+pub fn not_allowed(alloc: Global, route: Route) -> Result<Prepared, OutOfMemory>
+    ensures { IfOk result (λ answer. answer ≡ not_allowed route) }
+{
+    Ok(Prepared::Own(Refusal::BadMethod {
+        allow: Text::from_str(alloc, allow_text(route))?,
+    }))
 }
 
 fn get_model(alloc: Global, part: &str) -> Result<Prepared, OutOfMemory>
@@ -58,7 +69,7 @@ fn asked_of_models(alloc: Global, method: Method, body: &[u8]) -> Result<Prepare
     match method {
         Method::Get => Ok(Prepared::Ask(Ask::ListModels)),
         Method::Post => puts_models(alloc, body),
-        Method::Delete | Method::Patch | Method::Put => Ok(Prepared::Own(Refusal::NotBuilt)),
+        Method::Delete | Method::Patch | Method::Put => not_allowed(alloc, Route::Models),
     }
 }
 
@@ -75,18 +86,18 @@ fn asked_of_model(
         Method::Get => get_model(alloc, part),
         Method::Patch => patch_model(alloc, part, body),
         Method::Delete => drop_model(alloc, part),
-        Method::Post | Method::Put => Ok(Prepared::Own(Refusal::NotBuilt)),
+        Method::Post | Method::Put => not_allowed(alloc, Route::Model),
     }
 }
 
 /// What a method asks of `/canon`.
-fn asked_of_canon(method: Method) -> Prepared
-    ensures { AsksCanon method result }
+fn asked_of_canon(alloc: Global, method: Method) -> Result<Prepared, OutOfMemory>
+    ensures { IfOk result (AsksCanon method) }
 {
     match method {
-        Method::Get => Prepared::Ask(Ask::Canon),
+        Method::Get => Ok(Prepared::Ask(Ask::Canon)),
         Method::Delete | Method::Patch | Method::Post | Method::Put => {
-            Prepared::Own(Refusal::NotBuilt)
+            not_allowed(alloc, Route::Canon)
         }
     }
 }
@@ -107,12 +118,12 @@ pub fn asked(
     match route {
         Route::Models => asked_of_models(alloc, method, body),
         Route::Model => asked_of_model(alloc, method, part, body),
-        Route::Canon => Ok(asked_of_canon(method)),
+        Route::Canon => asked_of_canon(alloc, method),
         Route::Twin => asked_of_twin(alloc, method, part, body),
         Route::Component => asked_of_part(alloc, method, part, second_part(path), body),
         Route::Relationships => asked_of_links(alloc, method, part, query),
         Route::Relationship => asked_of_link(alloc, method, part, second_part(path), body),
         Route::IncomingRelationships => asked_of_incoming(alloc, method, part, query),
-        Route::Query => Ok(Prepared::Own(Refusal::NotBuilt)),
+        Route::Query => asked_of_query(alloc, method, body),
     }
 }

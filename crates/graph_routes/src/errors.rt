@@ -162,7 +162,6 @@ pub fn body_of(alloc: Global, refusal: &Refusal) -> Result<List<u8>, OutOfMemory
     match refusal {
         Refusal::NoRoute => bare(alloc, "NoRoute"),
         Refusal::BadMethod { allow: _ } => bare(alloc, "BadMethod"),
-        Refusal::NotBuilt => bare(alloc, "NotBuilt"),
         Refusal::BadHead => bare(alloc, "BadHead"),
         Refusal::CutOff => bare(alloc, "CutOff"),
         Refusal::TransferCoding => bare(alloc, "TransferCoding"),

@@ -1,10 +1,7 @@
 //! What the definitions of prepared requests say, whatever is asked.
 
-ghost use Rattle.std.specs.Prelude.{ℕ, List, Option};
-ghost use Rattle.query_terms.specs.declared.query.Query.{Query};
 ghost use Rattle.http_ends.specs.declared.request.Request.{Request};
 ghost use Rattle.graph_asks.specs.declared.ask.Ask.{Ask};
-ghost use Rattle.graph_asks.specs.declared.ask.Ask.TheVariants as asks;
 ghost use Rattle.graph_asks.specs.declared.refusal.Refusal.{Refusal};
 ghost use Rattle.graph_routes.specs.Prepared.{ArePreparedAlike, IsPrepared};
 ghost use Rattle.graph_routes.specs.Responses.{ListsMethods};
@@ -17,7 +14,7 @@ use json_decimal::one_number;
 use twin_patch::one_answer;
 
 /// A request makes at most one ask, or its bytes decide at most one refusal, and never both. Two asks are one but for where
-/// their trees and patches lie in memory.
+/// their trees, patches and queries lie in memory.
 pub fn one_prepared()
     ensures { (request : Request) (p q : Prepared) → IsPrepared request p → IsPrepared request q → ArePreparedAlike p q }
 {
@@ -25,11 +22,9 @@ pub fn one_prepared()
     one_answer();
 }
 
-/// What is made of a request can be used: an ask is sound, none is made for a query, which is not built, and a refusal can be
-/// written as a reply.
+/// What is made of a request can be used: an ask is sound, and a refusal can be written as a reply.
 pub fn prepared_is_right()
     ensures sound { (request : Request) (ask : Ask) → IsPrepared request (made.Ask ask) → IsSound ask }
-    ensures built { (request : Request) (query : Query) (after : Option (List (List ℕ))) → IsPrepared request (made.Ask (asks.Query query after)) → ⊥ }
     ensures written { (request : Request) (refusal : Refusal) → IsPrepared request (made.Own refusal) → ListsMethods refusal }
 {
     have_types();

@@ -13,6 +13,7 @@ mod parameters;
 mod parts;
 mod patches;
 mod prepared;
+mod queries;
 mod responses;
 mod route;
 mod router;

@@ -7,7 +7,7 @@ ghost use Rattle.twin_value.specs.Breaches.{HasNoBreach, IsOuterLinkBreach, IsTw
 ghost use Rattle.graph_routes.specs.Outcomes.{WithBody};
 ghost use Rattle.graph_routes.specs.LinkRequests.{AsksIncoming, AsksLink, AsksLinks, PatchesLink, PutsLink};
 
-use crate::asks::bad_id;
+use crate::asks::{bad_id, not_allowed};
 use crate::bodies::fault_refusal;
 use crate::differences::{PathIds, difference_refusal};
 use crate::method::Method;
@@ -15,6 +15,7 @@ use crate::outer::link_refusal;
 use crate::parameters::{Page, PairPage, begins_past, begins_past_pair, name_asked};
 use crate::patches::patch_in;
 use crate::prepared::Prepared;
+use crate::route::Route;
 use dt_base::{OutOfMemory, Text};
 use dtmi_name::is_name;
 use graph_asks::{Ask, Refusal};
@@ -157,7 +158,7 @@ pub fn asked_of_link(
         Method::Put => put_link(alloc, part, second, body),
         Method::Patch => patch_link(alloc, part, second, body),
         Method::Delete => drop_link(alloc, part, second),
-        Method::Post => Ok(Prepared::Own(Refusal::NotBuilt)),
+        Method::Post => not_allowed(alloc, Route::Relationship),
     }
 }
 
@@ -190,7 +191,7 @@ pub fn asked_of_links(
     match method {
         Method::Get => list_links(alloc, part, query),
         Method::Delete | Method::Patch | Method::Post | Method::Put => {
-            Ok(Prepared::Own(Refusal::NotBuilt))
+            not_allowed(alloc, Route::Relationships)
         }
     }
 }
@@ -220,7 +221,7 @@ pub fn asked_of_incoming(
     match method {
         Method::Get => list_incoming(alloc, part, query),
         Method::Delete | Method::Patch | Method::Post | Method::Put => {
-            Ok(Prepared::Own(Refusal::NotBuilt))
+            not_allowed(alloc, Route::IncomingRelationships)
         }
     }
 }

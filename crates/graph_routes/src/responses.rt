@@ -24,7 +24,7 @@ fn status_of(refusal: &Refusal) -> u16
         | Refusal::RelationshipNotFound { id: _ }
         | Refusal::ComponentNotFound { id: _ } => 404,
         Refusal::BadMethod { allow: _ } => 405,
-        Refusal::NotBuilt | Refusal::TransferCoding => 501,
+        Refusal::TransferCoding => 501,
         Refusal::BodyTooLong { limit: _ } => 413,
         Refusal::Full { limit: _ } => 507,
         Refusal::ModelExists { id: _ }

@@ -7,11 +7,11 @@ ghost use Rattle.graph_routes.specs.Paths.{Matches};
 ghost use Rattle.graph_routes.specs.Prepared.{AsksOf, IsPrepared};
 ghost use Rattle.graph_routes.specs.declared.route.Route.{Route};
 
-use crate::asks::asked;
-use crate::method::{allow_text, has_method, method_named};
+use crate::asks::{asked, not_allowed};
+use crate::method::{has_method, method_named};
 use crate::prepared::Prepared;
 use crate::route::Route;
-use dt_base::{OutOfMemory, Text};
+use dt_base::OutOfMemory;
 use graph_asks::Refusal;
 use http_ends::Request;
 use matchit::Router;
@@ -55,9 +55,7 @@ fn asked_of(alloc: Global, route: Route, request: &Request) -> Result<Prepared, 
 {
     match method_named(request.method.as_str()) {
         Some(method) if has_method(route, method) => asked(alloc, route, method, request),
-        _ => Ok(Prepared::Own(Refusal::BadMethod {
-            allow: Text::from_str(alloc, allow_text(route))?,
-        })),
+        _ => not_allowed(alloc, route),
     }
 }
 
@@ -104,10 +102,10 @@ impl Routes {
     }
 
     /// The ask that a request makes, or the refusal that its own bytes decide: the path is none of the table, the path
-    /// does not have the method, what is asked for is not built, a part of the path is no identifier, a parameter is no
-    /// token, the body is no JSON text, it lists more than 250 models, a model breaks a local rule, the body is no patch, a
-    /// twin's or relationship's body has a breach that shows without a model, or it gives another identifier than the path;
-    /// of several the first in this order. Fails only for want of memory.
+    /// does not have the method, a part of the path is no identifier, a parameter is no token, the body is no JSON text, it
+    /// lists more than 250 models, a model breaks a local rule, the body is no patch, a twin's or relationship's body has a
+    /// breach that shows without a model, or a query's has any, it gives another identifier than the path, its text is no
+    /// query, or its token is none; of several the first in this order. Fails only for want of memory.
     #[tactic(auto, unfolding(crate::specs::Prepared::IsPrepared))]
     pub fn ask_of(&self, request: &Request) -> Result<Prepared, OutOfMemory>
         ensures { IfOk result (IsPrepared request.now) }

@@ -9,7 +9,7 @@ ghost use Rattle.graph_steps.specs.Soundness.{IsModelOf};
 ghost use Rattle.graph_routes.specs.Outcomes.{WithBody};
 ghost use Rattle.graph_routes.specs.TwinRequests.{AsksPart, AsksTwin, PatchesPart, PatchesTwin, PutsTwin};
 
-use crate::asks::bad_id;
+use crate::asks::{bad_id, not_allowed};
 use crate::bodies::fault_refusal;
 use crate::differences::{PathIds, difference_refusal};
 use crate::method::Method;
@@ -17,9 +17,10 @@ use crate::outer::twin_refusal;
 use crate::parts::{component_named, read_model};
 use crate::patches::patch_in;
 use crate::prepared::Prepared;
+use crate::route::Route;
 use dt_base::{OutOfMemory, Text};
 use dtmi_name::Dtmi;
-use graph_asks::{Ask, Refusal};
+use graph_asks::Ask;
 use json_read::read;
 use json_tree::Tree;
 use local_rules::{members_in, text_at, value_in};
@@ -132,7 +133,7 @@ pub fn asked_of_twin(
         Method::Put => put_twin(alloc, part, body),
         Method::Patch => patch_twin(alloc, part, body),
         Method::Delete => drop_twin(alloc, part),
-        Method::Post => Ok(Prepared::Own(Refusal::NotBuilt)),
+        Method::Post => not_allowed(alloc, Route::Twin),
     }
 }
 
@@ -184,6 +185,6 @@ pub fn asked_of_part(
     match method {
         Method::Get => get_part(alloc, part, second),
         Method::Patch => patch_part(alloc, part, second, body),
-        Method::Delete | Method::Post | Method::Put => Ok(Prepared::Own(Refusal::NotBuilt)),
+        Method::Delete | Method::Post | Method::Put => not_allowed(alloc, Route::Component),
     }
 }

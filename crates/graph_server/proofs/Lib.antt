@@ -1,4 +1,3 @@
-pub mod Sound
 pub mod Methods
 pub mod Answering
 pub mod Unique

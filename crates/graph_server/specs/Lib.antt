@@ -1,2 +1,5 @@
+-- What public contracts cite.
 pub mod Entries
 pub mod Replays
+-- What private clauses and proofs rest on: no public contract speaks of it.
+pub mod Machinery

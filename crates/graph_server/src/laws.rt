@@ -1,23 +1,10 @@
 //! Laws of replays. Each function does nothing but name laws, and its contract is the law.
 
-ghost use Rattle.http_ends.specs.declared.request.Request.{Request};
-ghost use Rattle.graph_asks.specs.declared.ask.Ask.{Ask};
-ghost use Rattle.graph_machine.specs.Built.{IsBuilt};
-ghost use Rattle.graph_routes.specs.Prepared.{IsPrepared};
-ghost use Rattle.graph_routes.specs.declared.prepared.Prepared.TheVariants as prepared;
 ghost use Rattle.graph_server.specs.Replays.{OneReplay};
-ghost use Rattle.graph_steps.specs.Soundness.{IsSound};
 
 use graph_answers::one_step;
 use graph_routes::{one_prepared, prepared_is_right};
 use http_session::{Rules, one_session};
-
-/// What a request asks of a graph is sound, and is an ask that is built.
-pub fn sound_asks()
-    ensures { (request : Request) (ask : Ask) → IsPrepared request (prepared.Ask ask) → IsSound ask × IsBuilt ask }
-{
-    prepared_is_right();
-}
 
 /// What requests are answered with by a graph.
 struct GraphRules;
@@ -48,6 +35,6 @@ pub fn one_replay()
 {
     one_prepared();
     one_step();
-    sound_asks();
+    prepared_is_right();
     one_session::<GraphRules>();
 }

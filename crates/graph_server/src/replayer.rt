@@ -1,12 +1,16 @@
 //! Who answers the requests of a replay.
 
-ghost use Rattle.std.specs.Prelude.{◌≡◌};
+ghost use Rattle.std.specs.Prelude.{◌≡◌, false, IfOk, MatchResult};
 ghost use Rattle.graph_held.specs.Held.{state_of};
+ghost use Rattle.graph_routes.specs.Responses.{ListsMethods, response_to};
+ghost use Rattle.graph_steps.specs.Soundness.{IsSound};
 ghost use Rattle.graph_steps.specs.States.{empty};
-ghost use Rattle.std.specs.Prelude.{IfOk};
+ghost use Rattle.http_session.specs.Answers.{IsWritable};
+ghost use Rattle.http_session.specs.declared.service.Trouble.TheVariants.{NoEntry};
+ghost use Rattle.graph_server.specs.Machinery.Asking.{IsAsked};
 
-use crate::laws::sound_asks;
 use dt_base::{Object, OutOfMemory};
+use graph_asks::{Ask, Refusal};
 use graph_machine::Machine;
 use graph_routes::{Prepared, Routes, prepared_is_right, response_of, response_of_refusal};
 use http_ends::Request;
@@ -32,6 +36,39 @@ impl Replayer {
             machine: Machine::new(alloc),
         })
     }
+
+    /// Asks the graph, and answers with its reply.
+    fn answer_of_graph(&mut self, ask: &Ask) -> Result<Answer, Trouble>
+        requires { IsSound ask.now }
+        ensures asked { IsAsked (state_of self.old.machine) ask.now (state_of self.new.machine) result }
+        ensures writable { IfOk result (λ answer. IsWritable answer.response) }
+    {
+        let Ok(reply) = self.machine.step(ask) else {
+            return Err(Trouble::NoEntry);
+        };
+        match response_of(self.alloc, &reply) {
+            Ok(response) => Ok(Answer {
+                response,
+                entered: true,
+            }),
+            Err(OutOfMemory) => Err(Trouble::EntryInHand),
+        }
+    }
+}
+
+/// Answers with the refusal that a request's own bytes decide.
+fn answer_of_refusal(alloc: Global, refusal: &Refusal) -> Result<Answer, Trouble>
+    requires { ListsMethods refusal.now }
+    ensures refused { MatchResult result (λ answer. (answer.response ≡ response_to refusal.now) × (answer.entered ≡ false)) (λ trouble. trouble ≡ NoEntry) }
+    ensures writable { IfOk result (λ answer. IsWritable answer.response) }
+{
+    match response_of_refusal(alloc, refusal) {
+        Ok(response) => Ok(Answer {
+            response,
+            entered: false,
+        }),
+        Err(OutOfMemory) => Err(Trouble::NoEntry),
+    }
 }
 
 impl Service for Replayer {
@@ -54,31 +91,13 @@ impl Service for Replayer {
 
     /// Makes the ask of the request and answers it, or answers with the refusal that the request's own bytes decide.
     fn answer(&mut self, request: &Request) -> Result<Answer, Trouble> {
-        sound_asks();
         prepared_is_right();
         let Ok(prepared) = self.routes.ask_of(request) else {
             return Err(Trouble::NoEntry);
         };
         match prepared {
-            Prepared::Own(refusal) => match response_of_refusal(self.alloc, &refusal) {
-                Ok(response) => Ok(Answer {
-                    response,
-                    entered: false,
-                }),
-                Err(OutOfMemory) => Err(Trouble::NoEntry),
-            },
-            Prepared::Ask(ask) => {
-                let Ok(reply) = self.machine.step(&ask) else {
-                    return Err(Trouble::NoEntry);
-                };
-                match response_of(self.alloc, &reply) {
-                    Ok(response) => Ok(Answer {
-                        response,
-                        entered: true,
-                    }),
-                    Err(OutOfMemory) => Err(Trouble::EntryInHand),
-                }
-            }
+            Prepared::Own(refusal) => answer_of_refusal(self.alloc, &refusal),
+            Prepared::Ask(ask) => self.answer_of_graph(&ask),
         }
     }
 }

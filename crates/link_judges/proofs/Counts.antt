@@ -25,7 +25,7 @@ use Rattle.graph_laws.proofs.Keyed.{sorted-keys, values-entries, at-without}
 use Rattle.graph_held.specs.Held.{Holding, link_of, state_of}
 use Rattle.graph_held.specs.declared.stored.Stored.{Stored}
 use Rattle.graph_held.proofs.Viewed.{filter-map}
-use Rattle.link_judges.specs.Judged.{Unrefused}
+use Rattle.graph_held.specs.Judged.{Unrefused}
 
 -- ---- tests
 itself : (a : List ℕ) → bytes_eq a a ≡ true

@@ -1,7 +1,7 @@
 -- What is declared by no content.
 use Rattle.std.proofs.Common.{inl, inr, None}
 use Rattle.graph_steps.specs.States.{State, Link}
-use Rattle.link_judges.specs.Judged.{Unrefused}
+use Rattle.graph_held.specs.Judged.{Unrefused}
 use Rattle.link_judges.specs.Machinery.Refused.{RefusesDeclared}
 
 -- Where nothing is declared, nothing is refused by it.

@@ -6,7 +6,7 @@ use Rattle.graph_steps.specs.Refusals.{or_else}
 use Rattle.graph_bodies.specs.Bodies.{FailsBy}
 use Rattle.graph_bodies.specs.declared.failure.BodyFailure.{BodyFailure}
 use Rattle.graph_bodies.specs.declared.failure.BodyFailure.TheVariants as failures
-use Rattle.link_judges.specs.Judged.{Unrefused}
+use Rattle.graph_held.specs.Judged.{Unrefused}
 use Rattle.link_judges.specs.Machinery.Refused.{Tells}
 
 -- ---- failures

@@ -1,4 +1,3 @@
-pub mod Contained
 pub mod Glued
 pub mod Passed
 pub mod Counts

@@ -20,7 +20,7 @@ use Rattle.graph_laws.proofs.Lists.{all_at}
 use Rattle.graph_held.specs.Held.{Holding, link_of, state_of, IsHeldLink}
 use Rattle.graph_held.specs.declared.stored.Stored.{Stored}
 use Rattle.graph_held.proofs.Viewed.{link_seen}
-use Rattle.link_judges.specs.Judged.{Unrefused}
+use Rattle.graph_held.specs.Judged.{Unrefused}
 
 -- ---- the first limit that is passed
 module _ (new : State) (l : Link) where

@@ -16,7 +16,7 @@ use Rattle.graph_bodies.specs.Bodies.{FailsBy}
 use Rattle.graph_bodies.specs.declared.failure.BodyFailure.{BodyFailure}
 use Rattle.graph_laws.proofs.Edges.{edge_there}
 use Rattle.graph_laws.proofs.Rels.{from_twin}
-use Rattle.link_judges.specs.Judged.{Unrefused}
+use Rattle.graph_held.specs.Judged.{Unrefused}
 use Rattle.link_judges.specs.Machinery.Refused.{IsPatched}
 use Rattle.link_judges.proofs.Glued.{fails_so}
 use Rattle.link_judges.proofs.Puts.{has_source, is_frozen, not_frozen}

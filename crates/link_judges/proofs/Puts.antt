@@ -16,7 +16,7 @@ use Rattle.graph_steps.specs.TwinAsks.{TwinNotFound, Frozen, BodyFault}
 use Rattle.graph_bodies.specs.Bodies.{FailsBy}
 use Rattle.graph_bodies.specs.declared.failure.BodyFailure.{BodyFailure}
 use Rattle.graph_laws.proofs.Rels.{from_twin}
-use Rattle.link_judges.specs.Judged.{Unrefused}
+use Rattle.graph_held.specs.Judged.{Unrefused}
 use Rattle.link_judges.proofs.Glued.{fails_so}
 
 pub no_fault : (Broken : List ℕ → BodyCode → Type 0) (v : Json) → HasNoBreach Broken → Unrefused (BodyFault Broken v)

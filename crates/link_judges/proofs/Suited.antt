@@ -10,7 +10,7 @@ use Rattle.graph_asks.specs.declared.refusal.Refusal.TheVariants as refusals
 use Rattle.graph_steps.specs.LinkAsks.{WrongTarget, misses}
 use Rattle.graph_steps.specs.States.{State, Twin, set_of, interface_of, twin_at}
 use Rattle.graph_steps.specs.Typed.{target_of}
-use Rattle.link_judges.specs.Judged.{Unrefused}
+use Rattle.graph_held.specs.Judged.{Unrefused}
 
 -- an interface that stands for an identifier stands for its own
 pub own_there : (s : State) (id : Identifier) (i : Interface) → interface_of s id ≡ Some i → interface_of s i.id ≡ Some i

@@ -1,4 +1,2 @@
--- What public contracts cite.
-pub mod Judged
 -- What proofs alone rest on: no public contract speaks of it.
 pub mod Machinery

@@ -7,53 +7,18 @@ ghost use Rattle.graph_held.specs.Held.{state_of};
 ghost use Rattle.graph_steps.specs.Inherited.{contents};
 ghost use Rattle.graph_steps.specs.States.{interface_of, set_of, twin_at};
 ghost use Rattle.model_resolve.specs.Resolving.{HoldsRight};
-ghost use Rattle.twin_value.specs.Breaches.{as_link, link_called};
-ghost use Rattle.twin_value.specs.Named.{content_called};
+ghost use Rattle.twin_value.specs.Breaches.{link_called};
 ghost use Rattle.link_judges.specs.Machinery.Refused.{RefusesDeclared, Tells};
 
 use crate::counting::count_refusal;
 use crate::targets::target_refusal;
 use dt_base::OutOfMemory;
-use dtdl_terms::{ContentKind, Interface, ResolvedContent};
+use dtdl_terms::{Interface, ResolvedContent};
 use graph_asks::Refusal;
 use graph_bodies::judged_alike;
-use graph_held::Lent;
+use graph_held::{Lent, link_called};
 use model_resolve::Resolutions;
 use twin_value::{Relationship, Twin};
-
-/// The content of a name.
-fn find_content<'a>(contents: &'a [ResolvedContent], name: &str) -> Option<&'a ResolvedContent>
-    ensures { option_copied result ≡ content_called name.now contents.now }
-{
-    for content in contents {
-        if content.content.name.as_str() == name {
-            return Some(content);
-        }
-    }
-    None
-}
-
-/// The content, where it is a relationship.
-#[tactic(auto, using(crate::proofs::Contained::kinds))]
-fn as_link(content: Option<&ResolvedContent>) -> Option<&ResolvedContent>
-    ensures { option_copied result ≡ as_link (option_copied content.entry) }
-{
-    let found = content?;
-    match &found.content.kind {
-        ContentKind::Relationship { .. } => content,
-        ContentKind::Telemetry { .. } => None,
-        ContentKind::Property { .. } => None,
-        ContentKind::Command { .. } => None,
-        ContentKind::Component { .. } => None,
-    }
-}
-
-/// The relationship of a name. Takes no memory.
-fn link_called<'a>(contents: &'a [ResolvedContent], name: &str) -> Option<&'a ResolvedContent>
-    ensures { option_copied result ≡ link_called name.now contents.now }
-{
-    as_link(find_content(contents, name))
-}
 
 /// The refusal of a relationship to this twin by what is declared of its name. Fails only for want of memory.
 fn content_refusal(
@@ -96,6 +61,6 @@ pub(crate) fn declared_refusal(
     let Some(resolved) = resolutions.get(&interface.id) else {
         unreachable!();
     };
-    let content = link_called(resolved.contents.as_slice(), link.name.as_str());
+    let content = link_called(resolved.contents.as_slice(), &link.name);
     content_refusal(lent, content, twin, link)
 }

@@ -1,31 +1,15 @@
 //! How many relationships of a name there may be.
 
 ghost use Rattle.std.specs.Prelude.{◌≡◌, length};
-ghost use Rattle.dtdl_terms.specs.TermViews.{kind_term};
 ghost use Rattle.graph_held.specs.Held.{state_of};
 ghost use Rattle.graph_steps.specs.LinkAsks.{Multiplicity, others_named};
-ghost use Rattle.graph_steps.specs.Typed.{most_of};
 ghost use Rattle.std.specs.Prelude.{Some};
 ghost use Rattle.link_judges.specs.Machinery.Refused.{Tells};
 
 use dt_base::Text;
-use dtdl_terms::{ContentKind, ResolvedContent};
+use dtdl_terms::ResolvedContent;
 use graph_asks::Refusal;
-use graph_held::Lent;
-
-/// The most relationships of its name out of one twin that a content declares, where it declares them.
-#[tactic(auto, using(crate::proofs::Contained::kinds))]
-fn most_of(content: &ResolvedContent) -> Option<u32>
-    ensures { result ≡ most_of (kind_term content.now.content.kind) }
-{
-    match &content.content.kind {
-        ContentKind::Relationship { max, .. } => *max,
-        ContentKind::Telemetry { .. } => None,
-        ContentKind::Property { .. } => None,
-        ContentKind::Command { .. } => None,
-        ContentKind::Component { .. } => None,
-    }
-}
+use graph_held::{Lent, most_of};
 
 /// How many relationships of a source have a name, but for the one with an id. Takes no memory.
 fn others(lent: &Lent<'_>, source: &Text, id: &Text, name: &Text) -> u64
@@ -53,7 +37,7 @@ pub(crate) fn count_refusal(
 ) -> Option<Refusal>
     ensures { Tells (Multiplicity (state_of lent.now) (Some content.now) source.now id.now name.now) result }
 {
-    let Some(most) = most_of(content) else {
+    let Some(most) = most_of(&content.content.kind) else {
         return None;
     };
     let max = u64::from(most);

@@ -7,7 +7,7 @@ ghost use Rattle.graph_held.specs.Held.{state_of};
 ghost use Rattle.graph_steps.specs.LinkAsks.{LinkFull, link_at, with_link};
 ghost use Rattle.graph_steps.specs.States.{graph_bytes, link_text};
 ghost use Rattle.graph_steps.specs.Typed.{WellTyped};
-ghost use Rattle.link_judges.specs.Judged.{Unrefused};
+ghost use Rattle.graph_held.specs.Judged.{Unrefused};
 
 use dt_base::Text;
 use dtdl_terms::Limit;

@@ -9,7 +9,7 @@ ghost use Rattle.graph_steps.specs.States.{link_value};
 ghost use Rattle.graph_steps.specs.Typed.{WellTyped};
 ghost use Rattle.json_tree.specs.Printing.{printed};
 ghost use Rattle.json_tree.specs.View.{view};
-ghost use Rattle.link_judges.specs.Judged.{Unrefused};
+ghost use Rattle.graph_held.specs.Judged.{Unrefused};
 
 use crate::limits::limit_passed;
 use dt_base::OutOfMemory;

@@ -14,7 +14,7 @@ ghost use Rattle.model_resolve.specs.Resolving.{HoldsRight};
 ghost use Rattle.twin_patch.specs.Operations.{operations_of};
 ghost use Rattle.twin_patch.specs.Patched.{patched_from};
 ghost use Rattle.twin_patch.specs.declared.entry.PatchOf.{PatchOf};
-ghost use Rattle.link_judges.specs.Judged.{Unrefused};
+ghost use Rattle.graph_held.specs.Judged.{Unrefused};
 ghost use Rattle.link_judges.specs.Machinery.Refused.{IsPatched};
 
 use crate::new_link::{NewLink, admitted};

@@ -13,8 +13,8 @@ ghost use Rattle.json_tree.specs.Values.{HasDistinctKeys};
 ghost use Rattle.json_tree.specs.View.{view};
 ghost use Rattle.model_resolve.specs.Resolving.{HoldsRight};
 ghost use Rattle.twin_value.specs.Breaches.{link_called};
-ghost use Rattle.link_judges.specs.Judged.{Unrefused};
-ghost use Rattle.link_judges.specs.Machinery.Refused.{RefusesEnds, RefusesPlace};
+ghost use Rattle.graph_held.specs.Judged.{Unrefused};
+ghost use Rattle.link_judges.specs.Machinery.Refused.{RefusesEnds, RefusesDeclaredOrFull};
 
 use crate::contents::declared_refusal;
 use crate::new_link::{NewLink, admitted};
@@ -130,9 +130,9 @@ fn fitting(
     requires right { HoldsRight (set_of (state_of lent.now)) resolutions.old }
     ensures right { HoldsRight (set_of (state_of lent.now)) resolutions.new }
     ensures judged { MatchResult result
-        (λ new. Unrefused (RefusesPlace (state_of lent.now) (link_called link.name (contents (set_of (state_of lent.now)) interface.now)) (link_view link))
+        (λ new. Unrefused (RefusesDeclaredOrFull (state_of lent.now) (link_called link.name (contents (set_of (state_of lent.now)) interface.now)) (link_view link))
         × (link_of new.edge ≡ link_view link))
-        (FailsBy (RefusesPlace (state_of lent.now) (link_called link.name (contents (set_of (state_of lent.now)) interface.now)) (link_view link))) }
+        (FailsBy (RefusesDeclaredOrFull (state_of lent.now) (link_called link.name (contents (set_of (state_of lent.now)) interface.now)) (link_view link))) }
     ensures held { IfOk result (λ new. IsHeldLink new.edge) }
     ensures tree { IfOk result (λ new. view new.tree ≡ link_value (link_of new.edge)) }
 {

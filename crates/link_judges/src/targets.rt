@@ -1,48 +1,21 @@
 //! What relationships lead to.
 
 ghost use Rattle.std.specs.Prelude.{◌≡◌, IfOk, List, Some, ℕ};
-ghost use Rattle.std.specs.Option.{option_copied};
-ghost use Rattle.dtdl_terms.specs.TermViews.{kind_term};
 ghost use Rattle.dtmi_name.specs.Grammar.{dtmi_text};
 ghost use Rattle.graph_bodies.specs.Kept.{twin_view};
 ghost use Rattle.graph_held.specs.Held.{state_of};
 ghost use Rattle.graph_steps.specs.LinkAsks.{WrongTarget, misses};
 ghost use Rattle.graph_steps.specs.States.{interface_of, twin_at};
-ghost use Rattle.graph_steps.specs.Typed.{target_of};
 ghost use Rattle.link_judges.specs.Machinery.Refused.{Tells};
 
 use dt_base::{OutOfMemory, Text};
-use dtdl_terms::{ContentKind, ResolvedContent};
+use dtdl_terms::ResolvedContent;
 use dtmi_name::Dtmi;
 use graph_asks::Refusal;
 use graph_bodies::is_model_a;
-use graph_held::Lent;
+use graph_held::{Lent, target_of};
 use std::alloc::Global;
 use twin_value::Twin;
-
-/// The identifier that there may be.
-fn given(id: &Option<Dtmi>) -> Option<&Dtmi>
-    ensures { option_copied result ≡ id.now }
-{
-    match id {
-        Some(id) => Some(id),
-        None => None,
-    }
-}
-
-/// The model of what a content leads to, where it declares one.
-#[tactic(auto, using(crate::proofs::Contained::kinds))]
-fn target_of(content: &ResolvedContent) -> Option<&Dtmi>
-    ensures { option_copied result ≡ target_of (kind_term content.now.content.kind) }
-{
-    match &content.content.kind {
-        ContentKind::Relationship { target, .. } => given(target),
-        ContentKind::Telemetry { .. } => None,
-        ContentKind::Property { .. } => None,
-        ContentKind::Command { .. } => None,
-        ContentKind::Component { .. } => None,
-    }
-}
 
 /// Whether the model of a twin neither is nor extends the declared one; of a frozen twin, whether it is not the declared one.
 /// Takes no memory.
@@ -76,7 +49,7 @@ pub(crate) fn target_refusal(
     requires { twin_at target.now (state_of lent.now) ≡ Some (twin_view twin.now) }
     ensures { IfOk result (Tells (WrongTarget (state_of lent.now) (Some content.now) target.now)) }
 {
-    let Some(declared) = target_of(content) else {
+    let Some(declared) = target_of(&content.content.kind) else {
         return Ok(None);
     };
     if misses(lent, declared, twin) {

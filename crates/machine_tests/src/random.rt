@@ -1,7 +1,6 @@
 //! Random asks.
 
 ghost use Rattle.std.specs.Prelude.{IfOk, ◌<◌};
-ghost use Rattle.graph_machine.specs.Built.{IsBuilt};
 ghost use Rattle.graph_steps.specs.Soundness.{AreSoundUploads, IsModelOf, IsSound};
 
 use crate::asks::{model_id, uploads};
@@ -87,7 +86,7 @@ impl Draws {
     }
 
     fn ask(&mut self, rt: &impl Abort, alloc: Global) -> Result<Ask, Fail>
-        ensures { IfOk result (λ ask. IsSound ask × IsBuilt ask) }
+        ensures { IfOk result IsSound }
     {
         match self.below(10) {
             0..=3 => {

@@ -1,6 +1,5 @@
 //! The models of a building: asked for, marked and dropped.
 
-ghost use Rattle.graph_machine.specs.Built.{IsBuilt};
 ghost use Rattle.graph_steps.specs.Soundness.{IsSound};
 
 use crate::asks::{model_id, shown, uploads};
@@ -36,7 +35,7 @@ fn answers(
     ask: &Ask,
     text: &str,
 ) -> Result<(), Fail>
-    requires { IsSound ask.now × IsBuilt ask.now }
+    requires { IsSound ask.now }
 {
     let reply = machine.step(ask)?;
     let reply = shown(alloc, &reply)?;

@@ -1,13 +1,14 @@
 //! The query behind all tokens.
 
-ghost use Rattle.std.specs.Prelude.{◌≡◌, IfOk};
+ghost use Rattle.std.specs.Prelude.{◌≡◌, None, IfOk};
 ghost use Rattle.std.specs.Option.{option_map};
 ghost use Rattle.query_terms.specs.Queries.{asked};
+ghost use Rattle.query_grammar.specs.declared.state.State.TheVariants as states;
 ghost use Rattle.query_grammar.specs.Machinery.Steps.{asked_of, end, end_of_chain, end_closed, end_behind, joined, head_of};
 
 use crate::building::{negated, with_both, with_either};
 use crate::sourcing::{head_of, joined};
-use dt_base::OutOfMemory;
+use dt_base::{OutOfMemory, Text};
 use query_grammar::{Around, Built, Chain, Chains, Goal, Head, Notes, State};
 use query_terms::{Cond, Operand, Query};
 use std::alloc::Global;
@@ -89,6 +90,27 @@ fn end_behind(
     }
 }
 
+/// The query behind a join without an alias of its own.
+fn end_of_join(
+    notes: Notes,
+    head: Head,
+    target: Text,
+    source: Text,
+    name: Text,
+) -> Result<Option<(Query, Notes)>, OutOfMemory>
+    ensures { IfOk result (λ o. option_map (λ p. (asked p.0, p.1)) o ≡ end (states.JoinAlias notes head target source name)) }
+{
+    let head = joined(head, target, source, name, None)?;
+    Ok(Some((query_of(head, None), notes)))
+}
+
+/// Lets a state go in which no query ends.
+fn no_end(_state: State) -> Option<(Query, Notes)>
+    ensures { result ≡ None }
+{
+    None
+}
+
 /// What is asked for, where the query may end here.
 pub fn end(alloc: Global, state: State) -> Result<Option<(Query, Notes)>, OutOfMemory>
     ensures { IfOk result (λ o. option_map (λ p. (asked p.0, p.1)) o ≡ end state) }
@@ -103,8 +125,7 @@ pub fn end(alloc: Global, state: State) -> Result<Option<(Query, Notes)>, OutOfM
         }
         State::BehindTwins(notes, head) => Ok(Some((query_of(head, None), notes))),
         State::JoinAlias(notes, head, target, source, name) => {
-            let head = joined(head, target, source, name, None)?;
-            Ok(Some((query_of(head, None), notes)))
+            end_of_join(notes, head, target, source, name)
         }
         State::Path(notes, around, goal, path) => {
             end_behind(alloc, notes, around, goal, Operand::Path(path))
@@ -115,6 +136,6 @@ pub fn end(alloc: Global, state: State) -> Result<Option<(Query, Notes)>, OutOfM
         State::BehindFactor(notes, head, before, built, chains, _) => {
             end_of_chain(alloc, notes, head, before, built, chains)
         }
-        _ => Ok(None),
+        other => Ok(no_end(other)),
     }
 }

@@ -1,3 +1,4 @@
 pub mod Conditions
 pub mod Queries
 pub mod Codes
+pub mod Machinery

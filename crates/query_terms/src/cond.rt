@@ -1,13 +1,15 @@
 //! Conditions.
 
-ghost use Rattle.std.specs.Prelude.{◌≡◌, IfOk};
+ghost use Rattle.std.specs.Prelude.{◌≡◌, ◌+◌, ◌*◌, ◌<◌, true, false, IfOk};
 ghost use Rattle.query_terms.specs.Conditions.{condition};
+ghost use Rattle.query_terms.specs.Machinery.Weights.{has_parts, weight};
 
-use crate::copies::{copy_literals, copy_text, copy_texts};
+use crate::copying::{copy_part, parts_of};
 use crate::operand::{Compare, Literal, Operand};
 use dt_base::{List, OutOfMemory, Text};
 use dtmi_name::Dtmi;
 use std::alloc::Global;
+use std::mem;
 
 /// What kind of value a path leads to.
 #[derive(Clone, Copy, Debug, PartialEq, Eq)]
@@ -50,8 +52,9 @@ impl PartKind {
     }
 }
 
-/// What a row must fulfil. Contracts see a condition without where it lies in memory, by `condition`.
-#[derive(Debug, Drop)]
+/// What a row must fulfil. Contracts see a condition without where it lies in memory, by `condition`. A condition may
+/// nest as deep as memory allows: letting one go and copying it take no recursion.
+#[derive(Debug)]
 pub enum Cond {
     /// One of the two, or both.
     Or(Box<Cond>, Box<Cond>),
@@ -76,59 +79,100 @@ pub enum Cond {
     },
 }
 
-impl Cond {
-    /// An equal condition in memory of its own.
-    pub fn copy(&self, alloc: Global) -> Result<Cond, OutOfMemory>
-        ensures { IfOk result (λ copy. condition copy ≡ condition self.now) }
-    {
-        match self {
-            Cond::Or(first, second) => {
-                let first = Box::new(alloc, first.copy(alloc)?)?;
-                let second = Box::new(alloc, second.copy(alloc)?)?;
-                Ok(Cond::Or(first, second))
+/// Turns a condition, where it has parts, so that its first part comes to stand beside it, and what stood beside it
+/// within.
+fn turn(left: &mut Cond, right: &mut Box<Cond>) -> bool
+    ensures parts { result ≡ has_parts left.old }
+    ensures same { result ≡ false → left.new ≡ left.old }
+    ensures beside { result ≡ false → right.new ≡ right.old }
+    ensures lighter { result ≡ true → 2 * weight right.new.value + weight left.new < 2 * weight left.old + weight right.old.value }
+{
+    match left {
+        Cond::Or(first, second) => {
+            mem::swap(first, right);
+            mem::swap(first, second);
+            true
+        }
+        Cond::And(first, second) => {
+            mem::swap(first, right);
+            mem::swap(first, second);
+            true
+        }
+        Cond::Not(inner) => {
+            mem::swap(inner, right);
+            true
+        }
+        _ => false,
+    }
+}
+
+/// What is left to be let go of two conditions, of which as little as can be is let go.
+fn rest(mut left: Box<Cond>, mut right: Box<Cond>) -> Cond
+    ensures { weight result < 2 * weight left.value + weight right.value }
+{
+    if turn(left.as_mut(), &mut right) {
+        return Cond::And(right, left);
+    }
+    Box::into_inner(left).let_test_go();
+    Box::into_inner(right)
+}
+
+/// Letting go takes neither memory nor a recursion: each condition to the left is turned, until one without parts
+/// stands there.
+impl Drop for Cond {
+    fn drop(mut self) {
+        'turns: loop {
+            match self {
+                Cond::Or(left, right) | Cond::And(left, right) => self = rest(left, right),
+                Cond::Not(inner) => self = Box::into_inner(inner),
+                Cond::Compare(_, _, _) => return,
+                Cond::Among(_, _) | Cond::NotAmong(_, _) => return,
+                Cond::Is(_, _) => return,
+                Cond::Part(_, _, _) => return,
+                Cond::OfModel {
+                    twin: _,
+                    model: _,
+                    exact: _,
+                } => return,
             }
-            Cond::And(first, second) => {
-                let first = Box::new(alloc, first.copy(alloc)?)?;
-                let second = Box::new(alloc, second.copy(alloc)?)?;
-                Ok(Cond::And(first, second))
-            }
-            Cond::Not(inner) => Ok(Cond::Not(Box::new(alloc, inner.copy(alloc)?)?)),
-            Cond::Compare(left, compare, right) => {
-                let left = left.copy(alloc)?;
-                let right = right.copy(alloc)?;
-                Ok(Cond::Compare(left, *compare, right))
-            }
-            Cond::Among(operand, literals) => {
-                let operand = operand.copy(alloc)?;
-                let literals = copy_literals(alloc, literals.as_slice())?;
-                Ok(Cond::Among(operand, literals))
-            }
-            Cond::NotAmong(operand, literals) => {
-                let operand = operand.copy(alloc)?;
-                let literals = copy_literals(alloc, literals.as_slice())?;
-                Ok(Cond::NotAmong(operand, literals))
-            }
-            Cond::Is(kind, path) => Ok(Cond::Is(*kind, copy_texts(alloc, path.as_slice())?)),
-            Cond::Part(kind, whole, part) => {
-                let whole = whole.copy(alloc)?;
-                let part = part.copy(alloc)?;
-                Ok(Cond::Part(*kind, whole, part))
-            }
-            Cond::OfModel { twin, model, exact } => copy_of_model(alloc, twin, model, *exact),
         }
     }
 }
 
-/// A condition on a twin's model with equal parts.
-fn copy_of_model(
-    alloc: Global,
-    twin: &Option<Text>,
-    model: &Dtmi,
-    exact: bool,
-) -> Result<Cond, OutOfMemory>
-    ensures { IfOk result (λ copy. copy ≡ Cond.OfModel twin.now model.now exact) }
-{
-    let twin = copy_text(alloc, twin)?;
-    let model = model.copy(alloc)?;
-    Ok(Cond::OfModel { twin, model, exact })
+impl Cond {
+    /// Lets a condition without parts go.
+    fn let_test_go(self)
+        requires { has_parts self ≡ false }
+    {
+        match self {
+            Cond::Or(_first, _second) | Cond::And(_first, _second) => unreachable!(),
+            Cond::Not(_inner) => unreachable!(),
+            Cond::Compare(_, _, _) => {}
+            Cond::Among(_, _) | Cond::NotAmong(_, _) => {}
+            Cond::Is(_, _) => {}
+            Cond::Part(_, _, _) => {}
+            Cond::OfModel {
+                twin: _,
+                model: _,
+                exact: _,
+            } => {}
+        }
+    }
+
+    /// An equal condition in memory of its own, made without a recursion.
+    pub fn copy(&self, alloc: Global) -> Result<Cond, OutOfMemory>
+        ensures { IfOk result (λ copy. condition copy ≡ condition self.now) }
+    {
+        let mut parts = parts_of(alloc, self)?;
+        let mut copies = Vec::new(alloc);
+        'parts: while let Some(part) = parts.pop() {
+            let copy = copy_part(alloc, part, &mut copies)?;
+            copies.push(copy)?;
+        }
+        match copies.pop() {
+            Some(copy) => Ok(copy),
+            // The first part, which comes last, is the whole.
+            None => Err(OutOfMemory),
+        }
+    }
 }

@@ -3,6 +3,7 @@
 
 mod cond;
 mod copies;
+mod copying;
 mod operand;
 mod query;
 

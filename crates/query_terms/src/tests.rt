@@ -143,3 +143,17 @@ fn counts_ids_of_keys(rt: HostRuntime) -> Result<(), Fail> {
     }
     Ok(())
 }
+
+// Deeper than a stack of calls goes.
+#[test]
+fn copies_and_lets_go_of_long_chains(rt: HostRuntime) -> Result<(), Fail> {
+    let alloc = rt.alloc();
+    let mut chain = comparison(alloc)?;
+    for _count in 0..100_000 {
+        let defined = Cond::Is(Kind::Defined, List::new(alloc));
+        chain = Cond::And(boxed(alloc, chain)?, boxed(alloc, defined)?);
+    }
+    let copy = chain.copy(alloc)?;
+    assert!(rt; matches!(&copy, Cond::And(_, _)));
+    Ok(())
+}

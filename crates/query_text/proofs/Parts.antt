@@ -1,6 +1,6 @@
 -- Lists that are printed text by text.
-use Rattle.std.proofs.Common.{◌≡◌, ℕ, zero, suc, ◌+◌, ◌<◌, List, [], ◌∷◌, ◌++◌, length, drop, get_or, append_assoc, add-one, drop-cons, sym, ap, ◌∙◌}
-use Rattle.query_text.specs.Printed.{each_behind, separated}
+use Rattle.std.proofs.Common.{◌≡◌, ℕ, zero, suc, ◌+◌, ◌<◌, List, ◌∷◌, ◌++◌, length, drop, get_or, append_assoc, add-one, drop-cons, sym, ap, ◌∙◌}
+use Rattle.query_text.specs.Printed.{each_behind}
 use Rattle.query_text.specs.Machinery.Parts.{mark_before, left}
 
 -- the list from a place on begins with what stands there

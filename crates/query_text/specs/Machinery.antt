@@ -1,2 +1,3 @@
 -- Texts that were printed in part. It ties functions to the printed form.
 pub mod Parts
+pub mod Pieces

@@ -1,13 +1,16 @@
 //! Conditions.
 
-ghost use Rattle.std.specs.Prelude.{◌≡◌, ◌<◌, ◌++◌, ◌∷◌, [], string_bytes, codes, if◌then◌else◌, OnOk};
+ghost use Rattle.std.specs.Prelude.{◌≡◌, ℕ, ◌+◌, ◌<◌, ◌++◌, ◌∷◌, [], false, string_bytes, codes, OnOk};
 ghost use Rattle.query_terms.specs.Conditions.{condition, of_model};
 ghost use Rattle.query_tokens.specs.declared.token.Mark.TheVariants as marks;
+ghost use Rattle.query_terms.specs.Machinery.Weights.{has_parts};
 ghost use Rattle.query_lexer.specs.Spellings.{mark_bytes};
 ghost use Rattle.query_text.specs.Printed.{model_text, kind_text, part_text, twin_text, exact_text, condition_text};
+ghost use Rattle.query_text.specs.Machinery.Pieces.{piece_text, piece_load, pending, load};
 
 use crate::escapes::push_quoted;
 use crate::operands::{push_list, push_operand, push_path};
+use crate::pieces::{Piece, put_cond, put_parts};
 use dt_base::Text;
 use dtmi_name::Dtmi;
 use query_terms::{Compare, Cond, Kind, PartKind};
@@ -51,17 +54,6 @@ fn part_text(kind: PartKind) -> &'static str
         PartKind::Ends => "ENDSWITH",
         PartKind::Contains => "CONTAINS",
     }
-}
-
-/// Appends a parenthesis, where there are parentheses.
-fn push_if(out: &mut String, wanted: bool, mark: char) -> Result<(), AllocError>
-    requires { mark < 128 }
-    ensures { OnOk result (string_bytes out.new ≡ string_bytes out.old ++ (if wanted then mark ∷ [] else [])) }
-{
-    if wanted {
-        out.push(mark)?;
-    }
-    Ok(())
 }
 
 fn push_twin(out: &mut String, twin: &Option<Text>) -> Result<(), AllocError>
@@ -109,34 +101,13 @@ fn push_model(
     push_model_end(out, exact)
 }
 
-/// Appends a condition where only what binds at least so strongly stands without parentheses.
-pub(crate) fn push_condition(
-    alloc: Global,
-    out: &mut String,
-    cond: &Cond,
-    least: u8,
-) -> Result<(), AllocError>
-    ensures { OnOk result (string_bytes out.new ≡ string_bytes out.old ++ condition_text least (condition cond.now)) }
+/// Appends a condition without parts.
+fn push_test(alloc: Global, out: &mut String, cond: &Cond) -> Result<(), AllocError>
+    requires { has_parts cond.now ≡ false }
+    ensures { OnOk result ((least : ℕ) → string_bytes out.new ≡ string_bytes out.old ++ condition_text least (condition cond.now)) }
 {
     match cond {
-        Cond::Or(left, right) => {
-            push_if(out, 0 < least, '(')?;
-            push_condition(alloc, out, left, 0)?;
-            out.push_str(" OR ")?;
-            push_condition(alloc, out, right, 1)?;
-            push_if(out, 0 < least, ')')
-        }
-        Cond::And(left, right) => {
-            push_if(out, 1 < least, '(')?;
-            push_condition(alloc, out, left, 1)?;
-            out.push_str(" AND ")?;
-            push_condition(alloc, out, right, 2)?;
-            push_if(out, 1 < least, ')')
-        }
-        Cond::Not(inner) => {
-            out.push_str("NOT ")?;
-            push_condition(alloc, out, inner, 2)
-        }
+        Cond::Or(_, _) | Cond::And(_, _) | Cond::Not(_) => unreachable!(),
         Cond::Compare(left, compare, right) => {
             push_operand(alloc, out, left)?;
             out.push_str(compare_text(*compare))?;
@@ -168,4 +139,43 @@ pub(crate) fn push_condition(
         }
         Cond::OfModel { twin, model, exact } => push_model(out, twin, model, *exact),
     }
+}
+
+/// Appends a piece, or puts what it consists of in front of what is still to be printed.
+fn push_piece<'a>(
+    alloc: Global,
+    out: &mut String,
+    pieces: &mut Vec<Piece<'a>>,
+    piece: Piece<'a>,
+) -> Result<(), AllocError>
+    ensures pending { OnOk result (string_bytes out.new ++ pending pieces.new.items ≡ string_bytes out.old ++ (piece_text piece.entry ++ pending pieces.old.items)) }
+    ensures load { OnOk result (load pieces.new.items < load pieces.old.items + piece_load piece.entry) }
+{
+    match piece {
+        Piece::Words(words) => out.push_str(words),
+        Piece::Whole(cond, least) => {
+            if put_parts(pieces, cond, least)? {
+                return Ok(());
+            }
+            push_test(alloc, out, cond)
+        }
+    }
+}
+
+/// Appends a condition where only what binds at least so strongly stands without parentheses. It takes no recursion: a
+/// chain of a thousand ANDs is a thousand conditions deep.
+pub(crate) fn push_condition(
+    alloc: Global,
+    out: &mut String,
+    cond: &Cond,
+    least: u8,
+) -> Result<(), AllocError>
+    ensures { OnOk result (string_bytes out.new ≡ string_bytes out.old ++ condition_text least (condition cond.now)) }
+{
+    let mut pieces = Vec::new(alloc);
+    put_cond(&mut pieces, cond, least)?;
+    'pieces: while let Some(piece) = pieces.pop() {
+        push_piece(alloc, out, &mut pieces, piece)?;
+    }
+    Ok(())
 }

@@ -4,6 +4,7 @@
 mod conditions;
 mod escapes;
 mod operands;
+mod pieces;
 mod printing;
 
 pub use printing::text;

@@ -130,7 +130,7 @@ fn push_where(alloc: Global, out: &mut String, cond: &Option<Cond>) -> Result<()
 /// words and none around marks, parentheses only where the grouping needs them, numbers as `Decimal::print` prints them.
 /// `TOP(n)` stands alone where rows are given whole, and an item's name only where it is not the last one of its path.
 ///
-/// Fails only for want of memory. The call goes down as deep as the condition nests.
+/// Fails only for want of memory. It takes no recursion, however deep the condition nests.
 pub fn text(alloc: Global, query: &Query) -> Result<Text, OutOfMemory>
     ensures { IfOk result (λ t. t ≡ query_text (asked query.now)) }
 {

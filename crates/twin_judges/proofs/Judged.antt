@@ -6,13 +6,13 @@ use Rattle.graph_bodies.specs.Bodies.{FailsBy}
 use Rattle.graph_bodies.specs.declared.failure.BodyFailure.{BodyFailure}
 use Rattle.graph_bodies.specs.declared.failure.BodyFailure.TheVariants as failures
 use Rattle.graph_steps.specs.Refusals.{or_else}
-use Rattle.twin_judges.specs.Machinery.Judged.{IsFree}
+use Rattle.graph_held.specs.Judged.{Unrefused}
 
 pub fails_as : (First Second : Refusal → Type 0) → ((r : Refusal) → First r → Second r) → (e : BodyFailure) → FailsBy First e → FailsBy Second e
 fails_as First Second weaker (failures.Refused r) h = weaker r h
 fails_as First Second weaker failures.OutOfMemory h = tt
 
-pub free_both : (First Second : Refusal → Type 0) → IsFree First → IsFree Second → IsFree (or_else First Second)
+pub free_both : (First Second : Refusal → Type 0) → Unrefused First → Unrefused Second → Unrefused (or_else First Second)
 free_both First Second first second r (inl h) = first r h
 free_both First Second first second r (inr h) = second r h.1
 
@@ -23,7 +23,7 @@ module _ {A : Type 0} (P Q : A → Type 0) (First Second : Refusal → Type 0) w
   judged_as good bad (Err e) h = fails_as First Second bad e h
 
 -- Judged for the second reason where nothing is refused for the first.
-pub judged_second : {A : Type 0} (E : A → Type 0) (First Second : Refusal → Type 0) → IsFree First → (res : Result A BodyFailure)
-    → MatchResult res (λ a. IsFree Second × E a) (FailsBy Second) → MatchResult res (λ a. IsFree (or_else First Second) × E a) (FailsBy (or_else First Second))
+pub judged_second : {A : Type 0} (E : A → Type 0) (First Second : Refusal → Type 0) → Unrefused First → (res : Result A BodyFailure)
+    → MatchResult res (λ a. Unrefused Second × E a) (FailsBy Second) → MatchResult res (λ a. Unrefused (or_else First Second) × E a) (FailsBy (or_else First Second))
 judged_second E First Second free res h =
-    judged_as (λ a. IsFree Second × E a) (λ a. IsFree (or_else First Second) × E a) Second (or_else First Second) (λ a k. (free_both First Second free k.0, k.1)) (λ r k. inr (free, k)) res h
+    judged_as (λ a. Unrefused Second × E a) (λ a. Unrefused (or_else First Second) × E a) Second (or_else First Second) (λ a k. (free_both First Second free k.0, k.1)) (λ r k. inr (free, k)) res h

@@ -11,7 +11,7 @@ use Rattle.graph_asks.specs.declared.refusal.Refusal.TheVariants as refusals
 use Rattle.graph_steps.specs.States.{State, twin_at}
 use Rattle.graph_steps.specs.TwinAsks.{Decommissioned}
 use Rattle.graph_steps.specs.Typed.{WellTyped}
-use Rattle.twin_judges.specs.Machinery.Judged.{IsFree}
+use Rattle.graph_held.specs.Judged.{Unrefused}
 
 abbrev id_of : Model → Identifier
 id_of m = m.interface.id
@@ -39,10 +39,10 @@ module _ (s : State) (q : List ℕ) (id : Identifier) where
       let m = some_model (model_at id s.models) is in
       (m.0, contained id_of dtmi_text (dtmi_text id) s.models m.0 m.1, sym (at-spelling id_of dtmi_text (dtmi_text id) s.models m.0 m.1), m.2, other, refl)
 
-  pub same_model : IsOfModel s q id → IsFree (Decommissioned s q (dtmi_text id))
+  pub same_model : IsOfModel s q id → Unrefused (Decommissioned s q (dtmi_text id))
   same_model is r (m, there, named, on, other, e) = other is
 
-  pub unmarked : WellTyped s → (IsMarked s id → ⊥) → IsFree (Decommissioned s q (dtmi_text id))
+  pub unmarked : WellTyped s → (IsMarked s id → ⊥) → Unrefused (Decommissioned s q (dtmi_text id))
   unmarked w none r (m, there, named, on, other, e) =
       let own = in_contained id_of dtmi_text s.models m (in_order s.models w.models.ordered) there in
       let found : model_at id s.models ≡ Some m = ap (λ (u : List ℕ). at id_of dtmi_text u s.models) (sym named) ∙ own in

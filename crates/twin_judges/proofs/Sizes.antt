@@ -14,7 +14,7 @@ use Rattle.dtdl_terms.specs.declared.limit.Limit.TheVariants as limits
 use Rattle.graph_asks.specs.declared.refusal.Refusal.TheVariants as refusals
 use Rattle.graph_steps.specs.TwinAsks.{TwinFull}
 use Rattle.graph_steps.specs.Typed.{WellTyped}
-use Rattle.twin_judges.specs.Machinery.Judged.{IsFree}
+use Rattle.graph_held.specs.Judged.{Unrefused}
 use Rattle.graph_laws.proofs.Keyed.{tests, values-entries, sorted-keys}
 use Rattle.graph_laws.proofs.Lists.{all_at, found_passes}
 use Rattle.graph_held.specs.Held.{Holding, state_of, twin_of, IsHeldTwin}
@@ -106,7 +106,7 @@ module _ (new : State) (t : Twin) (small : length (twin_text t) ≤ 32768) where
     pub over_bytes : 268435456 < graph_bytes new → TwinFull new t (refusals.Full limits.GraphBytes)
     over_bytes many = inr ((λ q h. omega (arith, small, h.0)), inr ((λ q h. omega (arith, few, h.0)), (many, refl)))
 
-    pub not_over : graph_bytes new ≤ 268435456 → IsFree (TwinFull new t)
+    pub not_over : graph_bytes new ≤ 268435456 → Unrefused (TwinFull new t)
     not_over less r (inl h) = omega (arith, small, h.0)
     not_over less r (inr (a, inl h)) = omega (arith, few, h.0)
     not_over less r (inr (a, inr (b, h))) = omega (arith, less, h.0)

@@ -9,7 +9,7 @@ use Rattle.graph_laws.proofs.Keyed.{one_text}
 use Rattle.graph_laws.proofs.Kept.{HadModel, link_kept}
 use Rattle.graph_laws.proofs.Lists.{all_at}
 use Rattle.graph_laws.proofs.Twins.{twin_with}
-use Rattle.twin_judges.specs.Machinery.Judged.{IsFree}
+use Rattle.graph_held.specs.Judged.{Unrefused}
 
 module _ (s : State) (w : WellTyped s) (t u : Twin) (found : twin_at t.id s ≡ Some u) (same : u.model ≡ t.model) where
   had : (q : List ℕ) (x : Twin) → twin_at q (with_twin t s) ≡ Some x → HadModel s q x
@@ -21,6 +21,6 @@ module _ (s : State) (w : WellTyped s) (t u : Twin) (found : twin_at t.id s ≡ 
           (u, ap (λ (k : List ℕ). twin_at k s) (one_text q t.id is) ∙ found, same ∙ ap (λ (v : Twin). v.model) one)
       by false is h = (x, sym (ap (λ b. cond b (Some t) (twin_at q s)) is) ∙ h, refl)
 
-  pub same_fits : IsFree (DoesNotFit (with_twin t s) t.id)
+  pub same_fits : Unrefused (DoesNotFit (with_twin t s) t.id)
   same_fits r (l, would, least, e) =
       would.ill (link_kept s (with_twin t s).twins s.links l (had l.source) (had l.target) (λ v j at on f. f.few) (all_at (LinkIsTyped s) s.links l w.links_fit would.there))

@@ -12,7 +12,7 @@ ghost use Rattle.graph_steps.specs.Typed.{WellTyped};
 ghost use Rattle.json_tree.specs.Values.{HasDistinctKeys};
 ghost use Rattle.json_tree.specs.View.{view};
 ghost use Rattle.model_resolve.specs.Resolving.{HoldsRight};
-ghost use Rattle.twin_judges.specs.Machinery.Judged.{IsFree};
+ghost use Rattle.graph_held.specs.Judged.{Unrefused};
 
 use crate::fitting::unless_unfit;
 use crate::limits::within_limits;
@@ -40,7 +40,7 @@ fn judged_new(
     requires right { HoldsRight (set_of (state_of lent.now)) resolutions.old }
     ensures right { HoldsRight (set_of (state_of lent.now)) resolutions.new }
     ensures judged { MatchResult result
-        (λ new. IsFree (or_else (DoesNotFit (with_twin (twin_view twin) (state_of lent.now)) twin.id) (TwinFull (with_twin (twin_view twin) (state_of lent.now)) (twin_view twin))) × (new.twin ≡ twin))
+        (λ new. Unrefused (or_else (DoesNotFit (with_twin (twin_view twin) (state_of lent.now)) twin.id) (TwinFull (with_twin (twin_view twin) (state_of lent.now)) (twin_view twin))) × (new.twin ≡ twin))
         (FailsBy (or_else (DoesNotFit (with_twin (twin_view twin) (state_of lent.now)) twin.id) (TwinFull (with_twin (twin_view twin) (state_of lent.now)) (twin_view twin)))) }
     ensures held { IfOk result (λ new. IsHeldTwin (record { twin = new.twin; bytes = new.bytes })) }
     ensures tree { IfOk result (λ new. view new.tree ≡ twin_value (twin_view new.twin)) }
@@ -64,7 +64,7 @@ fn judged_of(
     requires right { HoldsRight (set_of (state_of lent.now)) resolutions.old }
     ensures right { HoldsRight (set_of (state_of lent.now)) resolutions.new }
     ensures judged { MatchResult result
-        (λ new. IsFree (RefusesBody (state_of lent.now) id.now (dtmi_text interface.now.id) (view tree.now) (Some interface.now)) × (twin_view new.twin ≡ twin_for (state_of lent.now) id.now interface.now (view tree.now)))
+        (λ new. Unrefused (RefusesBody (state_of lent.now) id.now (dtmi_text interface.now.id) (view tree.now) (Some interface.now)) × (twin_view new.twin ≡ twin_for (state_of lent.now) id.now interface.now (view tree.now)))
         (FailsBy (RefusesBody (state_of lent.now) id.now (dtmi_text interface.now.id) (view tree.now) (Some interface.now))) }
     ensures held { IfOk result (λ new. IsHeldTwin (record { twin = new.twin; bytes = new.bytes })) }
     ensures tree { IfOk result (λ new. view new.tree ≡ twin_value (twin_view new.twin)) }
@@ -88,7 +88,7 @@ pub(crate) fn judged_body(
     requires right { HoldsRight (set_of (state_of lent.now)) resolutions.old }
     ensures right { HoldsRight (set_of (state_of lent.now)) resolutions.new }
     ensures judged { MatchResult result
-        (λ new. IsFree (RefusesBody (state_of lent.now) id.now (dtmi_text model.now) (view tree.now) (interface_of (state_of lent.now) model.now))
+        (λ new. Unrefused (RefusesBody (state_of lent.now) id.now (dtmi_text model.now) (view tree.now) (interface_of (state_of lent.now) model.now))
         × (with_twin (twin_view new.twin) (state_of lent.now) ≡ with_body (state_of lent.now) id.now (interface_of (state_of lent.now) model.now) (view tree.now)))
         (FailsBy (RefusesBody (state_of lent.now) id.now (dtmi_text model.now) (view tree.now) (interface_of (state_of lent.now) model.now))) }
     ensures id { IfOk result (λ new. new.twin.id ≡ id.now) }

@@ -9,7 +9,7 @@ ghost use Rattle.graph_steps.specs.States.{set_of, twin_at, with_twin};
 ghost use Rattle.graph_steps.specs.TwinAsks.{DoesNotFit};
 ghost use Rattle.graph_steps.specs.Typed.{WellTyped};
 ghost use Rattle.model_resolve.specs.Resolving.{HoldsRight};
-ghost use Rattle.twin_judges.specs.Machinery.Judged.{IsFree};
+ghost use Rattle.graph_held.specs.Judged.{Unrefused};
 
 use crate::refusals::does_not_fit;
 use dtmi_name::{Dtmi, order};
@@ -39,7 +39,7 @@ fn unless_ill(
     requires right { HoldsRight (set_of (state_of lent.now)) resolutions.old }
     ensures right { HoldsRight (set_of (state_of lent.now)) resolutions.new }
     ensures fits { MatchResult result
-        (λ _. IsFree (DoesNotFit (with_twin (twin_view twin.now) (state_of lent.now)) twin.now.id))
+        (λ _. Unrefused (DoesNotFit (with_twin (twin_view twin.now) (state_of lent.now)) twin.now.id))
         (FailsBy (DoesNotFit (with_twin (twin_view twin.now) (state_of lent.now)) twin.now.id)) }
 {
     let Some(link) = least_ill(lent, resolutions, twin)? else {
@@ -60,7 +60,7 @@ pub(crate) fn unless_unfit(
     requires right { HoldsRight (set_of (state_of lent.now)) resolutions.old }
     ensures right { HoldsRight (set_of (state_of lent.now)) resolutions.new }
     ensures fits { MatchResult result
-        (λ _. IsFree (DoesNotFit (with_twin (twin_view twin.now) (state_of lent.now)) twin.now.id))
+        (λ _. Unrefused (DoesNotFit (with_twin (twin_view twin.now) (state_of lent.now)) twin.now.id))
         (FailsBy (DoesNotFit (with_twin (twin_view twin.now) (state_of lent.now)) twin.now.id)) }
 {
     let Some(old) = lent.twin(&twin.id) else {

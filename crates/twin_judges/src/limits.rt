@@ -9,7 +9,7 @@ ghost use Rattle.graph_steps.specs.States.{Twin as GraphTwin, graph_bytes, twin_
 ghost use Rattle.graph_steps.specs.TwinAsks.{TwinFull};
 ghost use Rattle.graph_steps.specs.Typed.{WellTyped};
 ghost use Rattle.json_tree.specs.View.{view};
-ghost use Rattle.twin_judges.specs.Machinery.Judged.{IsFree};
+ghost use Rattle.graph_held.specs.Judged.{Unrefused};
 
 use crate::new_twin::{NewTwin, printed};
 use dt_base::Text;
@@ -67,7 +67,7 @@ fn unless_full(lent: &Lent<'_>, twin: &Twin, bytes: u64) -> Result<(), BodyFailu
     requires typed { WellTyped (state_of lent.now) }
     requires size { bytes ≡ length (twin_text (twin_view twin.now)) }
     ensures { MatchResult result
-        (λ _. IsFree (TwinFull (with_twin (twin_view twin.now) (state_of lent.now)) (twin_view twin.now)))
+        (λ _. Unrefused (TwinFull (with_twin (twin_view twin.now) (state_of lent.now)) (twin_view twin.now)))
         (FailsBy (TwinFull (with_twin (twin_view twin.now) (state_of lent.now)) (twin_view twin.now))) }
 {
     if bytes > MOST_TWIN_BYTES {
@@ -94,7 +94,7 @@ pub(crate) fn within_limits(lent: &Lent<'_>, twin: Twin) -> Result<NewTwin, Body
     requires typed { WellTyped (state_of lent.now) }
     requires kept { IsKeptTwin (twin_view twin) }
     ensures full { MatchResult result
-        (λ new. IsFree (TwinFull (with_twin (twin_view twin) (state_of lent.now)) (twin_view twin)) × (new.twin ≡ twin))
+        (λ new. Unrefused (TwinFull (with_twin (twin_view twin) (state_of lent.now)) (twin_view twin)) × (new.twin ≡ twin))
         (FailsBy (TwinFull (with_twin (twin_view twin) (state_of lent.now)) (twin_view twin))) }
     ensures held { IfOk result (λ new. IsHeldTwin (record { twin = new.twin; bytes = new.bytes })) }
     ensures tree { IfOk result (λ new. view new.tree ≡ twin_value (twin_view new.twin)) }

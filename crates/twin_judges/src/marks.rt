@@ -9,7 +9,7 @@ ghost use Rattle.graph_steps.specs.States.{twin_at};
 ghost use Rattle.graph_steps.specs.TwinAsks.{Decommissioned};
 ghost use Rattle.graph_steps.specs.Typed.{WellTyped};
 ghost use Rattle.model_life.specs.Models.{model_at};
-ghost use Rattle.twin_judges.specs.Machinery.Judged.{IsFree};
+ghost use Rattle.graph_held.specs.Judged.{Unrefused};
 
 use crate::refusals::decommissioned;
 use dt_base::Text;
@@ -41,7 +41,7 @@ fn is_of(lent: &Lent<'_>, id: &Text, model: &Dtmi) -> bool
 pub(crate) fn unless_marked(lent: &Lent<'_>, id: &Text, model: &Dtmi) -> Result<(), BodyFailure>
     requires { WellTyped (state_of lent.now) }
     ensures { MatchResult result
-        (λ _. IsFree (Decommissioned (state_of lent.now) id.now (dtmi_text model.now)))
+        (λ _. Unrefused (Decommissioned (state_of lent.now) id.now (dtmi_text model.now)))
         (FailsBy (Decommissioned (state_of lent.now) id.now (dtmi_text model.now))) }
 {
     if !is_marked(lent, model) {

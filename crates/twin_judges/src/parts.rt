@@ -15,7 +15,7 @@ ghost use Rattle.model_resolve.specs.Resolving.{HoldsRight};
 ghost use Rattle.twin_patch.specs.Operations.{operations_of};
 ghost use Rattle.twin_patch.specs.Patched.{patched_from};
 ghost use Rattle.twin_patch.specs.declared.entry.PatchOf.{PatchOf};
-ghost use Rattle.twin_judges.specs.Machinery.Judged.{IsFree};
+ghost use Rattle.graph_held.specs.Judged.{Unrefused};
 
 use crate::components::with_component;
 use crate::limits::within_limits;
@@ -50,7 +50,7 @@ fn judged_values(
     requires right { HoldsRight (set_of (state_of lent.now)) resolutions.old }
     ensures right { HoldsRight (set_of (state_of lent.now)) resolutions.new }
     ensures judged { MatchResult result
-        (λ new. IsFree (RefusesNewPart (state_of lent.now) name.now interface.now (twin_view twin.now) (Ok (view tree.now))) × (twin_view new.twin ≡ with_part name.now (view tree.now) (twin_view twin.now)))
+        (λ new. Unrefused (RefusesNewPart (state_of lent.now) name.now interface.now (twin_view twin.now) (Ok (view tree.now))) × (twin_view new.twin ≡ with_part name.now (view tree.now) (twin_view twin.now)))
         (FailsBy (RefusesNewPart (state_of lent.now) name.now interface.now (twin_view twin.now) (Ok (view tree.now)))) }
     ensures held { IfOk result (λ new. IsHeldTwin (record { twin = new.twin; bytes = new.bytes })) }
     ensures tree { IfOk result (λ new. view new.tree ≡ twin_value (twin_view new.twin)) }
@@ -79,7 +79,7 @@ fn judged_part_of(
     requires right { HoldsRight (set_of (state_of lent.now)) resolutions.old }
     ensures right { HoldsRight (set_of (state_of lent.now)) resolutions.new }
     ensures judged { MatchResult result
-        (λ new. IsFree (RefusesNewPart (state_of lent.now) name.now interface.now (twin_view twin.now) (patched_from 0 (operations_of patch.now.ops) (part_value (view part.now))))
+        (λ new. Unrefused (RefusesNewPart (state_of lent.now) name.now interface.now (twin_view twin.now) (patched_from 0 (operations_of patch.now.ops) (part_value (view part.now))))
         × (with_twin (twin_view new.twin) (state_of lent.now) ≡ with_new_part (state_of lent.now) name.now (twin_view twin.now) (patched_from 0 (operations_of patch.now.ops) (part_value (view part.now)))))
         (FailsBy (RefusesNewPart (state_of lent.now) name.now interface.now (twin_view twin.now) (patched_from 0 (operations_of patch.now.ops) (part_value (view part.now))))) }
     ensures id { IfOk result (λ new. new.twin.id ≡ twin.now.id) }

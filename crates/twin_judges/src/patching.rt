@@ -16,7 +16,7 @@ ghost use Rattle.twin_patch.specs.Operations.{operations_of};
 ghost use Rattle.twin_patch.specs.Patched.{patched_from};
 ghost use Rattle.twin_patch.specs.declared.entry.PatchOf.{PatchOf};
 ghost use Rattle.twin_value.specs.Breaches.{HasNoBreach, IsOuterBreach};
-ghost use Rattle.twin_judges.specs.Machinery.Judged.{IsFree};
+ghost use Rattle.graph_held.specs.Judged.{Unrefused};
 
 use crate::body::judged_body;
 use crate::frozen::unless_frozen;
@@ -55,7 +55,7 @@ fn judged_new_body(
     requires right { HoldsRight (set_of (state_of lent.now)) resolutions.old }
     ensures right { HoldsRight (set_of (state_of lent.now)) resolutions.new }
     ensures judged { MatchResult result
-        (λ new. IsFree (RefusesNewBody (state_of lent.now) id.now (view tree.now))
+        (λ new. Unrefused (RefusesNewBody (state_of lent.now) id.now (view tree.now))
         × (with_twin (twin_view new.twin) (state_of lent.now) ≡ with_body (state_of lent.now) id.now (interface_in (state_of lent.now) (view tree.now)) (view tree.now)))
         (FailsBy (RefusesNewBody (state_of lent.now) id.now (view tree.now))) }
     ensures id { IfOk result (λ new. new.twin.id ≡ id.now) }
@@ -82,7 +82,7 @@ fn judged_patched(
     requires right { HoldsRight (set_of (state_of lent.now)) resolutions.old }
     ensures right { HoldsRight (set_of (state_of lent.now)) resolutions.new }
     ensures judged { MatchResult result
-        (λ new. IsFree (RefusesPatched (state_of lent.now) id.now (patched_from 0 (operations_of patch.now.ops) (twin_value (twin_view twin.now))))
+        (λ new. Unrefused (RefusesPatched (state_of lent.now) id.now (patched_from 0 (operations_of patch.now.ops) (twin_value (twin_view twin.now))))
         × (with_twin (twin_view new.twin) (state_of lent.now) ≡ with_patched (state_of lent.now) id.now (patched_from 0 (operations_of patch.now.ops) (twin_value (twin_view twin.now)))))
         (FailsBy (RefusesPatched (state_of lent.now) id.now (patched_from 0 (operations_of patch.now.ops) (twin_value (twin_view twin.now))))) }
     ensures id { IfOk result (λ new. new.twin.id ≡ id.now) }

@@ -8,7 +8,6 @@ use Rattle.graph_asks.specs.declared.ask.Ask.TheVariants as asks
 abbrev pub group_of : Refusal → ℕ
 group_of refusals.NoRoute = 0
 group_of (refusals.BadMethod allow) = 0
-group_of refusals.NotBuilt = 0
 group_of refusals.BadHead = 0
 group_of refusals.CutOff = 0
 group_of refusals.TransferCoding = 0

@@ -6,7 +6,6 @@ use Rattle.graph_asks.specs.declared.refusal.Refusal.TheVariants as refusals
 abbrev pub refusal_group : Refusal → ℕ
 refusal_group refusals.NoRoute = 0
 refusal_group (refusals.BadMethod allow) = 0
-refusal_group refusals.NotBuilt = 0
 refusal_group refusals.BadHead = 0
 refusal_group refusals.CutOff = 0
 refusal_group refusals.TransferCoding = 0

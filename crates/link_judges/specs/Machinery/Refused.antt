@@ -10,7 +10,7 @@ use Rattle.graph_steps.specs.LinkAsks.{WrongTarget, Multiplicity, LinkFull, with
 use Rattle.graph_steps.specs.Refusals.{or_else}
 use Rattle.graph_steps.specs.States.{State, Link, set_of}
 use Rattle.graph_steps.specs.TwinAsks.{TwinNotFound}
-use Rattle.link_judges.specs.Judged.{Unrefused}
+use Rattle.graph_held.specs.Judged.{Unrefused}
 
 -- The refusal that there may be, or nothing is refused so.
 abbrev pub Tells : (Refusal → Type 0) → Option Refusal → Type 0
@@ -21,12 +21,12 @@ abbrev pub RefusesDeclared : State → Option ResolvedContent → Link → Refus
 RefusesDeclared s c l = or_else (WrongTarget s c l.target) (Multiplicity s c l.source l.id l.name)
 
 -- By that, and by the limits.
-abbrev pub RefusesPlace : State → Option ResolvedContent → Link → Refusal → Type 0
-RefusesPlace s c l = or_else (WrongTarget s c l.target) (or_else (Multiplicity s c l.source l.id l.name) (LinkFull (with_link l s) l))
+abbrev pub RefusesDeclaredOrFull : State → Option ResolvedContent → Link → Refusal → Type 0
+RefusesDeclaredOrFull s c l = or_else (WrongTarget s c l.target) (or_else (Multiplicity s c l.source l.id l.name) (LinkFull (with_link l s) l))
 
 -- By its target, and all behind that.
 abbrev pub RefusesEnds : State → Interface → Link → Refusal → Type 0
-RefusesEnds s i l = or_else (TwinNotFound s l.target) (RefusesPlace s (link_called l.name (contents (set_of s) i)) l)
+RefusesEnds s i l = or_else (TwinNotFound s l.target) (RefusesDeclaredOrFull s (link_called l.name (contents (set_of s) i)) l)
 
 -- The relationship is what a patched body makes of another one.
 abbrev pub IsPatched : State → Interface → Link → Result Json ℕ → Link → Type 0

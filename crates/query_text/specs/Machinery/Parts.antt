@@ -1,5 +1,5 @@
 -- Lists that were printed in part.
-use Rattle.std.specs.Prelude.{◌≡◌, ℕ, zero, suc, ◌⊎◌, List, [], ◌∷◌, ◌++◌}
+use Rattle.std.specs.Prelude.{◌≡◌, ℕ, zero, suc, ◌⊎◌, List, [], ◌∷◌}
 use Rattle.query_text.specs.Printed.{each_behind, separated, escaped_byte}
 
 -- what stands before the text at a position

@@ -6,6 +6,6 @@ returns c = one_replay (record {
   requests = c.one_prepared.ensures;
   answered = c.one_step.ensures.answer;
   follows_one = c.one_step.ensures.state;
-  sound = λ request ask is. (c.sound_asks.ensures request ask is).0;
+  sound = c.prepared_is_right.ensures.sound;
   session = c.one_session.ensures;
 })

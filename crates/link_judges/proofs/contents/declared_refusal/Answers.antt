@@ -1,4 +1,4 @@
-use Rattle.std.proofs.Common.{◌∙◌, ℕ, IfOk, List, Option, sym, ap, subst}
+use Rattle.std.proofs.Common.{◌∙◌, IfOk, List, Option, sym, ap, subst}
 use Rattle.std.specs.Option.{option_copied}
 use Rattle.dtdl_terms.specs.declared.interface.Interface.{Interface}
 use Rattle.dtdl_terms.specs.declared.resolved.ResolvedContent.{ResolvedContent}
@@ -22,6 +22,5 @@ returns-clause-refusal c =
     (subst (λ (set : List Interface). HoldsRight set held) (c.set.ensures ∙ ap interfaces_of c.models-models.ensures) c.ready.ensures.right) (sym c.get.ensures ∙ ap option_copied c.in-Some.is) in
     subst (λ (k : Option ResolvedContent). IfOk c.content_refusal.result (Tells (RefusesDeclared s k (link_view c.args.link.now))))
     (c.link_called-content.ensures
-    ∙ ap (λ (n : List ℕ). link_called n c.as_slice.result.now) c.as_str.ensures
     ∙ ap (λ (cs : List ResolvedContent). link_called c.args.link.now.name cs) c.as_slice.ensures
     ∙ c.judged_alike.ensures.called s i c.in-Some.resolved.now in_it c.args.link.now.name) c.content_refusal.ensures

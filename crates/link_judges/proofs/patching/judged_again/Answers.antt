@@ -7,7 +7,7 @@ use Rattle.graph_steps.specs.States.{Link, set_of}
 use Rattle.graph_steps.specs.TwinAsks.{BodyFault}
 use Rattle.graph_bodies.specs.Bodies.{FailsBy}
 use Rattle.graph_held.specs.Held.{link_of, state_of}
-use Rattle.link_judges.specs.Judged.{Unrefused}
+use Rattle.graph_held.specs.Judged.{Unrefused}
 use Rattle.link_judges.specs.declared.new_link.NewLink.{NewLink}
 use Rattle.link_judges.proofs.Glued.{first_fails, later}
 use Rattle.link_judges.proofs.Puts.{no_fault}

@@ -7,7 +7,7 @@ use Rattle.graph_steps.specs.States.{set_of}
 use Rattle.graph_steps.specs.TwinAsks.{TwinNotFound}
 use Rattle.graph_bodies.specs.Kept.{link_view, twin_view}
 use Rattle.graph_held.specs.Held.{link_of, state_of}
-use Rattle.link_judges.specs.Machinery.Refused.{RefusesEnds, RefusesPlace}
+use Rattle.link_judges.specs.Machinery.Refused.{RefusesEnds, RefusesDeclaredOrFull}
 use Rattle.link_judges.specs.declared.new_link.NewLink.{NewLink}
 use Rattle.link_judges.proofs.Glued.{refused_by, later}
 use Rattle.link_judges.proofs.Puts.{has_source}
@@ -25,5 +25,5 @@ fitting-requires-clause-target c = sym c.twin.ensures.at ∙ ap (λ o. option_ma
 pub returns-clause-judged : goal.returns-clause-judged
 returns-clause-judged c =
     let s = state_of c.args.lent.now in
-    later (TwinNotFound s c.args.link.target) (RefusesPlace s (link_called c.args.link.name (contents (set_of s) c.args.interface.now)) (link_view c.args.link)) (λ (new : NewLink). link_of new.edge ≡ link_view c.args.link) c.fitting.result
+    later (TwinNotFound s c.args.link.target) (RefusesDeclaredOrFull s (link_called c.args.link.name (contents (set_of s) c.args.interface.now)) (link_view c.args.link)) (λ (new : NewLink). link_of new.edge ≡ link_view c.args.link) c.fitting.result
     (has_source s c.args.link.target (twin_view c.in-Some.twin.now) (sym c.twin.ensures.at ∙ ap (λ o. option_map twin_view (option_copied o)) c.in-Some.is)) c.fitting.ensures.judged

@@ -1,4 +1,4 @@
-use Rattle.std.proofs.Common.{◌≡◌, ◌++◌, ◌∷◌, [], List, ℕ, string_bytes, codes}
+use Rattle.std.proofs.Common.{◌++◌, ◌∷◌, [], string_bytes, codes}
 use Rattle.std.proofs.lemmas.Result.{on_ok_weaker}
 use Rattle.query_text.specs.Printed.{model_text, twin_text, exact_text}
 use Rattle.query_text.proofs.Parts.{four}

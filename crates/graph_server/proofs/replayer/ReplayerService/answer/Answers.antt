@@ -1,47 +1,22 @@
-use Rattle.std.proofs.Common.{None, Some, refl}
-use Rattle.graph_asks.specs.Answers.{answer_of}
-use Rattle.graph_routes.specs.Responses.{response_for}
-use Rattle.graph_server.specs.Entries.{entry}
-use Rattle.graph_server.proofs.Answering.{made, decided, owned, entered, written}
-use Rattle.graph_server.proofs.Methods.{reply_lists}
+use Rattle.std.proofs.Common.{refl}
 use Rattle.graph_held.specs.Held.{state_of}
+use Rattle.graph_server.specs.Entries.{IsHistory}
+use Rattle.graph_server.proofs.Answering.{asked, decided, made, refused}
 use Rattle.graph_server.proofs.replayer.ReplayerService.answer.Goals as goal
 
-pub returns-in-Ok-response_of_refusal-clause-answers : goal.returns-in-Ok-response_of_refusal-clause-answers
-returns-in-Ok-response_of_refusal-clause-answers c = (
-  None,
-  refl,
-  owned c.args.request.now c.in-Ok.prepared c.in-Own.refusal c.in-Ok-response_of_refusal.response c.in-Ok.ensures c.in-Own.is c.in-Ok-response_of_refusal.ensures.response,
-  refl,
-)
+pub answer_of_refusal-requires : goal.answer_of_refusal-requires
+answer_of_refusal-requires c = c.prepared_is_right.ensures.written c.args.request.now c.in-Own.refusal (decided c.args.request.now c.in-Ok.prepared c.in-Own.refusal c.in-Ok.ensures c.in-Own.is)
 
-pub returns-in-Ok-response_of_refusal-clause-writable : goal.returns-in-Ok-response_of_refusal-clause-writable
-returns-in-Ok-response_of_refusal-clause-writable c =
-    let prepared = decided c.args.request.now c.in-Ok.prepared c.in-Own.refusal c.in-Ok.ensures c.in-Own.is in
-    written c.in-Ok-response_of_refusal.response (c.in-Ok-response_of_refusal.ensures.writable (c.prepared_is_right.ensures.written c.args.request.now c.in-Own.refusal prepared))
+pub returns-in-Own-clause-answers : goal.returns-in-Own-clause-answers
+returns-in-Own-clause-answers c =
+    refused (λ a es b. IsHistory (state_of a.machine) es (state_of b.machine)) c.args.self.now c.args.self.now (state_of c.args.self.now.machine) _ (λ es h. h) c.args.request.now c.in-Own.refusal c.answer_of_refusal.result
+    (decided c.args.request.now c.in-Ok.prepared c.in-Own.refusal c.in-Ok.ensures c.in-Own.is) refl c.answer_of_refusal.ensures.refused
 
-pub step-requires : goal.step-requires
-step-requires c = record { sound = c.sound_asks.ensures c.args.request.now c.in-Ask.ask (made c.args.request.now c.in-Ok.prepared c.in-Ask.ask c.in-Ok.ensures c.in-Ask.is) }
+pub answer_of_graph-requires : goal.answer_of_graph-requires
+answer_of_graph-requires c = c.prepared_is_right.ensures.sound c.args.request.now c.in-Ask.ask (made c.args.request.now c.in-Ok.prepared c.in-Ask.ask c.in-Ok.ensures c.in-Ask.is)
 
-pub returns-in-Ok-response_of-clause-answers : goal.returns-in-Ok-response_of-clause-answers
-returns-in-Ok-response_of-clause-answers c =
-    let sound = c.sound_asks.ensures c.args.request.now c.in-Ask.ask (made c.args.request.now c.in-Ok.prepared c.in-Ask.ask c.in-Ok.ensures c.in-Ask.is) in (
-      Some (entry c.in-Ask.ask (answer_of c.in-Ok-step.reply)),
-      ((sound.0, c.in-Ok-step.ensures.allowed), c.in-Ok-step.ensures.follows),
-      entered c.args.request.now c.in-Ok.prepared c.in-Ask.ask c.in-Ok-step.reply c.in-Ok-response_of.response c.in-Ok.ensures c.in-Ask.is c.in-Ok-response_of.ensures.response,
-      refl,
-    )
-
-pub returns-in-Ok-response_of-clause-writable : goal.returns-in-Ok-response_of-clause-writable
-returns-in-Ok-response_of-clause-writable c =
-    written c.in-Ok-response_of.response
-    (c.in-Ok-response_of.ensures.writable (reply_lists (state_of c.args.self.now.machine) c.in-Ask.ask c.in-Ok-step.reply c.in-Ok-step.ensures.allowed))
-
-pub returns-clause-answers : goal.returns-clause-answers
-returns-clause-answers c =
-    let sound = c.sound_asks.ensures c.args.request.now c.in-Ask.ask (made c.args.request.now c.in-Ok.prepared c.in-Ask.ask c.in-Ok.ensures c.in-Ask.is) in (
-      entry c.in-Ask.ask (answer_of c.in-Ok-step.reply),
-      response_for c.in-Ok-step.reply,
-      ((sound.0, c.in-Ok-step.ensures.allowed), c.in-Ok-step.ensures.follows),
-      entered c.args.request.now c.in-Ok.prepared c.in-Ask.ask c.in-Ok-step.reply (response_for c.in-Ok-step.reply) c.in-Ok.ensures c.in-Ask.is refl,
-    )
+pub returns-in-Ask-clause-answers : goal.returns-in-Ask-clause-answers
+returns-in-Ask-clause-answers c =
+    let is = made c.args.request.now c.in-Ok.prepared c.in-Ask.ask c.in-Ok.ensures c.in-Ask.is in
+    asked (λ a es b. IsHistory (state_of a.machine) es (state_of b.machine)) c.args.self.now c.answer_of_graph.new.self (state_of c.args.self.now.machine) (state_of c.answer_of_graph.new.self.machine) (λ es h. h) c.args.request.now c.in-Ask.ask c.answer_of_graph.result is
+    (c.prepared_is_right.ensures.sound c.args.request.now c.in-Ask.ask is) c.answer_of_graph.ensures.asked

@@ -1,0 +1,3 @@
+pub mod Breaching
+pub mod OneOutcome
+pub mod Soundly

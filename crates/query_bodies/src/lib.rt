@@ -1,0 +1,12 @@
+//! Which ask the value of a query's body makes, or which refusal it decides.
+#![tactic(auto)]
+
+mod asks;
+mod breaches;
+mod faults;
+mod laws;
+#[cfg(test)]
+mod tests;
+
+pub use asks::ask_of_body;
+pub use laws::{one_outcome, sound_ask};

@@ -1,0 +1,4 @@
+-- What public contracts cite, and what serves the proofs alone.
+pub mod Models
+pub mod Views
+pub mod Machinery

@@ -1,0 +1,15 @@
+//! When a condition of a query holds of a row, and the graph that it is asked of.
+#![tactic(auto)]
+
+mod comparing;
+mod holding;
+mod kinds;
+mod models;
+mod parts;
+mod sides;
+mod twins;
+mod view;
+
+pub use holding::holds;
+pub use models::is_of_model;
+pub use view::GraphView;

@@ -1,0 +1,13 @@
+pub mod Lists
+pub mod Ordered
+pub mod Sources
+pub mod Joins
+pub mod Walks
+pub mod Gathers
+pub mod Skips
+pub mod Pages
+pub mod Pushed
+pub mod Ids
+pub mod Zeros
+pub mod Items
+pub mod Along

@@ -1,0 +1,4 @@
+-- What public contracts cite.
+pub mod Entries
+-- What proofs alone rest on: no public contract speaks of it.
+pub mod Machinery

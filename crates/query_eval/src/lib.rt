@@ -1,0 +1,13 @@
+//! The rows of a query over a graph, a page at a time.
+#![tactic(auto)]
+
+mod gathering;
+mod joining;
+mod keys;
+mod numbers;
+mod paging;
+mod projection;
+mod walk;
+
+pub use paging::{Rows, page};
+pub use query_conditions::GraphView;

@@ -1,0 +1,25 @@
+use Rattle.std.proofs.Common.{◌≡◌, ◌<◌, ◌∷◌, map, sym, ap, ◌∙◌, arith}
+use Rattle.query_terms.specs.Machinery.Weights.{total}
+use Rattle.query_terms.specs.Machinery.Parts.{rebuilt, stacked}
+use Rattle.query_terms.proofs.Parts.{now, rebuilt_more, stacked_more, total_more}
+use Rattle.query_terms.proofs.copying.parts_of.Goals as goal
+
+pub waiting-smaller : goal.waiting-smaller
+waiting-smaller c =
+    let whole = ap (λ xs. total (map now xs)) c.in-Some.ensures.items ∙ total_more c.pop.new.self.items c.in-Some.next in
+    let lighter = c.in_ok-wait_for_parts.ensures.lighter in
+    let smaller : total (map now c.wait_for_parts.new.waiting.items) < total (map now c.waiting.waiting.items) = omega (arith, whole, lighter) in
+    smaller
+
+pub waiting-preserved : goal.waiting-preserved
+waiting-preserved c =
+    let parts = c.waiting.parts.items in
+    let next = c.in-Some.next in
+    let before = stacked (map now c.pop.new.self.items) in
+    let behind = stacked (map now c.wait_for_parts.new.waiting.items) in
+    let popped : stacked (map now c.waiting.waiting.items) ≡ _ ∷ before =
+    ap (λ xs. stacked (map now xs)) c.in-Some.ensures.items ∙ stacked_more c.pop.new.self.items next in
+    ap (λ xs. rebuilt (map now xs) behind) c.in_ok-push-2.ensures.items
+    ∙ rebuilt_more parts next behind
+    ∙ ap (λ xs. rebuilt (map now parts) xs) (c.in_ok-wait_for_parts.ensures.parts ∙ sym popped)
+    ∙ c.waiting.invariant

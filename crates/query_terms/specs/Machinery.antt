@@ -1,0 +1,3 @@
+-- What ties functions to the conditions that they take apart.
+pub mod Weights
+pub mod Parts

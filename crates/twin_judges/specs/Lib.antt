@@ -1,2 +1,0 @@
--- What proofs alone rest on: no public contract speaks of it.
-pub mod Machinery
