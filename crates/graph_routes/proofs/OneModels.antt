@@ -24,7 +24,7 @@ use Rattle.graph_routes.specs.Outcomes.{WithBody, not_allowed}
 use Rattle.graph_routes.specs.declared.method.Method.{Method}
 use Rattle.graph_routes.specs.declared.method.Method.TheVariants as method
 use Rattle.graph_routes.specs.declared.prepared.Prepared.{Prepared}
-use Rattle.graph_routes.specs.declared.prepared.Prepared.TheVariants.{Ask, Own}
+use Rattle.graph_routes.specs.declared.prepared.Prepared.TheVariants.{Ask}
 use Rattle.graph_routes.specs.declared.route.Route.{Route}
 use Rattle.graph_routes.specs.declared.route.Route.TheVariants as route
 use Rattle.graph_routes.proofs.OneOutcome.{IsOne, Laws, alike, one_named, one_patch_fault, one_with_body, refused}

@@ -37,7 +37,7 @@ spelled_back method.Patch = refl
 spelled_back method.Post = refl
 spelled_back method.Put = refl
 
-one_method : (m n : Method) → method_text m ≡ method_text n → m ≡ n
+pub one_method : (m n : Method) → method_text m ≡ method_text n → m ≡ n
 one_method m n e = sym (spelled_back m) ∙ ap spelled_by e ∙ spelled_back n
 
 -- ---- asks

@@ -1,8 +1,7 @@
 -- What comes of one thing in a request is right.
-use Rattle.std.proofs.Common.{◌≡◌, ℕ, List, Option, Some, None, sym, subst, inl, inr}
+use Rattle.std.proofs.Common.{◌≡◌, ℕ, List, Option, None, sym, subst, inl, inr}
 use Rattle.json_tree.specs.Values.{Json}
 use Rattle.json_tree.specs.Grammar.{Spells}
-use Rattle.http_ends.specs.Replies.{IsAllowed}
 use Rattle.json_read.specs.declared.fault.JsonFault.{JsonFault}
 use Rattle.json_read.specs.declared.fault.JsonFault.TheVariants as faults
 use Rattle.local_rules.specs.Members.{members_in}

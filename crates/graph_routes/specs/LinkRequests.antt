@@ -16,7 +16,7 @@ use Rattle.graph_routes.specs.TwinRequests.{WithId}
 use Rattle.graph_routes.specs.declared.method.Method.{Method}
 use Rattle.graph_routes.specs.declared.method.Method.TheVariants as method
 use Rattle.graph_routes.specs.declared.prepared.Prepared.{Prepared}
-use Rattle.graph_routes.specs.declared.prepared.Prepared.TheVariants.{Ask, Own}
+use Rattle.graph_routes.specs.declared.prepared.Prepared.TheVariants.{Ask}
 use Rattle.graph_routes.specs.declared.route.Route.TheVariants as route
 
 -- The ask with the value as a relationship of this source and id, of the name and to the target that the value gives.

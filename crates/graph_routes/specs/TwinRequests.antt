@@ -18,7 +18,7 @@ use Rattle.graph_routes.specs.Outcomes.{Named, WithBody, WithPatch, WithValue, n
 use Rattle.graph_routes.specs.declared.method.Method.{Method}
 use Rattle.graph_routes.specs.declared.method.Method.TheVariants as method
 use Rattle.graph_routes.specs.declared.prepared.Prepared.{Prepared}
-use Rattle.graph_routes.specs.declared.prepared.Prepared.TheVariants.{Ask, Own}
+use Rattle.graph_routes.specs.declared.prepared.Prepared.TheVariants.{Ask}
 use Rattle.graph_routes.specs.declared.route.Route.TheVariants as route
 
 -- The part of a path at this position, which has to name a twin or a relationship.
