@@ -10,11 +10,14 @@ use Rattle.graph_routes.proofs.router.asked_of.Goals as goal
 -- no method of the path has the name
 pub returns-in_default : goal.returns-in_default
 returns-in_default c =
-    IfOk-weaker c.not_allowed.result _ _ (λ answer e parts matches. inl ((λ m is. elim c.in_default.branch [
-      in_default-via-in-Some+else-has_method w ↦
-        let same = one_method m w.in-Some.method (sym is.0 ∙ sym c.as_str.ensures ∙ w.in-Some.ensures) in
-        let there = w.has_method.ensures.1 (subst (λ (n : Method). Contains (methods c.args.route) n) same is.1) in
-        let not = w.if-has_method.false in
-        cc
-    | in_default-via-in_default w ↦ w.in_default.ensures m (c.as_str.ensures ∙ is.0)
-    ]), e)) c.not_allowed.ensures
+    IfOk-weaker c.not_allowed.result _ _ (λ answer e parts matches. inl (
+      (λ m is. elim c.in_default.branch [
+        | in_default-via-in-Some+else-has_method w ↦
+            let same = one_method m w.in-Some.method (sym is.0 ∙ sym c.as_str.ensures ∙ w.in-Some.ensures) in
+            let there = w.has_method.ensures.1 (subst (λ (n : Method). Contains (methods c.args.route) n) same is.1) in
+            let not = w.if-has_method.false in
+            cc
+        | in_default-via-in_default w ↦ w.in_default.ensures m (c.as_str.ensures ∙ is.0)
+      ]),
+      e,
+    )) c.not_allowed.ensures
