@@ -15,7 +15,7 @@ use Rattle.graph_routes.specs.Parts.{NamesModel, part_at}
 use Rattle.graph_routes.specs.Bodies.{most_models}
 use Rattle.graph_routes.specs.ModelRequests.{AsksCanon, AsksModel, AsksModels, Marks, PutsModels}
 use Rattle.graph_routes.specs.Outcomes.{WithBody}
-use Rattle.graph_routes.specs.Prepared.{Asks, IsPrepared}
+use Rattle.graph_routes.specs.Prepared.{Asks, IsPrepared, LacksMethod}
 use Rattle.graph_routes.specs.Responses.{ListsMethods}
 use Rattle.graph_routes.specs.declared.method.Method.{Method}
 use Rattle.graph_routes.specs.declared.method.Method.TheVariants as method
@@ -25,7 +25,7 @@ use Rattle.graph_routes.specs.declared.route.Route.{Route}
 use Rattle.graph_routes.specs.declared.route.Route.TheVariants as route
 use Rattle.graph_routes.proofs.Listed.{has, listed_method}
 use Rattle.graph_routes.proofs.SoundModels.{TypesAreTold, sound_models}
-use Rattle.graph_routes.proofs.SoundOutcome.{IsRight, right_body, right_by, right_named}
+use Rattle.graph_routes.proofs.SoundOutcome.{IsDecided, IsRight, right_body, right_by, right_named}
 use Rattle.graph_routes.proofs.SoundQueries.{right_query}
 use Rattle.graph_routes.proofs.SoundTwins.{right_incoming, right_link, right_links, right_part, right_twin}
 
@@ -41,7 +41,7 @@ listed route.IncomingRelationships = (refl, refl)
 listed route.Query = (refl, refl)
 
 marked : (id : Identifier) → IsModelOf id → (v : Json) (p : Prepared) → Marks id v p → IsRight p
-marked id is v p (inl (r, (index, code, h, x), e)) = right_by p (Own r) e (subst ListsMethods (sym x) tt)
+marked id is v p (inl (r, (index, code, h, x), e)) = right_by p (Own r) e (subst IsDecided (sym x) tt)
 marked id is v p (inr (on, h, e)) = right_by p (Ask (asks.Mark id on)) e is
 
 model_of : (part : List ℕ) (id : Identifier) → NamesModel part id → IsModelOf id
@@ -51,7 +51,7 @@ model_of part id h =
 
 put : TypesAreTold → (body : List ℕ) (v : Json) (p : Prepared) → Spells body v → PutsModels v p → IsRight p
 put told body v p spelled (inl (many, e)) = right_by p (Own (refusals.TooManyModels most_models)) e tt
-put told body v p spelled (inr (inl (few, (r, (place, broken, pointer, first, is, x), e)))) = right_by p (Own r) e (subst ListsMethods (sym x) tt)
+put told body v p spelled (inr (inl (few, (r, (place, broken, pointer, first, is, x), e)))) = right_by p (Own r) e (subst IsDecided (sym x) tt)
 put told body v p spelled (inr (inr (few, (models, h, e)))) = right_by p (Ask (asks.PutModels models)) e (sound_models told body v models spelled h)
 
 right_models : TypesAreTold → (m : Method) (body : List ℕ) (p : Prepared) → AsksModels m body p → has (methods route.Models) m ≡ true → IsRight p
@@ -90,14 +90,34 @@ asked told route.Relationship m parts request p h there = right_link m (part_at 
 asked told route.IncomingRelationships m parts request p h there = right_incoming m (part_at 0 parts) request.query p h there
 asked told route.Query m parts request p h there = right_query m request.body p h there
 
-right : TypesAreTold → (request : Request) (p : Prepared) → IsPrepared request p → IsRight p
+-- What is made of a request can be used.
+abbrev IsUsable : Prepared → Type 0
+IsUsable (Ask ask) = IsSound ask
+IsUsable (Own refusal) = ListsMethods refusal
+
+lists : (r : Refusal) → IsDecided r → ListsMethods r
+lists (refusals.BadMethod allow) h = absurd h
+lists other h = tt
+
+usable : (p : Prepared) → IsRight p → IsUsable p
+usable (Ask ask) h = h
+usable (Own refusal) h = lists refusal h
+
+all_usable : TypesAreTold → (request : Request) (p : Prepared) → IsPrepared request p → IsUsable p
 unfolding IsPrepared
-right told request p (inl (none, e)) = right_by p (Own refusals.NoRoute) e tt
-right told request p (inr (r, parts, m, inl (none, e))) = right_by p (Own (refusals.BadMethod (allow_text r))) e (listed r)
-right told request p (inr (r, parts, m, inr (n, is, h))) = asked told r n parts request p h (listed_method (methods r) n is.1)
+all_usable told request p (inl (none, e)) = subst IsUsable (sym e) tt
+all_usable told request p (inr (r, parts, m, inl (none, e))) = subst IsUsable (sym e) (listed r)
+all_usable told request p (inr (r, parts, m, inr (n, is, h))) = usable p (asked told r n parts request p h (listed_method (methods r) n is.1))
 
 pub sound_ask : TypesAreTold → (request : Request) (ask : ask_type.Ask) → IsPrepared request (Ask ask) → IsSound ask
-sound_ask told request ask h = right told request (Ask ask) h
+sound_ask told request ask h = all_usable told request (Ask ask) h
 
 pub lists_methods : TypesAreTold → (request : Request) (refusal : Refusal) → IsPrepared request (Own refusal) → ListsMethods refusal
-lists_methods told request refusal h = right told request (Own refusal) h
+lists_methods told request refusal h = all_usable told request (Own refusal) h
+
+-- a method is refused of a path that does not have it
+pub lacks_method : TypesAreTold → (request : Request) (allow : List ℕ) → IsPrepared request (Own (refusals.BadMethod allow)) → LacksMethod request
+unfolding IsPrepared
+lacks_method told request allow (inl (none, e)) = absurd (subst IsRight (sym e) tt)
+lacks_method told request allow (inr (r, parts, m, inl (none, e))) = (r, parts, m, none)
+lacks_method told request allow (inr (r, parts, m, inr (n, is, h))) = absurd (asked told r n parts request (Own (refusals.BadMethod allow)) h (listed_method (methods r) n is.1))

@@ -7,21 +7,20 @@ use Rattle.graph_asks.specs.declared.refusal.Refusal.{Refusal}
 use Rattle.graph_asks.specs.declared.refusal.Refusal.TheVariants as refusals
 use Rattle.graph_routes.specs.Methods.{methods}
 use Rattle.graph_routes.specs.QueryRequests.{AsksQuery, AsksRows, prepared_of}
-use Rattle.graph_routes.specs.Responses.{ListsMethods}
 use Rattle.graph_routes.specs.declared.method.Method.{Method}
 use Rattle.graph_routes.specs.declared.method.Method.TheVariants as method
 use Rattle.graph_routes.specs.declared.prepared.Prepared.{Prepared}
 use Rattle.graph_routes.specs.declared.route.Route.TheVariants as route
 use Rattle.graph_routes.proofs.Listed.{has}
-use Rattle.graph_routes.proofs.SoundOutcome.{IsRight, right_body, right_by}
+use Rattle.graph_routes.proofs.SoundOutcome.{IsDecided, IsRight, right_body, right_by}
 
-lists : (r : Refusal) → IsOfBody r → ListsMethods r
-lists (refusals.BadMethod allow) h = absurd h
-lists other h = tt
+decided : (r : Refusal) → IsOfBody r → IsDecided r
+decided (refusals.BadMethod allow) h = absurd h
+decided other h = tt
 
 right_outcome : (v : Json) (x : Outcome) → IsMadeOfBody v x → IsRight (prepared_of x)
 right_outcome v (Ok ask) h = sound v ask h
-right_outcome v (Err refusal) h = lists refusal (of_body v refusal h)
+right_outcome v (Err refusal) h = decided refusal (of_body v refusal h)
 
 right_rows : (v : Json) (p : Prepared) → AsksRows v p → IsRight p
 right_rows v p (x, is, e) = right_by p (prepared_of x) e (right_outcome v x is)

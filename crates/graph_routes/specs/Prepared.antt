@@ -41,6 +41,10 @@ abbrev pub AsksOf : Route → List (List ℕ) → Request → Prepared → Type 
 AsksOf r parts request answer = (((m : Method) → IsMethodOf r request.method m → ⊥) × (answer ≡ not_allowed r))
     ⊎ ((m : Method) × IsMethodOf r request.method m × Asks r m parts request answer)
 
+-- The path is one of the table, which does not have the method.
+abbrev pub LacksMethod : Request → Type 0
+LacksMethod request = (r : Route) × (parts : List (List ℕ)) × Matches r parts request.path × ((m : Method) → IsMethodOf r request.method m → ⊥)
+
 -- The request is this ask, or its bytes decide this refusal.
 unfoldable pub IsPrepared : Request → Prepared → Type 0
 IsPrepared request answer = (((r : Route) (parts : List (List ℕ)) → Matches r parts request.path → ⊥) × (answer ≡ Own refusals.NoRoute))

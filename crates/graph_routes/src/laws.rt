@@ -1,9 +1,11 @@
 //! What the definitions of prepared requests say, whatever is asked.
 
+ghost use Rattle.std.specs.Prelude.{ℕ, List};
 ghost use Rattle.http_ends.specs.declared.request.Request.{Request};
 ghost use Rattle.graph_asks.specs.declared.ask.Ask.{Ask};
 ghost use Rattle.graph_asks.specs.declared.refusal.Refusal.{Refusal};
-ghost use Rattle.graph_routes.specs.Prepared.{ArePreparedAlike, IsPrepared};
+ghost use Rattle.graph_asks.specs.declared.refusal.Refusal.TheVariants as refusals;
+ghost use Rattle.graph_routes.specs.Prepared.{ArePreparedAlike, IsPrepared, LacksMethod};
 ghost use Rattle.graph_routes.specs.Responses.{ListsMethods};
 ghost use Rattle.graph_routes.specs.declared.prepared.Prepared.{Prepared};
 ghost use Rattle.graph_routes.specs.declared.prepared.Prepared.TheVariants as made;
@@ -22,9 +24,11 @@ pub fn one_prepared()
     one_answer();
 }
 
-/// What is made of a request can be used: an ask is sound, and a refusal can be written as a reply.
+/// What is made of a request can be used: an ask is sound, and a refusal can be written as a reply. A method is refused only where
+/// the path does not have it, so each method that a path lists is asked something.
 pub fn prepared_is_right()
     ensures sound { (request : Request) (ask : Ask) → IsPrepared request (made.Ask ask) → IsSound ask }
+    ensures lacks { (request : Request) (allow : List ℕ) → IsPrepared request (made.Own (refusals.BadMethod allow)) → LacksMethod request }
     ensures written { (request : Request) (refusal : Refusal) → IsPrepared request (made.Own refusal) → ListsMethods refusal }
 {
     have_types();
