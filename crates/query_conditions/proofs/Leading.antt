@@ -14,11 +14,11 @@ use Rattle.query_conditions.specs.Models.{is_of_model}
 use Rattle.query_conditions.specs.Machinery.Within.{leads_within, any_within}
 
 -- ---- paths
-both : (a b : Bool) → (a && b) ≡ true → (a ≡ true) × (b ≡ true)
+pub both : (a b : Bool) → (a && b) ≡ true → (a ≡ true) × (b ≡ true)
 both true b h = (refl, h)
 both false b h = absurd (true≢false (sym h))
 
-same-from : (ps qs : List (List ℕ)) → same_segments ps qs ≡ true → ps ≡ qs
+pub same-from : (ps qs : List (List ℕ)) → same_segments ps qs ≡ true → ps ≡ qs
 same-from [] [] h = refl
 same-from [] (q ∷ qs) h = absurd (true≢false (sym h))
 same-from (p ∷ ps) [] h = absurd (true≢false (sym h))

@@ -1,3 +1,4 @@
 pub mod Leading
 pub mod Places
 pub mod Plainly
+pub mod Starts

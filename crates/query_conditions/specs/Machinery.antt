@@ -1,3 +1,4 @@
 pub mod Plain
 pub mod Sides
+pub mod Starts
 pub mod Within

@@ -11,5 +11,5 @@ mod twins;
 mod view;
 
 pub use holding::holds;
-pub use models::is_of_model;
+pub use models::{is_of_model, one_reaches};
 pub use view::GraphView;

@@ -1,16 +1,21 @@
 //! Whether a model is of a named one.
 
-ghost use Rattle.std.specs.Prelude.{◌≡◌};
+ghost use Rattle.std.specs.Prelude.{◌≡◌, ◌==◌, ◌≤◌, length, position};
+ghost use Rattle.std.specs.List.{list_any, filter};
+ghost use Rattle.std.specs.List.Sorted.{IsStrictlySortedBy};
 ghost use Rattle.std.specs.Option.{option_copied};
+ghost use Rattle.dtmi_name.specs.Grammar.{id_cmp};
 ghost use Rattle.extend_resolve.specs.Breaches.{BreaksNoRule};
 ghost use Rattle.extend_resolve.specs.Machinery.Within.{passes};
 ghost use Rattle.graph_steps.specs.Conditions.{same_segments, reaches};
 ghost use Rattle.query_conditions.specs.Models.{is_of_model};
+ghost use Rattle.query_conditions.specs.Machinery.Starts.{path_start, start_cmp, begins_so, is_before, is_upto, Parts};
 ghost use Rattle.query_conditions.specs.Machinery.Within.{leads_within, any_within};
 
 use dtdl_terms::{Interface, ModelSet};
 use dtmi_name::{Dtmi, same_path};
 use extend_resolve::MOST_STEPS;
+use std::cmp::Ordering;
 
 /// Whether a model is of the named one, in a set that breaks no rule (`IS_OF_MODEL` of the query language of Azure Digital
 /// Twins): whether it, or an interface that it extends, has the same path and a version at least as great. A model that is
@@ -26,6 +31,73 @@ pub fn is_of_model(set: &ModelSet, model: &Dtmi, named: &Dtmi, exact: bool) -> b
         Some(interface) => leads(set, interface, named, MOST_STEPS),
         None => reaches(model, named),
     }
+}
+
+/// Whether one of the identifiers, which ascend, has the path of the named one and a version at least as great. Looks at
+/// logarithmically many, and at those of that path. Takes no memory.
+pub fn one_reaches(ids: &[Dtmi], named: &Dtmi) -> bool
+    requires ascending { IsStrictlySortedBy id_cmp ids.now }
+    ensures { result ≡ list_any (λ id. reaches id named.now) ids.now }
+{
+    any_reaches(of_path(ids, named), named)
+}
+
+/// Those of the identifiers, which ascend, that have the path of the named one.
+fn of_path<'a>(ids: &'a [Dtmi], named: &Dtmi) -> &'a [Dtmi]
+    requires ascending { IsStrictlySortedBy id_cmp ids.now }
+    ensures { result.now ≡ filter (begins_so (path_start named.now)) ids.now }
+{
+    let start = path_start(named);
+    &ids[first_from(ids, start)..first_past(ids, start)]
+}
+
+/// Where the first of the identifiers, which ascend, stands that is not before all that begin with these bytes.
+fn first_from(ids: &[Dtmi], start: &[u8]) -> usize
+    requires ascending { IsStrictlySortedBy id_cmp ids.now }
+    ensures within { result ≤ length ids.now }
+    ensures parted { Parts (is_before start.now) ids.now result }
+{
+    ids.partition_point(|id| order_to_start(id, start).is_lt())
+}
+
+/// Where the first of the identifiers, which ascend, stands that is past all that begin with these bytes.
+fn first_past(ids: &[Dtmi], start: &[u8]) -> usize
+    requires ascending { IsStrictlySortedBy id_cmp ids.now }
+    ensures within { result ≤ length ids.now }
+    ensures parted { Parts (is_upto start.now) ids.now result }
+{
+    ids.partition_point(|id| order_to_start(id, start).is_le())
+}
+
+/// Whether one of the identifiers has the path of the named one and a version at least as great.
+fn any_reaches(ids: &[Dtmi], named: &Dtmi) -> bool
+    ensures { result ≡ list_any (λ id. reaches id named.now) ids.now }
+{
+    ids.iter().any(|id| reaches(id, named))
+}
+
+/// The bytes with which the identifiers of this one's path begin, and no others: those up to its `;`, and the `;`.
+fn path_start(id: &Dtmi) -> &[u8]
+    ensures { result.now ≡ path_start id.now }
+{
+    let bytes = id.as_str().as_bytes();
+    let end = end_of_path(bytes).unwrap();
+    &bytes[..=end]
+}
+
+/// Where the first `;` stands.
+fn end_of_path(bytes: &[u8]) -> Option<usize>
+    ensures { result ≡ position (λ b. b == 59) bytes.now }
+{
+    bytes.iter().position(|byte| *byte == b';')
+}
+
+/// How an identifier, cut to as many bytes, stands to these.
+fn order_to_start(id: &Dtmi, start: &[u8]) -> Ordering
+    ensures { result ≡ start_cmp start.now id.now }
+{
+    let bytes = id.as_str().as_bytes();
+    bytes[..start.len().min(bytes.len())].cmp(start)
 }
 
 /// Whether the segments of two identifiers are one by one the same.
