@@ -7,7 +7,7 @@ use Rattle.std.proofs.Math.Seq.{take-nil}
 use Rattle.std.specs.declared.alloc.Global.{Global}
 use Rattle.std.specs.Io.KnownBytes.{Appends}
 use Rattle.dt_base.specs.Faults.{Rose}
-use Rattle.dtdl_cmd.specs.Words.{AreCommand, AreReplay, IsCommand, command_word}
+use Rattle.dtdl_cmd.specs.Words.{AreCommand, AreMake, AreReplay, IsCommand, command_word}
 use Rattle.dtdl_cmd.specs.Documents.{AreFound, HasUnder, ShelfChange, StreamChange}
 use Rattle.dtdl_cmd.specs.Lines.{usage_line}
 use Rattle.dtdl_cmd.specs.Answers.{AnswersFound}
@@ -28,10 +28,10 @@ said words input shelf output s result line answers (inr h) =
     inr (inl (h.0, h.1, broken))
 
 pub no_command : (words : List (String Global)) (input : StreamChange) (shelf : ShelfChange) → ((command : Command) (names : List (List ℕ)) → IsCommand words command names → ⊥) → (AreReplay words → ⊥)
-    → AnswersInput words input shelf status.Usage usage_line
-no_command words input shelf none other =
+    → ((n : ℕ) → AreMake words n → ⊥) → AnswersInput words input shelf status.Usage usage_line
+no_command words input shelf none other nor =
     let not : AreCommand words → ⊥ = λ h. none h.0 h.1 h.2 in
-    record { found = []; held = λ command names is. absurd (none command names is); answers = inl (refl, (not, other), refl) }
+    record { found = []; held = λ command names is. absurd (none command names is); answers = inl (refl, (not, other, nor), refl) }
 
 same_names : (w v : List ℕ) (names more : List (List ℕ)) → w ∷ names ≡ v ∷ more → names ≡ more
 same_names w v names more e = cc

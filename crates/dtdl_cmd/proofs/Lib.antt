@@ -10,4 +10,7 @@ pub mod Names
 pub mod Judged
 pub mod DeclaredSets
 pub mod PrintsItself
+pub mod Rooms
+pub mod OtherWords
 pub mod OneReplay
+pub mod OneMake

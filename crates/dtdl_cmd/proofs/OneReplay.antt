@@ -1,6 +1,5 @@
 -- The words of a replay and the input's bytes decide its status and what is written.
-use Rattle.std.proofs.Common.{◌≡◌, ℕ, List, [], ◌∷◌, ◌++◌, Option, None, Some, String, inl, inr, sym, ap, subst, ◌∙◌, get_or, arith}
-use Rattle.std.specs.Prelude.{codes}
+use Rattle.std.proofs.Common.{◌≡◌, ℕ, List, ◌++◌, Option, None, Some, String, inl, inr, sym, ap, subst, ◌∙◌}
 use Rattle.std.specs.declared.alloc.Global.{Global}
 use Rattle.std.specs.Io.KnownBytes.{Appends}
 use Rattle.dt_base.specs.Faults.{Rose}
@@ -9,43 +8,16 @@ use Rattle.http_session.specs.declared.ends.SessionEnd.{SessionEnd}
 use Rattle.http_session.specs.declared.ends.SessionEnd.TheVariants as ends
 use Rattle.graph_server.specs.Replays.{IsReplay, OneReplay}
 use Rattle.graph_server.proofs.Unique.{replay_weaker}
-use Rattle.dtdl_cmd.specs.Words.{AreReplay, IsCommand, command_word}
+use Rattle.dtdl_cmd.specs.Words.{AreReplay}
 use Rattle.dtdl_cmd.specs.Documents.{ShelfChange, StreamChange}
-use Rattle.dtdl_cmd.specs.Answers.{Answers}
-use Rattle.dtdl_cmd.specs.Runs.{Ends, EndsAnswer, EndsReplay, IsDecided, status_of}
-use Rattle.dtdl_cmd.specs.declared.command.Command.{Command}
-use Rattle.dtdl_cmd.specs.declared.command.Command.TheVariants as commands
+use Rattle.dtdl_cmd.specs.Runs.{Ends, EndsReplay, IsDecided, status_of}
 use Rattle.dtdl_cmd.specs.declared.status.Status.{Status}
-
--- the word of a replay is that of no command over documents: they differ in their first letters
-first_letter : List (List ℕ) → ℕ
-first_letter ws = get_or (get_or ws 0 []) 0 0
-
-other_word : (command : Command) (names : List (List ℕ)) → command_word command ∷ names ≡ codes "replay" ∷ [] → ⊥
-unfolding first_letter
-other_word commands.Check names e =
-    let letters : 99 ≡ 114 = ap first_letter e in
-    omega (arith, letters)
-other_word commands.Canon names e =
-    let letters : 99 ≡ 114 = ap first_letter e in
-    omega (arith, letters)
-
-no_documents : (words : List (String Global)) (command : Command) (names : List (List ℕ)) → AreReplay words → IsCommand words command names → ⊥
-no_documents words command names replays is = other_word command names (sym is.0 ∙ replays)
-
-none_answered : (words : List (String Global)) (found : List (Option (List ℕ))) (s : Status) (line : List ℕ) → AreReplay words → Answers words found s line → ⊥
-none_answered words found s line replays (inl h) = h.1.1 replays
-none_answered words found s line replays (inr (command, names, is, h)) = no_documents words command names replays is
-
-none_ended : (words : List (String Global)) (input : StreamChange) (shelf : ShelfChange) (output : StreamChange) (s : Status) → AreReplay words → EndsAnswer words input shelf output s → ⊥
-none_ended words input shelf output s replays (inl (line, h, appended)) = none_answered words h.found s line replays h.answers
-none_ended words input shelf output s replays (inr (inl (is, rose, h))) = none_answered words h.answers.found h.answered h.line replays h.answers.answers
-none_ended words input shelf output s replays (inr (inr (inl (is, (command, names, are, fault), kept)))) = no_documents words command names replays are
-none_ended words input shelf output s replays (inr (inr (inr (is, (command, names, are), kept)))) = no_documents words command names replays are
+use Rattle.dtdl_cmd.proofs.OtherWords.{none_ended, replays_no_documents, replays_or_makes}
 
 replayed : (words : List (String Global)) (input : StreamChange) (shelf : ShelfChange) (output : StreamChange) (s : Status) → AreReplay words → Ends words input shelf output s → EndsReplay input output s
-replayed words input shelf output s replays (inl h) = absurd (none_ended words input shelf output s replays h)
-replayed words input shelf output s replays (inr h) = h.1
+replayed words input shelf output s replays (inl h) = absurd (none_ended words (λ none. none.1 replays) (replays_no_documents words replays) input shelf output s h)
+replayed words input shelf output s replays (inr (inl h)) = h.1
+replayed words input shelf output s replays (inr (inr (n, are, h))) = absurd (replays_or_makes words n replays are)
 
 decided : (end : SessionEnd) → IsDecided (status_of end) → EndIsDecided end
 decided ends.Closed h = tt
@@ -61,7 +33,7 @@ known input output s all h is =
     replay_weaker (Rose output.faults_before output.faults_after) (Unit {0}) h.end (Some all) input.after h.out (λ rose. tt)
     (subst (λ (stream : Option (List ℕ)). IsReplay (Rose output.faults_before output.faults_after) h.end stream input.after h.out) is h.replay)
 
-same_after : (before : List ℕ) (one other after last : Option (List ℕ)) (out text : List ℕ) → one ≡ Some before → other ≡ Some before → out ≡ text → Appends one after out → Appends other last text → after ≡ last
+pub same_after : (before : List ℕ) (one other after last : Option (List ℕ)) (out text : List ℕ) → one ≡ Some before → other ≡ Some before → out ≡ text → Appends one after out → Appends other last text → after ≡ last
 same_after before one other after last out text is has same h k =
     let first = subst (λ (b : Option (List ℕ)). Appends b after out) is h in
     let second = subst (λ (b : Option (List ℕ)). Appends b last text) has k in

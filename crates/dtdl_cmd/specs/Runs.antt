@@ -6,7 +6,8 @@ use Rattle.dt_base.specs.Faults.{Rose}
 use Rattle.http_session.specs.declared.ends.SessionEnd.{SessionEnd}
 use Rattle.http_session.specs.declared.ends.SessionEnd.TheVariants as ends
 use Rattle.graph_server.specs.Replays.{IsReplay}
-use Rattle.dtdl_cmd.specs.Words.{AreCommand, AreReplay, IsCommand}
+use Rattle.graph_make.specs.Made.{IsMade}
+use Rattle.dtdl_cmd.specs.Words.{AreCommand, AreMake, AreReplay, IsCommand}
 use Rattle.dtdl_cmd.specs.Documents.{AreFound, ShelfChange, StreamChange}
 use Rattle.dtdl_cmd.specs.Answers.{Answers}
 use Rattle.dtdl_cmd.specs.declared.command.Command.{Command}
@@ -61,8 +62,18 @@ pub record EndsReplay (input output : StreamChange) (s : Status) : Type 0 where
   pub read_cause : end ≡ ends.ReadFault → Rose input.faults_before input.faults_after
   pub write_cause : end ≡ ends.WriteFault → Rose output.faults_before output.faults_after
 
+-- Of a graph of so many rooms that is made: the lines of its counts were written whole; or a write failed after a proper prefix
+-- of them; or no memory was found, and nothing was written.
+abbrev pub EndsMake : ℕ → StreamChange → Status → Type 0
+EndsMake n output s = ((s ≡ status.Ok) × ((text : List ℕ) × IsMade n text × Appends output.before output.after text))
+    ⊎ ((s ≡ status.WriteFault) × Rose output.faults_before output.faults_after
+    × ((text : List ℕ) × IsMade n text × ((written : ℕ) × (written < length text) × Appends output.before output.after (take written text))))
+    ⊎ ((s ≡ status.OutOfMemory) × Keeps output.before output.after)
+
 abbrev pub Ends : List (String Global) → StreamChange → ShelfChange → StreamChange → Status → Type 0
-Ends words input shelf output s = EndsAnswer words input shelf output s ⊎ (AreReplay words × EndsReplay input output s)
+Ends words input shelf output s = EndsAnswer words input shelf output s
+    ⊎ (AreReplay words × EndsReplay input output s)
+    ⊎ ((n : ℕ) × AreMake words n × EndsMake n output s)
 
 -- The words of a replay and the input's bytes decide such a status.
 abbrev pub IsDecided : Status → Type 0

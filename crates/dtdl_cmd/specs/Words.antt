@@ -1,6 +1,7 @@
--- The words of a run: a command over documents and their names, or a replay.
+-- The words of a run: a command over documents and their names, a replay, or a graph that is made.
 use Rattle.std.specs.Prelude.{◌≡◌, ◌≢◌, ◌≤◌, ℕ, List, [], ◌∷◌, map, length, String, codes, string_bytes}
 use Rattle.std.specs.List.{AllByRecursion}
+use Rattle.std.specs.Fmt.{decimal}
 use Rattle.std.specs.declared.alloc.Global.{Global}
 use Rattle.dtdl_cmd.specs.declared.command.Command.{Command}
 use Rattle.dtdl_cmd.specs.declared.command.Command.TheVariants as commands
@@ -28,6 +29,14 @@ AreCommand words = (command : Command) × (names : List (List ℕ)) × IsCommand
 abbrev pub AreReplay : List (String Global) → Type 0
 AreReplay words = map string_bytes words ≡ codes "replay" ∷ []
 
+-- The digits of a number of rooms from 1 to 20,000, without a leading zero or a sign.
+abbrev pub IsRooms : List ℕ → ℕ → Type 0
+IsRooms word n = (word ≡ decimal n) × (1 ≤ n) × (n ≤ 20000)
+
+-- The word of a graph that is made, and how many rooms it has.
+abbrev pub AreMake : List (String Global) → ℕ → Type 0
+AreMake words n = (word : List ℕ) × (map string_bytes words ≡ codes "make" ∷ word ∷ []) × IsRooms word n
+
 -- The words are no command that is built.
 abbrev pub AreNone : List (String Global) → Type 0
-AreNone words = (AreCommand words → ⊥) × (AreReplay words → ⊥)
+AreNone words = (AreCommand words → ⊥) × (AreReplay words → ⊥) × ((n : ℕ) → AreMake words n → ⊥)

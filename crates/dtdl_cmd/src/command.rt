@@ -1,11 +1,14 @@
 //! The commands by their words.
 
 ghost use Rattle.std.specs.Prelude.{◌≡◌, ◌↔◌, ℕ, List, drop, map, codes, string_bytes, IsTrue, MatchOption};
-ghost use Rattle.dtdl_cmd.specs.Words.{AreNames, AreReplay, IsCommand, IsName, command_word};
+ghost use Rattle.dtdl_cmd.specs.Words.{AreMake, AreNames, AreReplay, IsCommand, IsName, IsRooms, command_word};
 ghost use Rattle.dtdl_cmd.specs.declared.command.Command.{Command};
 
 /// How many names a command takes.
 const MAX_NAMES: usize = 4096;
+
+/// How many rooms a graph that is made has.
+const MAX_ROOMS: u32 = 20_000;
 
 /// A command that reads documents.
 #[derive(Clone, Copy, Debug, PartialEq, Eq)]
@@ -71,4 +74,44 @@ pub fn are_replay(words: &[String]) -> bool
     ensures { IsTrue result ↔ AreReplay words.now }
 {
     words.len() == 1 && is_replay(words[0].as_str())
+}
+
+/// Whether a word is that of a graph that is made.
+fn is_make(word: &str) -> bool
+    ensures { IsTrue result ↔ (word.now ≡ codes "make") }
+{
+    word == "make"
+}
+
+/// The number of rooms that a word is. Its first byte tells that it has no sign and no leading zero.
+fn rooms_in(word: &str) -> Option<u32>
+    ensures { MatchOption result ((n : ℕ) → IsRooms word.now n → ⊥) (IsRooms word.now) }
+{
+    let bytes = word.as_bytes();
+    if bytes.is_empty() {
+        return None;
+    }
+    if bytes[0] < b'1' {
+        return None;
+    }
+    let Ok(rooms) = word.parse::<u32>() else {
+        return None;
+    };
+    if rooms > MAX_ROOMS {
+        return None;
+    }
+    Some(rooms)
+}
+
+/// How many rooms the graph has that the words ask to make.
+pub fn rooms_of(words: &[String]) -> Option<u32>
+    ensures { MatchOption result ((n : ℕ) → AreMake words.now n → ⊥) (AreMake words.now) }
+{
+    if words.len() != 2 {
+        return None;
+    }
+    if !is_make(words[0].as_str()) {
+        return None;
+    }
+    rooms_in(words[1].as_str())
 }

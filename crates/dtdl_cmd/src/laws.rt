@@ -15,7 +15,7 @@ ghost use Rattle.dtdl_cmd.specs.FirstFaults.{Declare};
 ghost use Rattle.dtdl_cmd.specs.Answers.{Answers, interfaces_of};
 ghost use Rattle.dtdl_cmd.specs.declared.command.Command.TheVariants as commands;
 ghost use Rattle.dtdl_cmd.specs.Runs.{Ends, IsDecided};
-ghost use Rattle.dtdl_cmd.specs.Words.{AreReplay};
+ghost use Rattle.dtdl_cmd.specs.Words.{AreMake, AreReplay};
 ghost use Rattle.dtdl_cmd.specs.declared.status.Status.{Status};
 ghost use Rattle.dtdl_cmd.specs.declared.status.Status.TheVariants as status;
 
@@ -51,6 +51,16 @@ pub fn one_replay()
         → (s ≡ t) × (output.after ≡ sink.after) }
 {
     graph_server::one_replay();
+}
+
+/// Of two graphs that are made for the same words, and written whole, two outputs with the same before have the same bytes in
+/// the end, whatever the input and the shelf have.
+pub fn one_make()
+    ensures { (words : List (String Global)) (input other : StreamChange) (shelf files : ShelfChange) (output sink : StreamChange) (n : ℕ) (before : List ℕ)
+        → AreMake words n → output.before ≡ Some before → sink.before ≡ Some before
+        → Ends words input shelf output status.Ok → Ends words other files sink status.Ok → output.after ≡ sink.after }
+{
+    graph_make::one_text();
 }
 
 /// The interfaces that documents without faults declare each have a declaration, are within the limits, have types that

@@ -7,11 +7,14 @@ mod documents;
 mod judgement;
 mod laws;
 mod lines;
+mod makes;
 mod refusal;
 mod replays;
 mod run;
 mod status;
 
-pub use laws::{declared_set, equal_texts, one_answer, one_input, one_replay, prints_itself};
+pub use laws::{
+    declared_set, equal_texts, one_answer, one_input, one_make, one_replay, prints_itself,
+};
 pub use run::run_plain;
 pub use status::Status;

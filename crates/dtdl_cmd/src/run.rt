@@ -10,8 +10,9 @@ ghost use Rattle.dtdl_cmd.specs.Runs.{Ends, HasReadFault};
 ghost use Rattle.dtdl_cmd.specs.declared.command.Command.{Command};
 
 use crate::answers::{Answer, answer_to_documents, missing, too_long};
-use crate::command::{Command, are_replay, command_of};
+use crate::command::{Command, are_replay, command_of, rooms_of};
 use crate::documents::{NoDocuments, documents_of};
+use crate::makes::run_make;
 use crate::replays::run_replay;
 use crate::status::Status;
 use dt_base::{OutOfMemory, Shelf, Sink, Source, write_all};
@@ -76,7 +77,7 @@ fn answer_to<S: Source, F: Shelf>(
 }
 
 /// Writes a line and answers its status, or `WriteFault` where it was not written whole.
-fn say<K: Sink>(output: &mut K, status: Status, line: &[u8]) -> Status
+pub(crate) fn say<K: Sink>(output: &mut K, status: Status, line: &[u8]) -> Status
     ensures said { ((result ≡ status) × Appends (K.taken output.old) (K.taken output.new) line.now)
         ⊎ ((result ≡ Status.WriteFault) × Rose (K.faults output.old) (K.faults output.new)
         × ((written : ℕ) × (written < length line.now) × Appends (K.taken output.old) (K.taken output.new) (take written line.now))) }
@@ -96,6 +97,8 @@ fn say<K: Sink>(output: &mut K, status: Status, line: &[u8]) -> Status
 /// Does `replay`: answers the input as a session of HTTP over a graph that is empty at first, and writes the replies. It
 /// never asks the shelf. The status is `Ok` where the stream ended between requests or a request that asks to close the
 /// connection was answered, `Refused` where a closing refusal was written, and `SessionFull` after 1,000,000 replies.
+///
+/// Does `make`: makes a graph of so many rooms, from 1 to 20,000, and writes its counts. It reads no input and asks no shelf.
 ///
 /// The other commands are not built, so other words are `Usage`, and then nothing is read. It returns on every
 /// input, and the answer is a function of the words and of the documents' or the input's bytes, however they are cut.
@@ -123,6 +126,9 @@ pub fn run_plain<S: Source, K: Sink, F: Shelf>(
 {
     if are_replay(words) {
         return run_replay(alloc, input, output);
+    }
+    if let Some(rooms) = rooms_of(words) {
+        return run_make(alloc, rooms, output);
     }
     let Some(command) = command_of(words) else {
         return say(output, Status::Usage, USAGE);

@@ -40,7 +40,6 @@ pub record Known : Type 0 where
   pub answered : (s : State) (ask other : Ask) (a b : Answer) → IsSound ask → AreOneAsk ask other → Answers s ask a → Answers s other b → a ≡ b
   pub follows_one : (s : State) (ask other : Ask) (a : Answer) → AreOneAsk ask other → followed s ask a ≡ followed s other a
   pub sound : (request : Request) (ask : Ask) → IsPrepared request (prepared.Ask ask) → IsSound ask
-  pub session : OneSession own enters allows follows AreOneEntry
 
 -- the response depends on the answer alone
 response_in : Answer → Response
@@ -72,7 +71,7 @@ one_entry known s request e f a b (made, (reply, gives, is)) (also, (other, give
 one_state : Known → (s : State) (e f : Entry) → AreOneEntry e f → follows s e ≡ follows s f
 one_state known s e f same = known.follows_one s e.ask f.ask e.answer same.0 ∙ ap (followed s f.ask) same.1
 
-functions : Known → AreFunctions own enters allows follows AreOneEntry
+pub functions : Known → AreFunctions own enters allows follows AreOneEntry
 functions known = record {
   apart = λ request e a b o n. ask_not_own e.ask o.0 (known.requests request (prepared.Ask e.ask) (prepared.Own o.0) n.0 o.1);
   one_own = λ request a b o n. o.2 ∙ ap response_to (own_same o.0 n.0 (known.requests request (prepared.Own o.0) (prepared.Own n.0) o.1 n.1)) ∙ sym n.2;
@@ -80,9 +79,9 @@ functions known = record {
   one_state = one_state known;
 }
 
-pub one_replay : Known → OneReplay
-one_replay known stream left unread end other out text one two decided also =
-    known.session (functions known) stream left unread empty one.state two.state end other one.entries two.entries out text decided also one.session two.session one.legal two.legal
+pub one_replay : AreFunctions own enters allows follows AreOneEntry → OneSession own enters allows follows AreOneEntry → OneReplay
+one_replay functions session stream left unread end other out text one two decided also =
+    session functions stream left unread empty one.state two.state end other one.entries two.entries out text decided also one.session two.session one.legal two.legal
 
 -- a replay of which it is told that the sink's count rose is one of which it is not told
 pub replay_weaker : (r s : Type 0) (end : SessionEnd) (stream left : Option (List ℕ)) (out : List ℕ) → (r → s) → IsReplay r end stream left out → IsReplay s end stream left out

@@ -1,5 +1,7 @@
 //! Laws of replays. Each function does nothing but name laws, and its contract is the law.
 
+ghost use Rattle.http_session.specs.Uniqueness.{AreFunctions};
+ghost use Rattle.graph_server.specs.Entries.{AreOneEntry, allows, enters, follows, own};
 ghost use Rattle.graph_server.specs.Replays.{OneReplay};
 
 use graph_answers::one_step;
@@ -28,13 +30,21 @@ impl Rules for GraphRules {
     ghost same = { AreOneEntry };
 }
 
+/// At each state of a graph a request has one response, and leaves one entry or none, but for where in memory the trees, patches
+/// and queries of its ask lie.
+pub fn one_answer()
+    ensures { AreFunctions own enters allows follows AreOneEntry }
+{
+    one_prepared();
+    one_step();
+    prepared_is_right();
+}
+
 /// A stream that its bytes end has one replay: one history from the empty graph, but for where in memory the trees, patches
 /// and queries of its asks lie, one end, and the same bytes are written.
 pub fn one_replay()
     ensures { OneReplay }
 {
-    one_prepared();
-    one_step();
-    prepared_is_right();
+    one_answer();
     one_session::<GraphRules>();
 }

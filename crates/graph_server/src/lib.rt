@@ -5,6 +5,6 @@ mod laws;
 mod replayer;
 mod replays;
 
-pub use laws::one_replay;
+pub use laws::{one_answer, one_replay};
 pub use replayer::Replayer;
 pub use replays::replay;

@@ -6,7 +6,7 @@ use Rattle.dtdl_cmd.proofs.run.run_plain.Goals as goal
 
 pub returns-in_default-clause-ends : goal.returns-in_default-clause-ends
 returns-in_default-clause-ends g c =
-    inl (said c.args.words.now _ _ _ status.Usage c.say.result _ (no_command c.args.words.now _ _ c.in_default.ensures (λ h. let wrong = c.if-are_replay.ensures.1 h in cc)) c.say.ensures.said)
+    inl (said c.args.words.now _ _ _ status.Usage c.say.result _ (no_command c.args.words.now _ _ c.in_default.ensures (λ h. let wrong = c.if-are_replay.ensures.1 h in cc) (λ n makes. ?)) c.say.ensures.said)
 
 pub returns-in-Ok-clause-ends : goal.returns-in-Ok-clause-ends
 returns-in-Ok-clause-ends g c =

@@ -1,0 +1,4 @@
+-- What public contracts cite.
+pub mod Requests
+pub mod Made
+pub mod Machinery
