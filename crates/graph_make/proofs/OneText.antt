@@ -1,5 +1,5 @@
 -- So many rooms have one text.
-use Rattle.std.proofs.Common.{◌≡◌, ℕ, List, [], ◌∷◌, length, Some, None, refl, sym, ap, subst, ◌∙◌}
+use Rattle.std.proofs.Common.{◌≡◌, ℕ, List, [], ◌∷◌, length, Some, None, sym, ap, subst, ◌∙◌}
 use Rattle.http_ends.specs.declared.request.Request.{Request}
 use Rattle.http_session.specs.Uniqueness.{AreFunctions}
 use Rattle.query_terms.specs.Queries.{Asked}

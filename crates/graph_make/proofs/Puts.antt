@@ -1,6 +1,6 @@
 -- Requests by their paths and bodies.
-use Rattle.std.proofs.Common.{◌≡◌, ℕ, List, Result, sym, subst}
-use Rattle.std.specs.Prelude.{codes, IfOk}
+use Rattle.std.proofs.Common.{◌≡◌, ℕ, List, Result, subst}
+use Rattle.std.specs.Prelude.{IfOk}
 use Rattle.http_ends.specs.declared.request.Request.{Request}
 use Rattle.graph_make.specs.Requests.{put}
 
