@@ -1,6 +1,6 @@
 //! The commands by their words.
 
-ghost use Rattle.std.specs.Prelude.{◌≡◌, ◌↔◌, ℕ, List, drop, map, codes, string_bytes, IsTrue, MatchOption};
+ghost use Rattle.std.specs.Prelude.{◌≡◌, ◌↔◌, ℕ, ◌<◌, List, drop, get_or, map, codes, string_bytes, IsTrue, MatchOption};
 ghost use Rattle.dtdl_cmd.specs.Words.{AreMake, AreNames, AreReplay, IsCommand, IsName, IsRooms, command_word};
 ghost use Rattle.dtdl_cmd.specs.declared.command.Command.{Command};
 
@@ -83,15 +83,19 @@ fn is_make(word: &str) -> bool
     word == "make"
 }
 
-/// The number of rooms that a word is. Its first byte tells that it has no sign and no leading zero.
+/// Whether a word begins with a byte past that of the digit 0, as a number does that has no sign and no leading zero.
+fn begins_past_zero(word: &str) -> bool
+    ensures { IsTrue result ↔ (48 < get_or word.now 0 0) }
+{
+    let bytes = word.as_bytes();
+    !bytes.is_empty() && bytes[0] > b'0'
+}
+
+/// The number of rooms that a word is.
 fn rooms_in(word: &str) -> Option<u32>
     ensures { MatchOption result ((n : ℕ) → IsRooms word.now n → ⊥) (IsRooms word.now) }
 {
-    let bytes = word.as_bytes();
-    if bytes.is_empty() {
-        return None;
-    }
-    if bytes[0] < b'1' {
+    if !begins_past_zero(word) {
         return None;
     }
     let Ok(rooms) = word.parse::<u32>() else {
@@ -107,11 +111,11 @@ fn rooms_in(word: &str) -> Option<u32>
 pub fn rooms_of(words: &[String]) -> Option<u32>
     ensures { MatchOption result ((n : ℕ) → AreMake words.now n → ⊥) (AreMake words.now) }
 {
-    if words.len() != 2 {
+    let [command, rooms] = words else {
+        return None;
+    };
+    if !is_make(command.as_str()) {
         return None;
     }
-    if !is_make(words[0].as_str()) {
-        return None;
-    }
-    rooms_in(words[1].as_str())
+    rooms_in(rooms.as_str())
 }
