@@ -12,19 +12,11 @@ use Rattle.dtdl_cmd.specs.declared.status.Status.TheVariants as status
 use Rattle.dtdl_cmd.proofs.OneReplay.{same_after}
 use Rattle.dtdl_cmd.proofs.OtherWords.{makes_no_documents, none_ended, replays_or_makes, same_rooms}
 
--- the text was written, or a proper prefix of it
-pub said_counts : (n : ℕ) (output : StreamChange) (result : Status) (text : List ℕ) → IsMade n text
-    → ((result ≡ status.Ok) × Appends output.before output.after text)
-    ⊎ ((result ≡ status.WriteFault) × Rose output.faults_before output.faults_after
-    × ((written : ℕ) × (written < length text) × Appends output.before output.after (take written text)))
-    → EndsMake n output result
-said_counts n output result text is (inl h) = inl (h.0, (text, is, h.1))
-said_counts n output result text is (inr h) = inr (inl (h.0, h.1, (text, is, h.2)))
-
-made : (words : List (String Global)) (input : StreamChange) (shelf : ShelfChange) (output : StreamChange) (s : Status) (n : ℕ) → AreMake words n → Ends words input shelf output s → EndsMake n output s
-made words input shelf output s n makes (inl h) = absurd (none_ended words (λ none. none.2 n makes) (makes_no_documents words n makes) input shelf output s h)
-made words input shelf output s n makes (inr (inl h)) = absurd (replays_or_makes words n h.0 makes)
-made words input shelf output s n makes (inr (inr (m, are, h))) = subst (λ (k : ℕ). EndsMake k output s) (same_rooms words m n are makes) h
+-- words that make a graph are those of no other command
+pub make_ends : (words : List (String Global)) (input : StreamChange) (shelf : ShelfChange) (output : StreamChange) (n : ℕ) (s : Status) → AreMake words n → Ends words input shelf output s → EndsMake n output s
+make_ends words input shelf output n s makes (inl h) = absurd (none_ended words (λ none. none.2 n makes) (makes_no_documents words n makes) input shelf output s h)
+make_ends words input shelf output n s makes (inr (inl h)) = absurd (replays_or_makes words n h.0 makes)
+make_ends words input shelf output n s makes (inr (inr (m, are, h))) = subst (λ (k : ℕ). EndsMake k output s) (same_rooms words m n are makes) h
 
 abbrev Whole : ℕ → StreamChange → Type 0
 Whole n output = (text : List ℕ) × IsMade n text × Appends output.before output.after text
@@ -45,6 +37,6 @@ pub one_make : ((n : ℕ) (text other : List ℕ) → IsMade n text → IsMade n
     → AreMake words n → output.before ≡ Some before → sink.before ≡ Some before → s ≡ status.Ok → t ≡ status.Ok
     → Ends words input shelf output s → Ends words other files sink t → output.after ≡ sink.after
 one_make law words input other shelf files output sink n before s t makes from too ok good one two =
-    let h : Whole n output = whole n output s ok (made words input shelf output s n makes one) in
-    let k : Whole n sink = whole n sink t good (made words other files sink t n makes two) in
+    let h : Whole n output = whole n output s ok (make_ends words input shelf output n s makes one) in
+    let k : Whole n sink = whole n sink t good (make_ends words other files sink n t makes two) in
     same_after before output.before sink.before output.after sink.after h.0 k.0 from too (law n h.0 k.0 h.1 k.1) h.2 k.2

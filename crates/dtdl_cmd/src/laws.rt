@@ -14,7 +14,7 @@ ghost use Rattle.dtdl_cmd.specs.Documents.{AreFound, MAX_BYTES, ShelfChange, Str
 ghost use Rattle.dtdl_cmd.specs.FirstFaults.{Declare};
 ghost use Rattle.dtdl_cmd.specs.Answers.{Answers, interfaces_of};
 ghost use Rattle.dtdl_cmd.specs.declared.command.Command.TheVariants as commands;
-ghost use Rattle.dtdl_cmd.specs.Runs.{Ends, IsDecided};
+ghost use Rattle.dtdl_cmd.specs.Runs.{Ends, EndsMake, IsDecided};
 ghost use Rattle.dtdl_cmd.specs.Words.{AreMake, AreReplay};
 ghost use Rattle.dtdl_cmd.specs.declared.status.Status.{Status};
 ghost use Rattle.dtdl_cmd.specs.declared.status.Status.TheVariants as status;
@@ -52,6 +52,13 @@ pub fn one_replay()
 {
     graph_server::one_replay();
 }
+
+/// Words that make a graph of so many rooms end in one of three ways and in no other: its counts were written whole; the
+/// sink's count of faults rose after a proper prefix of them; or no memory was found and nothing was written.
+pub fn make_ends()
+    ensures { (words : List (String Global)) (input : StreamChange) (shelf : ShelfChange) (output : StreamChange) (n : ℕ) (s : Status)
+        → AreMake words n → Ends words input shelf output s → EndsMake n output s }
+{}
 
 /// Of two graphs that are made for the same words, and written whole, two outputs with the same before have the same bytes in
 /// the end, whatever the input and the shelf have.

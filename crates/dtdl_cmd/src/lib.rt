@@ -14,7 +14,8 @@ mod run;
 mod status;
 
 pub use laws::{
-    declared_set, equal_texts, one_answer, one_input, one_make, one_replay, prints_itself,
+    declared_set, equal_texts, make_ends, one_answer, one_input, one_make, one_replay,
+    prints_itself,
 };
 pub use run::run_plain;
 pub use status::Status;

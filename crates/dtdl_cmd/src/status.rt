@@ -4,8 +4,8 @@ ghost use Rattle.dtdl_cmd.specs.Answers.{status_number};
 /// How a command ended.
 #[derive(Clone, Copy, Debug, PartialEq, Eq, Hash)]
 pub enum Status {
-    /// The answer was written whole, or the counts of a graph that was made. A replay's stream ended between requests, or a request that asks to close the
-    /// connection was answered.
+    /// The answer was written whole, or the counts of a graph that was made. A replay's stream ended between requests, or a
+    /// request that asks to close the connection was answered.
     Ok,
     /// The documents have a fault, and the line that names the first was written; or a replay wrote a closing refusal of a
     /// request that cannot be read.
