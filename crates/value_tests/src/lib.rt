@@ -1,6 +1,6 @@
-//! Values and bodies of twins and relationships, through the public calls of `twin_value`. They stand here, since a crate
-//! with tests of its own is proved twice.
+//! What no session can ask of `twin_value`, through its public calls. It stands here, since a crate with tests of its own is
+//! proved twice.
 #![tactic(auto)]
 
 #[cfg(test)]
-mod bodies;
+mod unasked;
