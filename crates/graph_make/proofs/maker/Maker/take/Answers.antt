@@ -17,6 +17,6 @@ pub returns-in-Ask : goal.returns-in-Ask
 returns-in-Ask c =
     let is = made c.args.request.now c.in-Ok.prepared c.in-Ask.ask c.in-Ok.ensures c.in-Ask.is in
     on_ok_weaker c.take_ask.result (λ h.
-        asked (state_of c.args.self.now.machine) (state_of c.take_ask.new.self.machine) c.args.request.now c.in-Ask.ask h.0 is
-        (c.prepared_is_right.ensures.sound c.args.request.now c.in-Ask.ask is) h.1 h.2
+    asked (state_of c.args.self.now.machine) (state_of c.take_ask.new.self.machine) c.args.request.now c.in-Ask.ask h.0 is
+    (c.prepared_is_right.ensures.sound c.args.request.now c.in-Ask.ask is) h.1 h.2
     ) c.take_ask.ensures
