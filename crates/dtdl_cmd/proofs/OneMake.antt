@@ -1,8 +1,7 @@
 -- A graph that is made for the same words has the same counts written.
-use Rattle.std.proofs.Common.{◌≡◌, ◌⊎◌, ℕ, ◌<◌, List, length, take, Some, String, inl, inr, subst}
+use Rattle.std.proofs.Common.{◌≡◌, ℕ, List, Some, String, inl, inr, subst}
 use Rattle.std.specs.declared.alloc.Global.{Global}
 use Rattle.std.specs.Io.KnownBytes.{Appends}
-use Rattle.dt_base.specs.Faults.{Rose}
 use Rattle.graph_make.specs.Made.{IsMade}
 use Rattle.dtdl_cmd.specs.Words.{AreMake}
 use Rattle.dtdl_cmd.specs.Documents.{ShelfChange, StreamChange}
