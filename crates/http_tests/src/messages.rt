@@ -3,7 +3,7 @@
 ghost use Rattle.std.specs.Prelude.{◌≡◌, [], None, IfOk, IsSome};
 ghost use Rattle.http_ends.specs.Replies.{phrase_of, IsAllowed};
 
-use dt_base::{List, MemSink, MemSource, OutOfMemory, Text};
+use dt_base::{List, MemSink, MemSource, OutOfMemory};
 use http_ends::{
     Buffer, HttpEnd, ReplyEnd, Response, SendEnd, next_request, next_response, write_request,
     write_response,
@@ -63,105 +63,10 @@ fn ones(alloc: Global, count: usize) -> Result<Vec<u64>, AllocError> {
     Ok(pieces)
 }
 
-const REQUESTS: [(&[u8], &str); 27] = [
-    (b"", "Closed"),
-    (
-        b"GET /canon HTTP/1.1\r\nHost: x\r\n\r\n",
-        "GET /canon? \nClosed",
-    ),
-    (
-        b"GET /a HTTP/1.1\r\n\r\nGET /b?c?d HTTP/1.1\r\nConnection: close\r\n\r\n",
-        "GET /a? \nGET /b?c?d close \nClosed",
-    ),
-    (
-        b"PUT /a HTTP/1.1\r\nContent-Length: 3\r\n\r\nabcPUT /b HTTP/1.1\r\ncontent-length: \t2\t \r\n\r\nde",
-        "PUT /a? abc\nPUT /b? de\nClosed",
-    ),
-    (b"\r\n\nGET /a HTTP/1.1\n\n", "GET /a? \nClosed"),
-    (b"GET /a HTTP/1.0\r\n\r\n", "GET /a? close \nClosed"),
-    (
-        b"GET /a HTTP/1.1\r\nConnection: keep-alive, Close\r\n\r\n",
-        "GET /a? close \nClosed",
-    ),
-    (
-        b"GET /a HTTP/1.1\r\nConnection: closed, keep\r\nConnection:\t \tCLOSE ,a\r\n\r\n",
-        "GET /a? close \nClosed",
-    ),
-    (
-        b"GET /a HTTP/1.1\r\nConnection: closed, c lose\r\nClose: close\r\n\r\n",
-        "GET /a? \nClosed",
-    ),
-    (b"GET /a HTTP/1.1\r\n\r\n\r\n", "GET /a? \nBadHead"),
-    (b"GET / HTTP/9", "BadHead"),
-    (b"GET / HTTP/9.9\r\n\r\n", "BadHead"),
-    (b"GET /a HTTP/1.1\r\nHost: x\r\n", "BadHead"),
-    (b"GET /\xff HTTP/1.1\r\n\r\n", "BadHead"),
-    (b"GET /\xc3\xa9 HTTP/1.1\r\n\r\n", "GET /\u{e9}? \nClosed"),
-    (
-        b"PUT /a HTTP/1.1\r\nContent-Length: 1\r\nContent-Length: 1\r\n\r\na",
-        "BadHead",
-    ),
-    (
-        b"PUT /a HTTP/1.1\r\nContent-Length: +5\r\n\r\nabcde",
-        "BadHead",
-    ),
-    (b"PUT /a HTTP/1.1\r\nContent-Length:\r\n\r\n", "BadHead"),
-    (
-        b"PUT /a HTTP/1.1\r\nContent-Length: 0000000000000000003\r\n\r\nabc",
-        "BadHead",
-    ),
-    (
-        b"PUT /a HTTP/1.1\r\nContent-Length: 000000000000000003\r\n\r\nabc",
-        "PUT /a? abc\nClosed",
-    ),
-    (
-        b"PUT /a HTTP/1.1\r\nContent-Length: 4194305\r\n\r\n",
-        "BodyTooLong",
-    ),
-    (
-        b"PUT /a HTTP/1.1\r\nContent-Length: 999999999999999999\r\n\r\n",
-        "BodyTooLong",
-    ),
-    (
-        b"PUT /a HTTP/1.1\r\nTransfer-Encoding: chunked\r\n\r\n0\r\n\r\n",
-        "TransferCoding",
-    ),
-    (
-        b"PUT /a HTTP/1.1\r\nContent-Length: 4194305\r\ntransfer-encoding: identity\r\n\r\n",
-        "TransferCoding",
-    ),
-    (
-        b"PUT /a HTTP/1.1\r\nContent-Length: 1\r\nContent-Length: 1\r\nTransfer-Encoding: chunked\r\n\r\n",
-        "BadHead",
-    ),
-    (b"PUT /a HTTP/1.1\r\nContent-Length: 3\r\n\r\nab", "CutOff"),
-    (
-        b"PUT /a HTTP/1.1\r\nContent-Length: 1\r\n\r\nabGET /b HTTP/1.1\r\n\r\n",
-        "PUT /a? a\nbGET /b? \nClosed",
-    ),
-];
-
-#[test]
-fn reads_requests_in_any_pieces(rt: HostRuntime) -> Result<(), Fail> {
-    for (bytes, want) in REQUESTS {
-        for piece in [1, 2, 5, 1000] {
-            let mut pieces = Vec::new(rt.alloc());
-            pieces.resize(200, piece)?;
-            let mut source = source_of(rt.alloc(), bytes, &[], pieces.as_slice())?;
-            assert_eq!(rt;
-                told(rt.alloc(), &mut source)?.as_str(),
-                want,
-                "in pieces of {piece}"
-            );
-        }
-    }
-    Ok(())
-}
-
 const TWO: &[u8] =
-    b"POST /query?a=b HTTP/1.1\r\nHost: x\r\nContent-Length: 5\r\n\r\n12345GET /c HTTP/1.1\r\nConnection: close\r\n\r\n";
+    b"POST /qu\xc3\xa9ry?a=b?c HTTP/1.1\r\nHost: x\r\nContent-Length: 5\r\n\r\n12345GET /c HTTP/1.1\r\nConnection: close\r\n\r\n";
 
-const TWO_TOLD: &str = "POST /query?a=b 12345\nGET /c? close \nClosed";
+const TWO_TOLD: &str = "POST /qu\u{e9}ry?a=b?c 12345\nGET /c? close \nClosed";
 
 #[test]
 fn reads_two_requests_across_each_split_and_fault(rt: HostRuntime) -> Result<(), Fail> {
@@ -222,19 +127,6 @@ fn reads_no_byte_too_many(rt: HostRuntime) -> Result<(), Fail> {
         };
         assert_eq!(rt; answer, want, "{fields} fields, {size} bytes");
     }
-    // A body for which the buffer grows several times.
-    let mut message = Vec::from_slice(
-        rt.alloc(),
-        b"PUT /a HTTP/1.1\r\nContent-Length: 70000\r\n\r\n",
-    )?;
-    let size = message.len() + 70_000;
-    message.resize(size, b'x')?;
-    let mut pieces = Vec::new(rt.alloc());
-    pieces.resize(100, 1500)?;
-    let mut source = source_of(rt.alloc(), message.as_slice(), &[], pieces.as_slice())?;
-    let mut buffer = Buffer::new(rt.alloc())?;
-    let request = next_request(rt.alloc(), &mut source, &mut buffer)?;
-    assert_eq!(rt; request.body.len(), 70_000);
     Ok(())
 }
 
@@ -254,7 +146,6 @@ fn reply(alloc: Global, status: u16, body: &[u8]) -> Result<Response, OutOfMemor
 fn taken(
     alloc: Global,
     response: &Response,
-    close: bool,
     head_only: bool,
     room: u64,
 ) -> Result<Vec<u8>, AllocError>
@@ -263,68 +154,26 @@ fn taken(
     requires empty { response.now.status ≡ 204 → response.now.body ≡ [] }
 {
     let mut sink = MemSink::new(alloc, room, list_of(alloc, &[2])?);
-    let end = write_response(alloc, &mut sink, response, close, head_only);
+    let end = write_response(alloc, &mut sink, response, false, head_only);
     if end.is_ok() != (room == 1000) {
         return Ok(Vec::new(alloc));
     }
     Vec::from_slice(alloc, sink.taken())
 }
 
-const PLAIN: &[u8] =
-    b"HTTP/1.1 200 OK\r\nContent-Length: 3\r\nContent-Type: application/json\r\n\r\n[]\n";
-
-const CLOSING: &[u8] =
-    b"HTTP/1.1 200 OK\r\nContent-Length: 3\r\nContent-Type: application/json\r\nConnection: close\r\n\r\n[]\n";
-
 const HEAD_ALONE: &[u8] =
     b"HTTP/1.1 200 OK\r\nContent-Length: 3\r\nContent-Type: application/json\r\n\r\n";
 
-const NO_CONTENT: &[u8] = b"HTTP/1.1 204 No Content\r\n\r\n";
-
-const BAD_METHOD: &[u8] =
-    b"HTTP/1.1 405 Method Not Allowed\r\nContent-Length: 30\r\nContent-Type: application/json\r\nAllow: POST\r\n\r\n{\"error\":{\"code\":\"BadMethod\"}}";
-
-const TOO_LONG: &[u8] =
-    b"HTTP/1.1 413 Content Too Large\r\nContent-Length: 48\r\nContent-Type: application/json\r\nConnection: close\r\n\r\n{\"error\":{\"code\":\"BodyTooLong\",\"limit\":4194304}}";
-
 #[test]
 fn writes_replies(rt: HostRuntime) -> Result<(), Fail> {
-    for (close, head_only, room, want) in [
-        (false, false, 1000, PLAIN),
-        (true, false, 1000, CLOSING),
-        (false, true, 1000, HEAD_ALONE),
-        (false, false, 10, b"HTTP/1.1 2".as_slice()),
+    for (head_only, room, want) in [
+        (true, 1000, HEAD_ALONE),
+        (false, 10, b"HTTP/1.1 2".as_slice()),
     ] {
         let response = reply(rt.alloc(), 200, b"[]\n")?;
-        let text = taken(rt.alloc(), &response, close, head_only, room)?;
+        let text = taken(rt.alloc(), &response, head_only, room)?;
         assert_eq!(rt; text.as_slice(), want);
     }
-    Ok(())
-}
-
-#[test]
-fn writes_replies_of_other_statuses(rt: HostRuntime) -> Result<(), Fail> {
-    let done = Response {
-        status: 204,
-        allow: None,
-        body: List::new(rt.alloc()),
-    };
-    let text = taken(rt.alloc(), &done, false, false, 1000)?;
-    assert_eq!(rt; text.as_slice(), NO_CONTENT);
-    let method = Response {
-        status: 405,
-        allow: Some(Text::from_str(rt.alloc(), "POST")?),
-        body: list_of(rt.alloc(), b"{\"error\":{\"code\":\"BadMethod\"}}")?,
-    };
-    let text = taken(rt.alloc(), &method, false, false, 1000)?;
-    assert_eq!(rt; text.as_slice(), BAD_METHOD);
-    let long = reply(
-        rt.alloc(),
-        413,
-        b"{\"error\":{\"code\":\"BodyTooLong\",\"limit\":4194304}}",
-    )?;
-    let text = taken(rt.alloc(), &long, true, false, 1000)?;
-    assert_eq!(rt; text.as_slice(), TOO_LONG);
     Ok(())
 }
 
