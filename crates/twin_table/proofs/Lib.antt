@@ -4,3 +4,4 @@ pub mod Mapped
 pub mod Kept
 pub mod Steps
 pub mod Listed
+pub mod Nexts

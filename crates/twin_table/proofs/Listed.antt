@@ -1,11 +1,12 @@
 -- The twins that the ids of a model lead to are the twins of the model.
-use Rattle.std.proofs.Common.{◌≡◌, ℕ, List, [], ◌∷◌, map, Bool, true, false, true≢false, cond, Option, Some, None, refl, sym, ap, ◌∙◌, subst}
+use Rattle.std.proofs.Common.{◌≡◌, ℕ, List, [], ◌∷◌, map, Bool, true, false, true≢false, cond, Option, Some, None, length, refl, sym, ap, ◌∙◌, subst}
 use Rattle.std.specs.Option.{option_map, is_some}
 use Rattle.std.specs.List.{cons_option, filter, AllByRecursion}
 use Rattle.std.specs.List.Sorted.{IsStrictlySortedBy}
 use Rattle.std.specs.Map.{lookup, keys_of, values_of}
 use Rattle.std.specs.BTreeMap.{is_at}
 use Rattle.std.proofs.lemmas.Cmp.{eq_by_cmp_equiv}
+use Rattle.std.proofs.lemmas.List.{length-map}
 use Rattle.std.proofs.lemmas.Map.Keys.{IsDistinct-from_sorted}
 use Rattle.std.proofs.lemmas.Map.Lookups.{exact_bytes}
 use Rattle.std.proofs.lemmas.Map.Entries.{lookup-filter-values, option_filter}
@@ -92,3 +93,12 @@ module _ (entries : List (List ℕ × Held)) (rows : Rows) (len bytes : ℕ) (ke
       ap (twins_under entries) ids_there
       ∙ leads entries part (all_filtered entries entries (is_of model) all_there)
       ∙ ap (map (λ (h : Held). h.twin)) (values-filter (is_of model) entries ∙ ap (filter (is_of model)) seen)
+
+  -- as many as the ids
+  pub counted-of_model : (hs : List Held) → values_of entries ≡ hs → length (ids_of model rows) ≡ length (of_model model hs)
+  counted-of_model hs seen =
+      ap length ids_there
+      ∙ length-map part (λ (e : List ℕ × Held). (e.0, tt))
+      ∙ sym (length-map part (λ (e : List ℕ × Held). e.1))
+      ∙ ap length (values-filter (is_of model) entries ∙ ap (filter (is_of model)) seen)
+      ∙ sym (length-map (filter (is_of model) hs) (λ (h : Held). h.twin))

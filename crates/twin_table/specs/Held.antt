@@ -1,9 +1,9 @@
 -- Twins as a list in the order of the bytes of their ids, each with a size.
-use Rattle.std.specs.Prelude.{ℕ, List, Bool, true, Option, Some, None, map, slice_get, bytes_eq}
+use Rattle.std.specs.Prelude.{◌≡◌, ℕ, ◌<◌, List, Bool, true, false, Option, Some, None, map, length, slice_get, bytes_eq}
 use Rattle.std.specs.Option.{option_map}
 use Rattle.std.specs.Ordering.{nat_cmp, is_eq, is_lt}
 use Rattle.std.specs.Cmp.Lexicographic.{slice_cmp}
-use Rattle.std.specs.List.{filter, find, sum_by}
+use Rattle.std.specs.List.{filter, find, sum_by, AllByRecursion}
 use Rattle.std.specs.List.Sorted.{IsStrictlySortedBy}
 use Rattle.std.specs.Map.{remove_entry, values_of}
 use Rattle.std.specs.BTreeMap.{is_at, insert_entry}
@@ -53,6 +53,26 @@ is_of model h = is_eq (id_cmp model h.twin.model)
 -- the twins of a model
 abbrev pub of_model : Identifier → List Held → List Twin
 of_model model hs = map (λ h. h.twin) (filter (is_of model) hs)
+
+-- a model comes after this one; after none each does
+abbrev pub comes_after : Option Identifier → Identifier → Bool
+comes_after None m = true
+comes_after (Some model) m = is_lt (id_cmp model m)
+
+-- the twin's model does
+abbrev pub model_past : Option Identifier → Held → Bool
+model_past after h = comes_after after h.twin.model
+
+-- no twin's model does
+abbrev pub HasNoModelPast : Option Identifier → List Held → Type 0
+HasNoModelPast after hs = AllByRecursion (λ h. model_past after h ≡ false) hs
+
+-- the least model after this one that twins are of, and how many are
+pub record IsNextModel (after : Option Identifier) (hs : List Held) (model : Identifier) (number : ℕ) : Type 0 where
+  pub past : comes_after after model ≡ true
+  pub least : AllByRecursion (λ h. model_past after h ≡ true → is_lt (id_cmp h.twin.model model) ≡ false) hs
+  pub counted : number ≡ length (of_model model hs)
+  pub some : 0 < number
 
 -- the sum of the sizes
 abbrev pub total_bytes : List Held → ℕ

@@ -1,6 +1,6 @@
 //! The ids of one model.
 
-ghost use Rattle.std.specs.Prelude.{◌≡◌, ◌↔◌, [], IfOk, IsTrue, OnErr, OnOk};
+ghost use Rattle.std.specs.Prelude.{◌≡◌, ◌↔◌, [], length, IfOk, IsTrue, OnErr, OnOk};
 ghost use Rattle.std.specs.List.{filter};
 ghost use Rattle.std.specs.Ordering.{nat_cmp, is_lt};
 ghost use Rattle.std.specs.Cmp.Lexicographic.{slice_cmp};
@@ -49,6 +49,14 @@ impl Ids {
         ensures { IsTrue result ↔ (self.now ≡ []) }
     {
         self.entries.is_empty()
+    }
+
+    /// How many ids there are. Takes no memory.
+    pub fn len(&self) -> u64
+        ensures len { result ≡ length self.now }
+        ensures ordered { IsStrictlySortedBy (slice_cmp nat_cmp) (keys_of self.now) }
+    {
+        self.entries.len() as u64
     }
 
     /// The ids, in their order. Takes no memory.

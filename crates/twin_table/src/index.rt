@@ -1,13 +1,14 @@
 //! The ids of the twins under their models.
 
-ghost use Rattle.std.specs.Prelude.{◌≡◌, ℕ, List, [], ◌&&◌, true, false, Some, cond, unwrap_or, OnErr, OnOk};
+ghost use Rattle.std.specs.Prelude.{◌≡◌, ℕ, List, [], ◌&&◌, true, false, Some, cond, unwrap_or, None, OnErr, OnOk, MatchOption};
+ghost use Rattle.std.specs.Option.{option_copied};
 ghost use Rattle.std.specs.Ordering.{nat_cmp, is_eq};
 ghost use Rattle.std.specs.Cmp.Lexicographic.{slice_cmp};
 ghost use Rattle.std.specs.List.Sorted.{IsStrictlySortedBy};
 ghost use Rattle.std.specs.Map.{keys_of, lookup, remove_entry};
 ghost use Rattle.std.specs.BTreeMap.{get, is_at, IsOrdered};
 ghost use Rattle.dtmi_name.specs.Grammar.{Identifier, id_cmp};
-ghost use Rattle.twin_table.specs.Machinery.Rows.{ids_of, has_id};
+ghost use Rattle.twin_table.specs.Machinery.Rows.{ids_of, has_id, first_full, full_past, HasNoIdsPast, IsNextRow};
 
 use crate::ids::Ids;
 use dt_base::{OutOfMemory, Text};
@@ -16,6 +17,7 @@ use std::alloc::Global;
 use std::collections::BTreeMap;
 use std::collections::btree_map::Range;
 use std::marker::Model;
+use std::ops::Bound;
 
 /// Under each model the ids of its twins, which contracts see as a list of rows in the order of the models.
 #[derive(Drop)]
@@ -56,6 +58,28 @@ fn give_up(rows: &mut BTreeMap<Dtmi, Ids>, model: &Dtmi)
     let _row = rows.remove(model);
 }
 
+/// The first row that has ids.
+fn first_full<'a>(mut rest: Range<'a, Dtmi, Ids>) -> Option<(&'a Dtmi, &'a Ids)>
+    ensures { MatchOption result (first_full rest.entry ≡ None) (λ row. first_full rest.entry ≡ Some (row.0.now, row.1.now)) }
+{
+    while let Some((model, ids)) = rest.next() {
+        if !ids.is_empty() {
+            return Some((model, ids));
+        }
+    }
+    None
+}
+
+/// The first row that has ids after a given model, or the first of all.
+fn full_past<'a>(rows: &'a BTreeMap<Dtmi, Ids>, model: Option<&Dtmi>) -> Option<(&'a Dtmi, &'a Ids)>
+    ensures { MatchOption result (full_past (option_copied model.entry) rows.now.entries ≡ None) (λ row. full_past (option_copied model.entry) rows.now.entries ≡ Some (row.0.now, row.1.now)) }
+{
+    match model {
+        Some(model) => first_full(rows.range((Bound::Excluded(model), Bound::Unbounded))),
+        None => first_full(rows.range(..)),
+    }
+}
+
 impl Index {
     /// No rows. Takes no memory.
     pub fn new(alloc: Global) -> Index
@@ -74,6 +98,17 @@ impl Index {
     {
         match self.rows.get(model) {
             Some(row) => Some(row.entries()),
+            None => None,
+        }
+    }
+
+    /// The least model after a given one, or the least of all, under which there are ids, and their number; `None` exactly
+    /// where there is none. Takes no memory.
+    pub fn after(&self, model: Option<&Dtmi>) -> Option<(&Dtmi, u64)>
+        ensures { MatchOption result (HasNoIdsPast (option_copied model.entry) self.now) (λ next. IsNextRow (option_copied model.entry) self.now next.0.now next.1) }
+    {
+        match full_past(&self.rows, model) {
+            Some((least, ids)) => Some((least, ids.len())),
             None => None,
         }
     }

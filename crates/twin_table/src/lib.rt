@@ -1,5 +1,6 @@
 //! The twins of a graph with the sizes of their texts: a list in the order of their ids, in which a twin, the next one
-//! past an id and the twins of a model are found without looking at other twins.
+//! past an id, the twins of a model, and the next model past one with the number of its twins are found without looking
+//! at other twins.
 #![tactic(auto)]
 
 mod held;

@@ -1,9 +1,9 @@
 //! The twins of a graph.
 
-ghost use Rattle.std.specs.Prelude.{◌≡◌, [], length, slice_get, IfOk, IfErr, OnErr, OnOk};
+ghost use Rattle.std.specs.Prelude.{◌≡◌, [], length, slice_get, IfOk, IfErr, OnErr, OnOk, MatchOption};
 ghost use Rattle.std.specs.Option.{option_copied, option_map};
 ghost use Rattle.std.specs.Map.{values_of};
-ghost use Rattle.twin_table.specs.Held.{InOrder, held_at, twin_at, next_past, with_held, without_held, of_model, total_bytes};
+ghost use Rattle.twin_table.specs.Held.{InOrder, held_at, twin_at, next_past, with_held, without_held, of_model, total_bytes, HasNoModelPast, IsNextModel};
 ghost use Rattle.twin_table.specs.Machinery.Keeping.{under, is_there_of};
 
 use crate::held::{Held, PutEnd};
@@ -115,6 +115,14 @@ impl Twins {
             twins: &self.twins,
             ids: self.index.row(model),
         }
+    }
+
+    /// The least model past a given one, or the least of all, that twins are of, and how many are; `None` exactly where
+    /// there is none. Takes no memory.
+    pub fn model_after(&self, model: Option<&Dtmi>) -> Option<(&Dtmi, u64)>
+        ensures { MatchOption result (HasNoModelPast (option_copied model.entry) self.now) (λ next. IsNextModel (option_copied model.entry) self.now next.0.now next.1) }
+    {
+        self.index.after(model)
     }
 
     /// Puts a twin with its size at its place, and gives the one with its id that was there.
