@@ -9,6 +9,8 @@ pub mod Links
 pub mod Least
 pub mod Pages
 pub mod Viewing
+pub mod Numbers
+pub mod Counted
 pub mod Brought
 pub mod Taken
 pub mod Came

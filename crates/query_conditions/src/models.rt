@@ -33,12 +33,18 @@ pub fn is_of_model(set: &ModelSet, model: &Dtmi, named: &Dtmi, exact: bool) -> b
     }
 }
 
-/// Whether one of the identifiers, which ascend, has the path of the named one and a version at least as great. Looks at
-/// logarithmically many, and at those of that path. Takes no memory.
+/// The most identifiers that are looked at one by one, which for so few is the faster way.
+const FEW: usize = 8;
+
+/// Whether one of the identifiers, which ascend, has the path of the named one and a version at least as great. Of more than
+/// a few it looks at logarithmically many, and at those of that path. Takes no memory.
 pub fn one_reaches(ids: &[Dtmi], named: &Dtmi) -> bool
     requires ascending { IsStrictlySortedBy id_cmp ids.now }
     ensures { result ≡ list_any (λ id. reaches id named.now) ids.now }
 {
+    if ids.len() <= FEW {
+        return any_reaches(ids, named);
+    }
     any_reaches(of_path(ids, named), named)
 }
 

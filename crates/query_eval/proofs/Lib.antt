@@ -11,3 +11,4 @@ pub mod Ids
 pub mod Zeros
 pub mod Items
 pub mod Along
+pub mod Counted
