@@ -22,15 +22,13 @@ pub begins_none : (rest : List ℕ) (state : State) (at : ℕ) → BeginsNone re
 begins_none rest state at none = inl none
 
 -- ---- answers
-pub took : (o : Option (State × Bor (List ℕ))) (next : State) (behind : Bor (List ℕ)) (rest : List ℕ) (state : State) (at : ℕ)
-    → MatchOption o (TakesNone rest state at) (λ p. Takes rest state at p.0 p.1.now) → o ≡ Some (next, behind) → Takes rest state at next behind.now
-took o next behind rest state at h e =
-    subst (λ (x : Option (State × Bor (List ℕ))). MatchOption x (TakesNone rest state at) (λ p. Takes rest state at p.0 p.1.now)) e h
+pub begun : (o : Option (Token × Bor (List ℕ))) (t : Token) (behind : Bor (List ℕ)) (rest : List ℕ)
+    → MatchOption o (BeginsNone rest) (λ p. IsLongest rest p.0 p.1.now) → o ≡ Some (t, behind) → IsLongest rest t behind.now
+begun o t behind rest h e = subst (λ (x : Option (Token × Bor (List ℕ))). MatchOption x (BeginsNone rest) (λ p. IsLongest rest p.0 p.1.now)) e h
 
-pub took_none : (o : Option (State × Bor (List ℕ))) (rest : List ℕ) (state : State) (at : ℕ)
-    → MatchOption o (TakesNone rest state at) (λ p. Takes rest state at p.0 p.1.now) → o ≡ None → TakesNone rest state at
-took_none o rest state at h e =
-    subst (λ (x : Option (State × Bor (List ℕ))). MatchOption x (TakesNone rest state at) (λ p. Takes rest state at p.0 p.1.now)) e h
+pub begun_none : (o : Option (Token × Bor (List ℕ))) (rest : List ℕ)
+    → MatchOption o (BeginsNone rest) (λ p. IsLongest rest p.0 p.1.now) → o ≡ None → BeginsNone rest
+begun_none o rest h e = subst (λ (x : Option (Token × Bor (List ℕ))). MatchOption x (BeginsNone rest) (λ p. IsLongest rest p.0 p.1.now)) e h
 
 pub ended : (o : Option (Query × Notes)) (w : Query × Notes) (e : Option (Asked × Notes)) → option_map (λ p. (asked p.0, p.1)) o ≡ e → o ≡ Some w
     → e ≡ Some (asked w.0, w.1)

@@ -21,24 +21,6 @@ const MOST_BYTES: usize = 8192;
 /// The most joins.
 const MOST_JOINS: usize = 5;
 
-/// The state behind the token in front, whose byte is given, and what follows it; none where no query goes on so.
-fn one_more<'a>(
-    alloc: Global,
-    state: State,
-    at: u32,
-    rest: &'a str,
-) -> Result<Option<(State, &'a str)>, OutOfMemory>
-    ensures { IfOk result (λ o. MatchOption o (TakesNone rest.now state at) (λ p. Takes rest.now state at p.0 p.1.now)) }
-{
-    match token_of(alloc, rest)? {
-        Some((token, behind)) => match step(alloc, state, at, token)? {
-            Some(next) => Ok(Some((next, behind))),
-            None => Ok(None),
-        },
-        None => Ok(None),
-    }
-}
-
 /// The query of all tokens of a text, with the names in it.
 fn whole(alloc: Global, text: &str) -> Result<(Query, Notes), QueryFault>
     requires { length text.now ≤ 8192 }
@@ -48,13 +30,14 @@ fn whole(alloc: Global, text: &str) -> Result<(Query, Notes), QueryFault>
     let mut rest = behind_spaces(text);
     'tokens: while !rest.is_empty() {
         let at = (text.len() - rest.len()) as u32;
-        match one_more(alloc, state, at, rest)? {
-            Some((next, behind)) => {
-                state = next;
-                rest = behind_spaces(behind);
-            }
+        let Some((token, behind)) = token_of(alloc, rest)? else {
+            return Err(QueryFault::Byte { at });
+        };
+        match step(alloc, state, at, token)? {
+            Some(next) => state = next,
             None => return Err(QueryFault::Byte { at }),
         }
+        rest = behind_spaces(behind);
     }
     match end(alloc, state)? {
         Some(whole) => Ok(whole),
