@@ -7,6 +7,3 @@ mod requests;
 
 pub use laws::one_text;
 pub use maker::make;
-
-#[cfg(test)]
-mod tests;
