@@ -1,8 +1,8 @@
 -- Schemas of interfaces, properties of relationships and members, by their names.
-use Rattle.std.proofs.Common.{◌≡◌, ℕ, zero, suc, ◌<◌, ◌≤◌, List, [], ◌∷◌, length, get_or, drop, map, Bool, true, false, Option, Some, None, refl, sym, ap, ◌∙◌, arith, bytes_eq}
+use Rattle.std.proofs.Common.{◌≡◌, ℕ, zero, suc, ◌<◌, ◌≤◌, List, [], ◌∷◌, length, get_or, drop, map, Bool, true, false, Option, Some, None, cond, unwrap_or, refl, sym, ap, ◌∙◌, arith, bytes_eq}
 use Rattle.std.specs.Prelude.{if◌then◌else◌}
 use Rattle.std.specs.Borrow.{Bor}
-use Rattle.std.specs.List.{find}
+use Rattle.std.specs.List.{find, AllByRecursion}
 use Rattle.std.specs.Option.{option_map}
 use Rattle.dtmi_name.specs.Grammar.{Identifier, dtmi_text}
 use Rattle.json_tree.specs.View.{members_view}
@@ -19,27 +19,28 @@ use Rattle.twin_value.specs.Breaches.{position_of}
 use Rattle.twin_value.proofs.Schemas.{found_map}
 
 -- ---- the schemas of an interface
-listed : (o : Option NamedIn) (x : List Schema) → Some x ≡ option_map (λ (n : NamedIn). n.schemas) o → x ≡ schemas_in o
-listed None x e = absurd cc
-listed (Some n) x e = cc
+listed : (o : Option NamedIn) → unwrap_or (option_map (λ (n : NamedIn). n.schemas) o) [] ≡ schemas_in o
+listed None = refl
+listed (Some n) = refl
 
-unlisted : (o : Option NamedIn) → None ≡ option_map (λ (n : NamedIn). n.schemas) o → [] ≡ schemas_in o
-unlisted None e = refl
-unlisted (Some n) e = absurd cc
+pub schemas_found : (l : Library) (from : Identifier) (q : List ℕ) (found : Option (List Schema)) → q ≡ dtmi_text from
+    → unwrap_or found [] ≡ unwrap_or (option_map (λ (n : NamedIn). n.schemas) (find (λ (n : NamedIn). is_called q (Some (dtmi_text n.of))) l.named)) []
+    → map schema_term (unwrap_or found []) ≡ schemas_from l from
+schemas_found l from q found e h =
+    ap (map schema_term) (h
+    ∙ ap (λ (t : List ℕ). unwrap_or (option_map (λ (n : NamedIn). n.schemas) (find (λ (n : NamedIn). is_called t (Some (dtmi_text n.of))) l.named)) []) e
+    ∙ listed (named_of from l.named))
 
-pub schemas_found : (l : Library) (from : Identifier) (q : List ℕ) (found : Option (List Schema)) (x : List Schema) → q ≡ dtmi_text from
-    → found ≡ option_map (λ (n : NamedIn). n.schemas) (find (λ (n : NamedIn). is_called q (Some (dtmi_text n.of))) l.named) → found ≡ Some x → map schema_term x ≡ schemas_from l from
-schemas_found l from q found x e h is =
-    let same : Some x ≡ option_map (λ (n : NamedIn). n.schemas) (named_of from l.named) =
-    sym is ∙ h ∙ ap (λ (t : List ℕ). option_map (λ (n : NamedIn). n.schemas) (find (λ (n : NamedIn). is_called t (Some (dtmi_text n.of))) l.named)) e in
-    ap (map schema_term) (listed (named_of from l.named) x same)
+-- where no interface declares schemas, none is found
+first_declared : (b : Bool) (n : NamedIn) (o : Option NamedIn) → n.schemas ≡ [] → [] ≡ unwrap_or (option_map (λ (n : NamedIn). n.schemas) o) []
+    → [] ≡ unwrap_or (option_map (λ (n : NamedIn). n.schemas) (cond b (Some n) o)) []
+first_declared true n o is rest = sym is
+first_declared false n o is rest = rest
 
-pub schemas_lost : (l : Library) (from : Identifier) (q : List ℕ) (found : Option (List Schema)) → q ≡ dtmi_text from
-    → found ≡ option_map (λ (n : NamedIn). n.schemas) (find (λ (n : NamedIn). is_called q (Some (dtmi_text n.of))) l.named) → found ≡ None → [] ≡ schemas_from l from
-schemas_lost l from q found e h is =
-    let same : None ≡ option_map (λ (n : NamedIn). n.schemas) (named_of from l.named) =
-    sym is ∙ h ∙ ap (λ (t : List ℕ). option_map (λ (n : NamedIn). n.schemas) (find (λ (n : NamedIn). is_called t (Some (dtmi_text n.of))) l.named)) e in
-    ap (map schema_term) (unlisted (named_of from l.named) same)
+pub none_declared : (p : NamedIn → Bool) (ns : List NamedIn) → AllByRecursion (λ (n : NamedIn). n.schemas ≡ []) ns
+    → [] ≡ unwrap_or (option_map (λ (n : NamedIn). n.schemas) (find p ns)) []
+none_declared p [] h = refl
+none_declared p (n ∷ ns) h = first_declared (p n) n (find p ns) h.0 (none_declared p ns h.1)
 
 -- ---- the properties of a relationship
 properties_list : (ps : List Content) → properties_in (contents_term ps) ≡ map content_term ps

@@ -1,6 +1,6 @@
-//! Items by their names, each looked up in logarithmic time.
+//! Items by their names, each looked up in logarithmic time, or one by one where they are few.
 
-ghost use Rattle.std.specs.Prelude.{◌≡◌, ℕ, List, IfOk, OnOk};
+ghost use Rattle.std.specs.Prelude.{◌≡◌, ◌<◌, ℕ, List, length, IfOk, OnOk};
 ghost use Rattle.std.specs.Option.{option_map, option_or};
 ghost use Rattle.std.specs.List.{find};
 ghost use Rattle.std.specs.Ordering.{nat_cmp};
@@ -14,6 +14,9 @@ use std::alloc::Global;
 use std::collections::BTreeMap;
 use std::marker::Model;
 
+/// The most items that are looked at one by one, for which no order is made.
+const FEW: usize = 8;
+
 /// What may have a name.
 pub trait Keyed {
     ghost use Rattle.std.specs.Prelude.{◌≡◌, ℕ, List, Option};
@@ -26,7 +29,7 @@ pub trait Keyed {
         ensures { option_map (λ t. t.now) result ≡ key_of self.now };
 }
 
-/// Items, and where each name leads.
+/// Items, and where each name leads, unless they are few.
 #[derive(Drop)]
 pub struct Index<'a, T: Keyed> {
     items: &'a [T],
@@ -34,7 +37,7 @@ pub struct Index<'a, T: Keyed> {
 }
 
 impl<'a, T: Keyed> Model for Index<'a, T> {
-    ghost use Rattle.std.specs.Prelude.{List};
+    ghost use Rattle.std.specs.Prelude.{◌<◌, List, length};
     ghost use Rattle.std.specs.Coded.{coded_list};
     ghost use Rattle.twin_value.specs.Machinery.Indexes.{IsIndex};
 
@@ -44,7 +47,7 @@ impl<'a, T: Keyed> Model for Index<'a, T> {
 
     ghost view = { λ i. i.items.now };
 
-    ghost invariant = { λ i. IsIndex T.key_of i.items.now i.places };
+    ghost invariant = { λ i. 8 < length i.items.now → IsIndex T.key_of i.items.now i.places };
 }
 
 /// Where each name leads.
@@ -91,11 +94,37 @@ fn add_name<'a, T>(
     Ok(())
 }
 
+/// Whether a name that there may be is this one.
+fn is_name(key: Option<&str>, name: &str) -> bool
+    ensures { result ≡ is_called name.now (option_map (λ t. t.now) key.entry) }
+{
+    match key {
+        Some(key) => key == name,
+        None => false,
+    }
+}
+
+/// The first item of this name.
+fn first_called<'a, T: Keyed>(items: &'a [T], name: &str) -> Option<&'a T>
+    ensures { option_map (λ x. x.now) result ≡ find (λ x. is_called name.now (T.key_of x)) items.now }
+{
+    for item in items {
+        if is_name(item.key(), name) {
+            return Some(item);
+        }
+    }
+    None
+}
+
 impl<'a, T: Keyed> Index<'a, T> {
     /// The index of items.
     pub fn of(alloc: Global, items: &'a [T]) -> Result<Index<'a, T>, OutOfMemory>
         ensures { IfOk result (λ index. index ≡ items.now) }
     {
+        if items.len() <= FEW {
+            let places = BTreeMap::new(alloc);
+            return Ok(Index { items, places });
+        }
         let places = places_of(alloc, items)?;
         Ok(Index { items, places })
     }
@@ -104,6 +133,9 @@ impl<'a, T: Keyed> Index<'a, T> {
     pub fn get(&self, name: &str) -> Option<&'a T>
         ensures { option_map (λ x. x.now) result ≡ find (λ x. is_called name.now (T.key_of x)) self.now }
     {
+        if self.items.len() <= FEW {
+            return first_called(self.items, name);
+        }
         self.places.get(name).copied()
     }
 }

@@ -1,6 +1,7 @@
 //! What the contents of a model refer to.
 
-ghost use Rattle.std.specs.Prelude.{◌≡◌, ℕ, List, Some, map, IfOk, OnOk};
+ghost use Rattle.std.specs.Prelude.{◌≡◌, [], ℕ, List, Some, false, map, IfOk, OnOk};
+ghost use Rattle.std.specs.List.{AllByRecursion};
 ghost use Rattle.std.specs.Option.{option_or};
 ghost use Rattle.std.specs.Ordering.{nat_cmp};
 ghost use Rattle.std.specs.Cmp.Lexicographic.{slice_cmp};
@@ -10,7 +11,7 @@ ghost use Rattle.dtdl_terms.specs.TermViews.{schema_term};
 ghost use Rattle.twin_value.specs.Breaches.{library_of, no_library};
 ghost use Rattle.twin_value.specs.Roles.{schemas_from, contents_in};
 ghost use Rattle.twin_value.specs.Named.{part_of};
-ghost use Rattle.twin_value.specs.Machinery.Indexes.{AreSchemas, is_there};
+ghost use Rattle.twin_value.specs.Machinery.Indexes.{AreSchemas, LeadsToSchemas, is_there};
 
 use crate::index::{Index, Keyed};
 use dt_base::OutOfMemory;
@@ -63,6 +64,31 @@ fn add_schemas<'a>(
     Ok(())
 }
 
+/// Whether an interface declares schemas.
+fn has_schemas(named: &[NamedIn]) -> bool
+    ensures { result ≡ false → AllByRecursion (λ n. n.schemas ≡ []) named.now }
+{
+    for one in named {
+        if !one.schemas.is_empty() {
+            return true;
+        }
+    }
+    false
+}
+
+/// The schemas of each interface, by the interface's identifier and by their own, where there are any.
+fn schemas_if_any<'a>(
+    alloc: Global,
+    named: &'a [NamedIn],
+) -> Result<BTreeMap<&'a str, Index<'a, Schema>>, OutOfMemory>
+    ensures { IfOk result (LeadsToSchemas named.now) }
+{
+    if has_schemas(named) {
+        return schemas_of(alloc, named);
+    }
+    Ok(BTreeMap::new(alloc))
+}
+
 /// The schemas that interfaces declare, and the interfaces of components, by their identifiers.
 #[derive(Drop)]
 pub struct Library<'a> {
@@ -81,7 +107,7 @@ impl<'a> Model for Library<'a> {
     ghost use Rattle.dtdl_terms.specs.declared.resolved.NamedIn.{NamedIn};
     ghost use Rattle.dtdl_terms.specs.declared.resolved.PartOf.{PartOf};
     ghost use Rattle.twin_value.specs.Roles as roles;
-    ghost use Rattle.twin_value.specs.Machinery.Indexes.{AreSchemas};
+    ghost use Rattle.twin_value.specs.Machinery.Indexes.{LeadsToSchemas};
 
     ghost Value = { roles.Library };
 
@@ -89,7 +115,7 @@ impl<'a> Model for Library<'a> {
 
     ghost view = { λ l. record { named = l.named.now; parts = l.parts } };
 
-    ghost invariant = { λ l. AreSchemas l.named.now l.schemas × (l.none ≡ []) };
+    ghost invariant = { λ l. LeadsToSchemas l.named.now l.schemas × (l.none ≡ []) };
 }
 
 impl<'a> Library<'a> {
@@ -115,7 +141,7 @@ impl<'a> Library<'a> {
     ) -> Result<Library<'a>, OutOfMemory>
         ensures { IfOk result (λ library. library ≡ record { named = named.now; parts = parts.now }) }
     {
-        let schemas = schemas_of(alloc, named)?;
+        let schemas = schemas_if_any(alloc, named)?;
         let parts = Index::of(alloc, parts)?;
         let none = Index::of(alloc, &[])?;
         Ok(Library {

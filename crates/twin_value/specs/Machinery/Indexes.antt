@@ -1,5 +1,5 @@
 -- Indexes by names.
-use Rattle.std.specs.Prelude.{◌≡◌, ℕ, List, Option, Some, None, if◌then◌else◌}
+use Rattle.std.specs.Prelude.{◌≡◌, ℕ, List, [], Option, Some, None, unwrap_or, if◌then◌else◌}
 use Rattle.std.specs.Borrow.{Bor}
 use Rattle.std.specs.List.{find}
 use Rattle.std.specs.Option.{option_map}
@@ -24,3 +24,8 @@ IsIndex {T} key xs index = (q : List ℕ)
 abbrev pub AreSchemas : List NamedIn → BTreeMap (Bor (List ℕ)) (List Schema) → Type 0
 AreSchemas ns schemas = (q : List ℕ)
     → get_by (λ (k : Bor (List ℕ)). slice_cmp nat_cmp q k.now) schemas ≡ option_map (λ (n : NamedIn). n.schemas) (find (λ (n : NamedIn). is_called q (Some (dtmi_text n.of))) ns)
+
+-- The same where an identifier that leads nowhere is that of an interface without schemas, or of none.
+abbrev pub LeadsToSchemas : List NamedIn → BTreeMap (Bor (List ℕ)) (List Schema) → Type 0
+LeadsToSchemas ns schemas = (q : List ℕ)
+    → unwrap_or (get_by (λ (k : Bor (List ℕ)). slice_cmp nat_cmp q k.now) schemas) [] ≡ unwrap_or (option_map (λ (n : NamedIn). n.schemas) (find (λ (n : NamedIn). is_called q (Some (dtmi_text n.of))) ns)) []
