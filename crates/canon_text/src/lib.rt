@@ -16,6 +16,3 @@ mod sorting;
 pub use interfaces::{canon, canon_interface, canon_set_tree, canon_tree};
 pub use laws::{one_set_tree, one_text, one_tree, same_set_text, same_text};
 pub use own_ids::{each_identified, identified};
-
-#[cfg(test)]
-mod tests;

@@ -36,6 +36,3 @@ pub use source::{Failed, QuietSource, Source};
 pub use std_io::{StdSink, StdSource};
 pub use text::Text;
 pub use writes::write_all;
-
-#[cfg(test)]
-mod tests;

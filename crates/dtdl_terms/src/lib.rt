@@ -30,6 +30,3 @@ pub use resolved::{NamedIn, PartOf, Resolved, ResolvedContent};
 pub use schema::{Payload, Schema};
 pub use spot::{Spot, spot_pointer};
 pub use uploaded::Uploaded;
-
-#[cfg(test)]
-mod tests;

@@ -10,6 +10,3 @@ mod walk;
 pub use dtmi::{Dtmi, has_dtmi_form, is_reserved_id, order, same_path};
 pub use fault::NameFault;
 pub use name::{Name, is_name};
-
-#[cfg(test)]
-mod tests;

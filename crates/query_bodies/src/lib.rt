@@ -5,8 +5,6 @@ mod asks;
 mod breaches;
 mod faults;
 mod laws;
-#[cfg(test)]
-mod tests;
 
 pub use asks::ask_of_body;
 pub use laws::{one_outcome, sound_ask};

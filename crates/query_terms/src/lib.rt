@@ -10,6 +10,3 @@ mod query;
 pub use cond::{Cond, Kind, PartKind};
 pub use operand::{Compare, Literal, Operand};
 pub use query::{Item, Join, Projection, Query};
-
-#[cfg(test)]
-mod tests;

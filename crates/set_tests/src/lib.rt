@@ -1,6 +1,8 @@
-//! The calls of `extend_resolve` and `model_resolve` on a set of one interface, of which a proof knows that it breaks no rule.
-//! They stand here, since a crate with tests of its own is proved twice.
+//! The calls of `extend_resolve` and `model_resolve` on a set of one interface, of which a proof knows that it breaks no rule,
+//! and those of `dtdl_terms` on sets. They stand here, since a crate with tests of its own is proved twice.
 #![tactic(auto)]
 
 #[cfg(test)]
 mod lone;
+#[cfg(test)]
+mod terms;

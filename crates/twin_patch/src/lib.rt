@@ -20,6 +20,3 @@ pub use entry::PatchOf;
 pub use laws::{one_answer, order_of_members};
 pub use patch::{Op, OpKind, Patch};
 pub use reading::{PatchEnd, read_patch};
-
-#[cfg(test)]
-mod tests;

@@ -10,6 +10,3 @@ mod readers;
 pub use calendar::has_day;
 pub use clock::{is_date, is_date_time, is_time};
 pub use durations::is_duration;
-
-#[cfg(test)]
-mod tests;

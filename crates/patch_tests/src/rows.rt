@@ -6,12 +6,12 @@ ghost use Rattle.json_tree.specs.View.{view};
 ghost use Rattle.twin_patch.specs.Operations.{change_of, BringsDistinctKeys};
 ghost use Rattle.twin_patch.specs.declared.patch.Op.{Op};
 
-use crate::{ApplyEnd, Patch, PatchCode, PatchEnd, PatchOf, apply, read_patch};
 use json_read::read;
 use json_tree::{Tree, print};
 use std::alloc::Global;
 use std::process::Abort;
 use std::test::Fail;
+use twin_patch::{ApplyEnd, Patch, PatchCode, PatchEnd, PatchOf, apply, read_patch};
 
 /// The tree of a text.
 fn tree_of(alloc: Global, text: &str) -> Result<Tree, Fail>

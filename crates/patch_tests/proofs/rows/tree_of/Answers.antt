@@ -1,5 +1,5 @@
 use Rattle.twin_patch.proofs.Distinct.{read_tree}
-use Rattle.twin_patch.proofs.tests.tree_of.Goals as goal
+use Rattle.patch_tests.proofs.rows.tree_of.Goals as goal
 
 pub returns : goal.returns
 returns c = read_tree c.as_bytes.result.now c.in_ok-tree.tree c.in_ok-tree.ensures

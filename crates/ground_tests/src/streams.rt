@@ -1,4 +1,10 @@
-use super::*;
+//! Sources, sinks, links and shelves, in memory and over std.
+
+use dt_base::{
+    Failed, Fetched, File, FileShelf, List, MemLink, MemShelf, MemSink, MemSource, OutOfMemory,
+    QuietShelf, QuietSink, QuietSource, ReadEnd, Shelf, ShelfEnd, Sink, Source, StdSink, StdSource,
+    Text, read_all, write_all,
+};
 use std::alloc::Global;
 use std::collections::BTreeMap;
 use std::fs;

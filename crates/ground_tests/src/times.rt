@@ -1,5 +1,7 @@
-use super::*;
+//! Dates, times and durations.
+
 use std::test::Fail;
+use value_texts::{is_date, is_date_time, is_duration, is_time};
 
 #[test]
 fn dates(rt: HostRuntime) -> Result<(), Fail> {

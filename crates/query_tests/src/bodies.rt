@@ -1,8 +1,8 @@
 //! Rows: bodies with the asks that they make or the refusals that they decide.
 
-use crate::ask_of_body;
 use graph_asks::{Ask, At, Refusal};
 use json_read::read;
+use query_bodies::ask_of_body;
 use std::alloc::Global;
 use std::process::Abort;
 use std::test::Fail;

@@ -1,0 +1,12 @@
+//! Worked rows of the lowest crates, through the public calls of `dt_base`, `dtmi_name`, `query_terms` and `value_texts`. They
+//! stand here, since a crate with tests of its own is proved twice.
+#![tactic(auto)]
+
+#[cfg(test)]
+mod names;
+#[cfg(test)]
+mod queries;
+#[cfg(test)]
+mod streams;
+#[cfg(test)]
+mod times;

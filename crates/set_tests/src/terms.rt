@@ -1,0 +1,79 @@
+//! Sets of interfaces, and the names of limits, through the public calls of `dtdl_terms`.
+
+use dt_base::List;
+use dtdl_terms::{Interface, Limit, Localized, ModelSet};
+use dtmi_name::Dtmi;
+use std::alloc::Global;
+use std::test::Fail;
+
+fn absent(alloc: Global) -> Localized {
+    Localized {
+        entries: List::new(alloc),
+    }
+}
+
+fn interface(alloc: Global) -> Result<Interface, Fail> {
+    let id = Dtmi::read(alloc, "dtmi:com:example:Thermostat;1")?;
+    Ok(Interface {
+        id,
+        comment: None,
+        description: absent(alloc),
+        display_name: absent(alloc),
+        parents: List::new(alloc),
+        contents: List::new(alloc),
+        schemas: List::new(alloc),
+    })
+}
+
+// an interface that is there is not put again
+fn put(set: &mut ModelSet, interface: Interface) -> Result<(), Fail> {
+    if set.get(&interface.id).is_none() {
+        set.insert(interface)?;
+    }
+    Ok(())
+}
+
+#[test]
+fn keeps_a_set(rt: HostRuntime) -> Result<(), Fail> {
+    let alloc = rt.alloc();
+    let mut set = ModelSet::new(alloc);
+    for id in ["dtmi:b;9", "dtmi:a;1", "dtmi:b;10"] {
+        let mut next = interface(alloc)?;
+        next.id = Dtmi::read(alloc, id)?;
+        put(&mut set, next)?;
+    }
+    let mut seen = String::new(alloc);
+    let mut at = set.after(None);
+    for _ in 0..3 {
+        let Some(interface) = at else { break };
+        seen.push_str(interface.id.as_str())?;
+        seen.push(' ')?;
+        at = set.after(Some(&interface.id));
+    }
+    assert_eq!(rt; seen.as_str(), "dtmi:a;1 dtmi:b;10 dtmi:b;9 ");
+    let id = Dtmi::read(alloc, "dtmi:b;10")?;
+    assert_eq!(rt;
+        set.remove(&id).map(|interface| interface.id.version()),
+        Some(10)
+    );
+    assert!(rt; set.get(&id).is_none() && set.len() == 2);
+    Ok(())
+}
+
+#[test]
+fn limits_have_their_names(rt: HostRuntime) -> Result<(), Fail> {
+    let names = [
+        (Limit::Models, "models"),
+        (Limit::ModelBytes, "modelBytes"),
+        (Limit::ResolvedBytes, "resolvedBytes"),
+        (Limit::TwinBytes, "twinBytes"),
+        (Limit::RelationshipBytes, "relationshipBytes"),
+        (Limit::Twins, "twins"),
+        (Limit::Relationships, "relationships"),
+        (Limit::GraphBytes, "graphBytes"),
+    ];
+    for (limit, name) in names {
+        assert_eq!(rt; limit.text(), name);
+    }
+    Ok(())
+}
