@@ -1,6 +1,5 @@
 //! Worked rows of the commands, over sources and sinks in memory.
 
-mod rows;
 mod sets;
 
 use dt_base::{List, MemSink, MemSource, QuietShelf};
