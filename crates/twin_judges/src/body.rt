@@ -1,12 +1,13 @@
 //! Twins that come with a body, whether they are put or patched.
 
 ghost use Rattle.std.specs.Prelude.{◌≡◌, Some, IfOk, MatchResult};
+ghost use Rattle.std.specs.Option.{option_copied, option_map};
 ghost use Rattle.dtmi_name.specs.Grammar.{dtmi_text};
 ghost use Rattle.graph_bodies.specs.Bodies.{FailsBy};
 ghost use Rattle.graph_bodies.specs.Kept.{twin_view, IsKeptTwin};
 ghost use Rattle.graph_held.specs.Held.{state_of, IsHeldTwin};
 ghost use Rattle.graph_steps.specs.Refusals.{or_else};
-ghost use Rattle.graph_steps.specs.States.{interface_of, set_of, twin_value, with_twin};
+ghost use Rattle.graph_steps.specs.States.{interface_of, set_of, twin_at, twin_value, with_twin};
 ghost use Rattle.graph_steps.specs.TwinAsks.{DoesNotFit, RefusesBody, TwinFull, twin_for, with_body};
 ghost use Rattle.graph_steps.specs.Typed.{WellTyped};
 ghost use Rattle.json_tree.specs.Values.{HasDistinctKeys};
@@ -28,14 +29,16 @@ use json_tree::Tree;
 use model_resolve::Resolutions;
 use twin_value::Twin;
 
-/// A twin without breach that comes, refused where a relationship would not be well typed or a limit would be passed with
+/// A twin without breach that comes in the place of the one that there may be, refused where a relationship would not be well typed or a limit would be passed with
 /// it. Fails for want of memory too.
 fn judged_new(
     lent: &Lent<'_>,
     resolutions: &mut Resolutions,
+    there: Option<&Twin>,
     twin: Twin,
 ) -> Result<NewTwin, BodyFailure>
     requires typed { WellTyped (state_of lent.now) }
+    requires there { option_map twin_view (option_copied there) ≡ twin_at twin.id (state_of lent.now) }
     requires kept { IsKeptTwin (twin_view twin) }
     requires right { HoldsRight (set_of (state_of lent.now)) resolutions.old }
     ensures right { HoldsRight (set_of (state_of lent.now)) resolutions.new }
@@ -45,20 +48,23 @@ fn judged_new(
     ensures held { IfOk result (λ new. IsHeldTwin (record { twin = new.twin; bytes = new.bytes })) }
     ensures tree { IfOk result (λ new. view new.tree ≡ twin_value (twin_view new.twin)) }
 {
-    unless_unfit(lent, resolutions, &twin)?;
-    within_limits(lent, twin)
+    unless_unfit(lent, resolutions, there, &twin)?;
+    within_limits(lent, there, twin)
 }
 
-/// The twin of an id for which a body of this interface's twins stands, where it may come. Fails by the first reason why it
+/// The twin of an id for which a body of this interface's twins stands, where it may come in the place of the one that there
+/// may be. Fails by the first reason why it
 /// may not, or for want of memory.
 fn judged_of(
     lent: &Lent<'_>,
     resolutions: &mut Resolutions,
+    there: Option<&Twin>,
     id: &Text,
     interface: &Interface,
     tree: &Tree,
 ) -> Result<NewTwin, BodyFailure>
     requires typed { WellTyped (state_of lent.now) }
+    requires old { option_map twin_view (option_copied there) ≡ twin_at id.now (state_of lent.now) }
     requires there { interface_of (state_of lent.now) interface.now.id ≡ Some interface.now }
     requires distinct { HasDistinctKeys (view tree.now) }
     requires right { HoldsRight (set_of (state_of lent.now)) resolutions.old }
@@ -71,19 +77,22 @@ fn judged_of(
 {
     unless_marked(lent, id, &interface.id)?;
     let twin = judged_twin(lent, resolutions, id, interface, tree)?;
-    judged_new(lent, resolutions, twin)
+    judged_new(lent, resolutions, there, twin)
 }
 
-/// The twin of an id for which a body stands that names this model, where it may come. Fails by the first reason why it may
+/// The twin of an id for which a body stands that names this model, where it may come in the place of the one that there may
+/// be. Fails by the first reason why it may
 /// not, or for want of memory.
 pub(crate) fn judged_body(
     lent: &Lent<'_>,
     resolutions: &mut Resolutions,
+    there: Option<&Twin>,
     id: &Text,
     model: &Dtmi,
     tree: &Tree,
 ) -> Result<NewTwin, BodyFailure>
     requires typed { WellTyped (state_of lent.now) }
+    requires old { option_map twin_view (option_copied there) ≡ twin_at id.now (state_of lent.now) }
     requires distinct { HasDistinctKeys (view tree.now) }
     requires right { HoldsRight (set_of (state_of lent.now)) resolutions.old }
     ensures right { HoldsRight (set_of (state_of lent.now)) resolutions.new }
@@ -96,7 +105,7 @@ pub(crate) fn judged_body(
     ensures tree { IfOk result (λ new. view new.tree ≡ twin_value (twin_view new.twin)) }
 {
     match lent.interface(model) {
-        Some(interface) => judged_of(lent, resolutions, id, interface, tree),
+        Some(interface) => judged_of(lent, resolutions, there, id, interface, tree),
         None => {
             let refusal = model_not_found(lent.alloc(), model)?;
             Err(BodyFailure::Refused(refusal))

@@ -1,7 +1,7 @@
 //! Relationships that would not be well typed with a twin that comes.
 
 ghost use Rattle.std.specs.Prelude.{◌≡◌, ◌↔◌, IsTrue, IsSome, MatchResult, Some, None};
-ghost use Rattle.std.specs.Option.{IsSomeAnd};
+ghost use Rattle.std.specs.Option.{IsSomeAnd, option_copied, option_map};
 ghost use Rattle.graph_bodies.specs.Bodies.{FailsBy};
 ghost use Rattle.graph_bodies.specs.Kept.{twin_view};
 ghost use Rattle.graph_held.specs.Held.{state_of};
@@ -49,21 +49,23 @@ fn unless_ill(
     Err(BodyFailure::Refused(refusal))
 }
 
-/// Refuses where a relationship would not be well typed with a twin that comes, or for want of memory. It can only be so
-/// where the twin is there and is of another model.
+/// Refuses where a relationship would not be well typed with a twin that comes in the place of the one that there may be, or
+/// for want of memory. It can only be so where one is there and is of another model.
 pub(crate) fn unless_unfit(
     lent: &Lent<'_>,
     resolutions: &mut Resolutions,
+    there: Option<&Twin>,
     twin: &Twin,
 ) -> Result<(), BodyFailure>
     requires typed { WellTyped (state_of lent.now) }
+    requires there { option_map twin_view (option_copied there) ≡ twin_at twin.now.id (state_of lent.now) }
     requires right { HoldsRight (set_of (state_of lent.now)) resolutions.old }
     ensures right { HoldsRight (set_of (state_of lent.now)) resolutions.new }
     ensures fits { MatchResult result
         (λ _. Unrefused (DoesNotFit (with_twin (twin_view twin.now) (state_of lent.now)) twin.now.id))
         (FailsBy (DoesNotFit (with_twin (twin_view twin.now) (state_of lent.now)) twin.now.id)) }
 {
-    let Some(old) = lent.twin(&twin.id) else {
+    let Some(old) = there else {
         return Ok(());
     };
     if is_one(&old.model, &twin.model) {

@@ -1,7 +1,7 @@
 //! The limits of twins and of the graph.
 
 ghost use Rattle.std.specs.Prelude.{◌≡◌, ℕ, ◌+◌, ◌≤◌, length, unwrap_or, IfOk, MatchResult};
-ghost use Rattle.std.specs.Option.{option_map};
+ghost use Rattle.std.specs.Option.{option_copied, option_map};
 ghost use Rattle.graph_bodies.specs.Bodies.{FailsBy};
 ghost use Rattle.graph_bodies.specs.Kept.{twin_view, IsKeptTwin};
 ghost use Rattle.graph_held.specs.Held.{state_of, IsHeldTwin};
@@ -28,22 +28,28 @@ const MOST_TWINS: u64 = 100_000;
 /// The most bytes that the texts of all twins and relationships have together.
 const MOST_GRAPH_BYTES: u64 = 268_435_456;
 
-/// How many twins there are with one of this id. Takes no memory.
-fn twins_with(lent: &Lent<'_>, id: &Text) -> u64
-    requires { WellTyped (state_of lent.now) }
+/// How many twins there are with one of this id, where there may be one already. Takes no memory.
+fn twins_with(lent: &Lent<'_>, there: Option<&Twin>, id: &Text) -> u64
+    requires typed { WellTyped (state_of lent.now) }
+    requires there { option_map twin_view (option_copied there) ≡ twin_at id.now (state_of lent.now) }
     ensures { (t : GraphTwin) → t.id ≡ id.now → result ≡ length (with_twin t (state_of lent.now)).twins }
 {
+    let _id = id;
     let twins = lent.twins().len();
-    match lent.twin(id) {
+    match there {
         Some(_) => twins,
         None => twins + 1,
     }
 }
 
-/// How many bytes the text of the twin with an id has, 0 where there is none. Takes no memory.
-fn bytes_before(lent: &Lent<'_>, id: &Text) -> u64
+/// How many bytes the text of the twin with an id has that there may be, 0 where there is none. Takes no memory.
+fn bytes_before(lent: &Lent<'_>, there: Option<&Twin>, id: &Text) -> u64
+    requires { option_map twin_view (option_copied there) ≡ twin_at id.now (state_of lent.now) }
     ensures { result ≡ unwrap_or (option_map (λ t. length (twin_text t)) (twin_at id.now (state_of lent.now))) 0 }
 {
+    if there.is_none() {
+        return 0;
+    }
     lent.right();
     match lent.twins().bytes_of(id) {
         Some(bytes) => bytes,
@@ -51,20 +57,28 @@ fn bytes_before(lent: &Lent<'_>, id: &Text) -> u64
     }
 }
 
-/// How many bytes the texts of all twins and relationships have together with a twin of this id whose text has so many.
-/// Takes no memory.
-fn bytes_with(lent: &Lent<'_>, id: &Text, bytes: u64) -> u64
+/// How many bytes the texts of all twins and relationships have together with a twin of this id whose text has so many, where
+/// there may be one already. Takes no memory.
+fn bytes_with(lent: &Lent<'_>, there: Option<&Twin>, id: &Text, bytes: u64) -> u64
     requires typed { WellTyped (state_of lent.now) }
+    requires there { option_map twin_view (option_copied there) ≡ twin_at id.now (state_of lent.now) }
     requires few { bytes ≤ 32768 }
     ensures { (t : GraphTwin) → t.id ≡ id.now → bytes ≡ length (twin_text t) → result ≡ graph_bytes (with_twin t (state_of lent.now)) }
 {
-    let before = bytes_before(lent, id);
+    let before = bytes_before(lent, there, id);
     lent.bytes() - before + bytes
 }
 
-/// Refuses where a limit would be passed with a twin that comes, whose text has so many bytes.
-fn unless_full(lent: &Lent<'_>, twin: &Twin, bytes: u64) -> Result<(), BodyFailure>
+/// Refuses where a limit would be passed with a twin that comes, whose text has so many bytes, in the place of the one that
+/// there may be.
+fn unless_full(
+    lent: &Lent<'_>,
+    there: Option<&Twin>,
+    twin: &Twin,
+    bytes: u64,
+) -> Result<(), BodyFailure>
     requires typed { WellTyped (state_of lent.now) }
+    requires there { option_map twin_view (option_copied there) ≡ twin_at twin.now.id (state_of lent.now) }
     requires size { bytes ≡ length (twin_text (twin_view twin.now)) }
     ensures { MatchResult result
         (λ _. Unrefused (TwinFull (with_twin (twin_view twin.now) (state_of lent.now)) (twin_view twin.now)))
@@ -75,12 +89,12 @@ fn unless_full(lent: &Lent<'_>, twin: &Twin, bytes: u64) -> Result<(), BodyFailu
             limit: Limit::TwinBytes,
         }));
     }
-    if twins_with(lent, &twin.id) > MOST_TWINS {
+    if twins_with(lent, there, &twin.id) > MOST_TWINS {
         return Err(BodyFailure::Refused(Refusal::Full {
             limit: Limit::Twins,
         }));
     }
-    if bytes_with(lent, &twin.id, bytes) > MOST_GRAPH_BYTES {
+    if bytes_with(lent, there, &twin.id, bytes) > MOST_GRAPH_BYTES {
         return Err(BodyFailure::Refused(Refusal::Full {
             limit: Limit::GraphBytes,
         }));
@@ -88,10 +102,15 @@ fn unless_full(lent: &Lent<'_>, twin: &Twin, bytes: u64) -> Result<(), BodyFailu
     Ok(())
 }
 
-/// The twin that comes with what is printed of it, refused where a limit would be passed with it. Fails for want of memory
-/// too.
-pub(crate) fn within_limits(lent: &Lent<'_>, twin: Twin) -> Result<NewTwin, BodyFailure>
+/// The twin that comes, in the place of the one that there may be, with what is printed of it; refused where a limit would be
+/// passed with it. Fails for want of memory too.
+pub(crate) fn within_limits(
+    lent: &Lent<'_>,
+    there: Option<&Twin>,
+    twin: Twin,
+) -> Result<NewTwin, BodyFailure>
     requires typed { WellTyped (state_of lent.now) }
+    requires there { option_map twin_view (option_copied there) ≡ twin_at twin.id (state_of lent.now) }
     requires kept { IsKeptTwin (twin_view twin) }
     ensures full { MatchResult result
         (λ new. Unrefused (TwinFull (with_twin (twin_view twin) (state_of lent.now)) (twin_view twin)) × (new.twin ≡ twin))
@@ -100,6 +119,6 @@ pub(crate) fn within_limits(lent: &Lent<'_>, twin: Twin) -> Result<NewTwin, Body
     ensures tree { IfOk result (λ new. view new.tree ≡ twin_value (twin_view new.twin)) }
 {
     let (tree, bytes) = printed(lent.alloc(), &twin)?;
-    unless_full(lent, &twin, bytes)?;
+    unless_full(lent, there, &twin, bytes)?;
     Ok(NewTwin { twin, bytes, tree })
 }

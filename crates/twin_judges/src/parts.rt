@@ -6,7 +6,7 @@ ghost use Rattle.graph_bodies.specs.Bodies.{FailsBy};
 ghost use Rattle.graph_bodies.specs.Kept.{twin_view, IsKeptPart, IsKeptTwin};
 ghost use Rattle.graph_held.specs.Held.{state_of, IsHeldTwin};
 ghost use Rattle.graph_steps.specs.Soundness.{IsReadPatch, IsSound};
-ghost use Rattle.graph_steps.specs.States.{interface_of, part_value, set_of, twin_value, with_twin};
+ghost use Rattle.graph_steps.specs.States.{interface_of, part_value, set_of, twin_at, twin_value, with_twin};
 ghost use Rattle.graph_steps.specs.TwinAsks.{RefusesNewPart, RefusesPatchPart, after_patch_part, component_at, with_new_part, with_part};
 ghost use Rattle.graph_steps.specs.Typed.{WellTyped};
 ghost use Rattle.json_tree.specs.Values.{HasDistinctKeys};
@@ -44,6 +44,7 @@ fn judged_values(
 ) -> Result<NewTwin, BodyFailure>
     requires typed { WellTyped (state_of lent.now) }
     requires there { interface_of (state_of lent.now) interface.now.id ≡ Some interface.now }
+    requires at { twin_at twin.now.id (state_of lent.now) ≡ Some (twin_view twin.now) }
     requires kept { IsKeptTwin (twin_view twin.now) }
     requires has { IsSome (component_at name.now (twin_view twin.now)) }
     requires distinct { HasDistinctKeys (view tree.now) }
@@ -57,7 +58,7 @@ fn judged_values(
 {
     let values = judged_part(lent, resolutions, name, interface, tree)?;
     let new = with_component(lent.alloc(), twin, name, values)?;
-    within_limits(lent, new)
+    within_limits(lent, Some(twin), new)
 }
 
 /// The twin of which a patch changes a component that it has, where it may come. Fails by the first reason why it may not,
@@ -73,6 +74,7 @@ fn judged_part_of(
 ) -> Result<NewTwin, BodyFailure>
     requires typed { WellTyped (state_of lent.now) }
     requires there { interface_of (state_of lent.now) interface.now.id ≡ Some interface.now }
+    requires at { twin_at twin.now.id (state_of lent.now) ≡ Some (twin_view twin.now) }
     requires kept { IsKeptTwin (twin_view twin.now) }
     requires has { component_at name.now (twin_view twin.now) ≡ Some (view part.now) }
     requires read { (of : PatchOf) × IsReadPatch of patch.now }

@@ -1,6 +1,7 @@
 //! The ask that patches a twin.
 
 ghost use Rattle.std.specs.Prelude.{◌≡◌, Some, IfOk, MatchResult};
+ghost use Rattle.std.specs.Option.{option_copied, option_map};
 ghost use Rattle.graph_asks.specs.declared.refusal.Refusal.{Refusal};
 ghost use Rattle.graph_bodies.specs.Bodies.{FailsBy};
 ghost use Rattle.graph_bodies.specs.Kept.{twin_view, IsKeptTwin};
@@ -42,15 +43,17 @@ fn unless_outer_fault(lent: &Lent<'_>, tree: &Tree) -> Result<(), BodyFailure>
     Err(BodyFailure::Refused(refusal))
 }
 
-/// The twin of an id for which a body stands that a patch made, where it may come. Fails by the first reason why it may not,
-/// or for want of memory.
+/// The twin of an id for which a body stands that a patch made, where it may come in the place of the one that there may be.
+/// Fails by the first reason why it may not, or for want of memory.
 fn judged_new_body(
     lent: &Lent<'_>,
     resolutions: &mut Resolutions,
+    there: Option<&Twin>,
     id: &Text,
     tree: &Tree,
 ) -> Result<NewTwin, BodyFailure>
     requires typed { WellTyped (state_of lent.now) }
+    requires old { option_map twin_view (option_copied there) ≡ twin_at id.now (state_of lent.now) }
     requires distinct { HasDistinctKeys (view tree.now) }
     requires right { HoldsRight (set_of (state_of lent.now)) resolutions.old }
     ensures right { HoldsRight (set_of (state_of lent.now)) resolutions.new }
@@ -64,7 +67,7 @@ fn judged_new_body(
 {
     unless_outer_fault(lent, tree)?;
     let model = model_of(lent.alloc(), tree)?;
-    judged_body(lent, resolutions, id, &model, tree)
+    judged_body(lent, resolutions, there, id, &model, tree)
 }
 
 /// The twin that a patch makes of one that is there, where it may come. Fails by the first reason why it may not, or for
@@ -77,6 +80,7 @@ fn judged_patched(
     patch: &Patch,
 ) -> Result<NewTwin, BodyFailure>
     requires typed { WellTyped (state_of lent.now) }
+    requires at { twin_at id.now (state_of lent.now) ≡ Some (twin_view twin.now) }
     requires kept { IsKeptTwin (twin_view twin.now) }
     requires read { (of : PatchOf) × IsReadPatch of patch.now }
     requires right { HoldsRight (set_of (state_of lent.now)) resolutions.old }
@@ -91,7 +95,7 @@ fn judged_patched(
 {
     let before = twin_tree(lent.alloc(), twin)?;
     let after = patched(lent.alloc(), &before, patch)?;
-    judged_new_body(lent, resolutions, id, &after)
+    judged_new_body(lent, resolutions, Some(twin), id, &after)
 }
 
 /// The twin that an ask to patch one brings. Fails by the first reason why it is refused, or for want of memory. What is lent
@@ -114,10 +118,10 @@ pub fn judged_patch(
     ensures held { IfOk result (λ new. IsHeldTwin (record { twin = new.twin; bytes = new.bytes })) }
     ensures tree { IfOk result (λ new. view new.tree ≡ twin_value (twin_view new.twin)) }
 {
-    let Some(twin) = lent.twin(id) else {
+    let there = unless_frozen(lent, id)?;
+    let Some(twin) = there else {
         let refusal = twin_not_found(lent.alloc(), id)?;
         return Err(BodyFailure::Refused(refusal));
     };
-    unless_frozen(lent, id)?;
     judged_patched(lent, resolutions, id, twin, patch)
 }

@@ -44,6 +44,6 @@ pub fn judged_put(
     ensures held { IfOk result (λ new. IsHeldTwin (record { twin = new.twin; bytes = new.bytes })) }
     ensures tree { IfOk result (λ new. view new.tree ≡ twin_value (twin_view new.twin)) }
 {
-    unless_frozen(lent, id)?;
-    judged_body(lent, resolutions, id, model, tree)
+    let there = unless_frozen(lent, id)?;
+    judged_body(lent, resolutions, there, id, model, tree)
 }

@@ -15,5 +15,5 @@ returns-clause-judged c =
     let id = c.args.id.now in
     let model = c.args.model.now in
     let v = view c.args.tree.now in
-    judged_second (λ (new : NewTwin). with_twin (twin_view new.twin) s ≡ after_put_twin s id model v) (Frozen s id) (RefusesBody s id (dtmi_text model) v (interface_of s model)) c.in_ok-unless_frozen.ensures
+    judged_second (λ (new : NewTwin). with_twin (twin_view new.twin) s ≡ after_put_twin s id model v) (Frozen s id) (RefusesBody s id (dtmi_text model) v (interface_of s model)) c.in_ok-there.ensures.frozen
     c.judged_body.result c.judged_body.ensures.judged
