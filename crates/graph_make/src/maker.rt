@@ -18,6 +18,7 @@ use query_eval::count;
 use query_parse::read;
 use query_terms::Projection;
 use std::alloc::Global;
+use std::mem::forget;
 
 /// The queries of which the counts are printed.
 const TWINS: &str = "SELECT COUNT() FROM DIGITALTWINS";
@@ -174,12 +175,16 @@ impl Maker {
 /// relationships there are, how many twins are spaces, and how many rooms have a sensor that reads more than 5.
 ///
 /// Each room has a sensor, and contains the next one. All are put by the requests of a client, each of which the machine
-/// answers in its order. Fails only for want of memory.
+/// answers in its order. Fails only for want of memory. It is meant to be the last thing that a program does: what the graph
+/// holds is left to the system, which takes it back when the program ends.
 pub fn make(alloc: Global, number: u32) -> Result<List<u8>, OutOfMemory>
     requires few { number ≤ 20000 }
     ensures { IfOk result (IsMade number) }
 {
     let mut maker = Maker::new(alloc)?;
     maker.put_all(number)?;
-    maker.counts()
+    let lines = maker.counts();
+    // To let go of each twin would take as long as a tenth of putting it.
+    forget(maker);
+    lines
 }

@@ -10,11 +10,13 @@ use crate::Replayer;
 use dt_base::{Sink, Source};
 use http_session::{SessionEnd, give_up, serve};
 use std::alloc::Global;
+use std::mem::forget;
 
 /// Answers the HTTP session that a source has, over a graph of its own that is empty at first, and writes the replies.
 ///
 /// Each request is answered in its order, as `http_session::serve` says: by its own refusal, or by the next entry of one
-/// legal history of the graph. `SessionEnd` says why the session ended. `ReadFault` and `WriteFault` come only where the
+/// legal history of the graph. `SessionEnd` says why the session ended. A replay is meant to be the last thing that a program
+/// does: what the graph holds is left to the system, which takes it back when the program ends. `ReadFault` and `WriteFault` come only where the
 /// count of the source or of the sink rose.
 pub fn replay<S: Source, K: Sink>(alloc: Global, source: &mut S, sink: &mut K) -> SessionEnd
     ensures replay { (out : List ℕ) × IsReplay (Rose (K.faults sink.old) (K.faults sink.new)) result (S.left source.old) (S.left source.new) out × Appends (K.taken sink.old) (K.taken sink.new) out }
@@ -29,5 +31,8 @@ pub fn replay<S: Source, K: Sink>(alloc: Global, source: &mut S, sink: &mut K) -
         give_up(sink);
         return SessionEnd::OutOfMemory;
     };
-    serve(alloc, &mut replayer, source, sink)
+    let end = serve(alloc, &mut replayer, source, sink);
+    // To let go of each twin would take as long as a tenth of putting it.
+    forget(replayer);
+    end
 }

@@ -10,4 +10,4 @@ pub returns : goal.returns
 returns c =
     let s = state_of c.put_all.new.self.machine in
     let leads = subst (λ (x : State). Leads x (requests c.args.number) s) c.in_ok-maker.ensures c.in_ok-put_all.ensures in
-    IfOk-weaker c.counts.result _ _ (λ text h. (s, leads, h)) c.counts.ensures
+    IfOk-weaker c.counts-lines.result _ _ (λ text h. (s, leads, h)) c.counts-lines.ensures
