@@ -93,7 +93,7 @@ pub fn answer_to_documents(
     requires few { length documents ≤ 4096 }
     ensures { IfOk result (λ answer. AnswersDocuments command documents answer.status answer.line) }
 {
-    let uploads = match declared_by(alloc, documents) {
+    let uploads = match declared_by(alloc, command, documents) {
         Ok(uploads) => uploads,
         Err(Refusal::Line(line)) => {
             return Ok(Answer {
