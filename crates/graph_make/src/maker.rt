@@ -184,7 +184,7 @@ pub fn make(alloc: Global, number: u32) -> Result<List<u8>, OutOfMemory>
     let mut maker = Maker::new(alloc)?;
     maker.put_all(number)?;
     let lines = maker.counts();
-    // To let go of each twin would take as long as a tenth of putting it.
+    // To let go of each twin would take a twenty-fifth of the instructions of putting it.
     forget(maker);
     lines
 }

@@ -32,7 +32,7 @@ pub fn replay<S: Source, K: Sink>(alloc: Global, source: &mut S, sink: &mut K) -
         return SessionEnd::OutOfMemory;
     };
     let end = serve(alloc, &mut replayer, source, sink);
-    // To let go of each twin would take as long as a tenth of putting it.
+    // To let go of each twin would take a twenty-fifth of the instructions of putting it.
     forget(replayer);
     end
 }
