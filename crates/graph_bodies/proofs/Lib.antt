@@ -7,3 +7,4 @@ pub mod Faults
 pub mod Patching
 pub mod Reading
 pub mod Printed
+pub mod Lengths

@@ -1,10 +1,10 @@
 -- Patches of sorted values.
-use Rattle.std.proofs.Common.{◌≡◌, ℕ, ◌+◌, List, [], ◌∷◌, Option, Some, None, Ok, refl, sym, ap, subst, ◌∙◌}
+use Rattle.std.proofs.Common.{◌≡◌, ℕ, ◌+◌, List, [], ◌∷◌, Option, Some, None, Ok, refl, subst}
 use Rattle.std.specs.Prelude.{All}
 use Rattle.json_tree.specs.Values.{Json, HasDistinctKeys}
 use Rattle.twin_patch.specs.Objects.{sorted_value}
 use Rattle.twin_patch.specs.Operations.{Operation, change_of, BringsDistinctKeys}
-use Rattle.twin_patch.specs.Patched.{applied, go_on, patched_from, patched}
+use Rattle.twin_patch.specs.Patched.{applied, go_on, patched_from}
 use Rattle.twin_patch.specs.Machinery.Orders.{IsInOrder}
 use Rattle.twin_patch.specs.declared.entry.PatchOf.{PatchOf}
 use Rattle.twin_patch.specs.declared.patch.Op.{Op}
@@ -23,14 +23,11 @@ patched_order at (op ∷ os) v w o h = step (applied op v) refl h (λ x p e. pat
   step (Some x) e f later = later x (applied_order op.change op.path v x o e) f
 
 module _ (os : List Operation) (v : Json) (sorted : sorted_value v ≡ v) where
-  pub patched_same : patched os v ≡ patched_from 0 os v
-  patched_same = ap (patched_from 0 os) sorted
+  pub new_sorted : (w : Json) → patched_from 0 os v ≡ Ok w → sorted_value w ≡ w
+  new_sorted w h = order_sorted w (patched_order 0 os v w (sorted_in_order v sorted) h)
 
-  pub new_sorted : (w : Json) → patched os v ≡ Ok w → sorted_value w ≡ w
-  new_sorted w h = order_sorted w (patched_order 0 os v w (sorted_in_order v sorted) (sym patched_same ∙ h))
-
-  pub new_distinct : (w : Json) → patched os v ≡ Ok w → HasDistinctKeys w
-  new_distinct w h = order_distinct w (patched_order 0 os v w (sorted_in_order v sorted) (sym patched_same ∙ h))
+  pub new_distinct : (w : Json) → patched_from 0 os v ≡ Ok w → HasDistinctKeys w
+  new_distinct w h = order_distinct w (patched_order 0 os v w (sorted_in_order v sorted) h)
 
 pub sorted_distinct : (v : Json) → sorted_value v ≡ v → HasDistinctKeys v
 sorted_distinct v sorted = order_distinct v (sorted_in_order v sorted)

@@ -13,9 +13,8 @@ use Rattle.twin_patch.specs.Objects.{sorted_value}
 use Rattle.twin_patch.proofs.Sorted.{sorted_is}
 use Rattle.twin_value.specs.Breaches.{IsBreach, IsTwinBreach, IsLinkBreach, HasNoBreach, EndsBy, twin_role_of, link_role_of}
 use Rattle.twin_value.specs.Roles.{member_role}
-use Rattle.twin_value.specs.Twins.{IsTwinOf, IsLinkOf, property_members, component_members, without_metadata}
+use Rattle.twin_value.specs.Twins.{IsLinkOf, property_members, component_members, without_metadata}
 use Rattle.twin_value.specs.declared.end.BodyEnd.{BodyEnd}
-use Rattle.twin_value.specs.declared.twin.Twin as values
 use Rattle.graph_steps.specs.Inherited.{inherited}
 use Rattle.graph_steps.specs.LinkAsks.{link_for}
 use Rattle.graph_steps.specs.States.{State, Twin, Link, set_of}
@@ -40,16 +39,18 @@ read_twin_as r id model v = record {
 abbrev twin_of : List ℕ → Identifier → Json → Json → Twin
 twin_of id model vs ps = record { id = id; model = model; values = vs; parts = ps }
 
-pub twin_as_read : (r : Resolved) (id : List ℕ) (v : Json) (t : values.Twin) (model : Identifier) → HasDistinctKeys v → IsTwinOf (twin_role_of r) id v t
-    → twin_of t.id model (view t.values) (view t.parts) ≡ read_twin_as r id model v
-twin_as_read r id v t model d is =
-    ap (λ (x : List ℕ). twin_of x model (view t.values) (view t.parts)) is.id
-    ∙ ap (λ (x : Json). twin_of id model x (view t.parts)) (sorted_is (object (property_members (twin_role_of r) v)) (view t.values) (properties_distinct r v d) is.values)
-    ∙ ap (λ (x : Json). twin_of id model (sorted_value (object (property_members (twin_role_of r) v))) x)
-    (sorted_is (object (component_members (twin_role_of r) v)) (view t.parts) (components_distinct r v d) is.parts)
+-- The two objects that are read of a body.
+abbrev AreRead : Resolved → Json → Json → Json → Type 0
+AreRead r v vs ps = IsSortedOf (object (property_members (twin_role_of r) v)) vs × IsSortedOf (object (component_members (twin_role_of r) v)) ps
 
-pub twin_kept : (r : Resolved) (id : List ℕ) (v : Json) (t : values.Twin) (model : Identifier) → HasDistinctKeys v → IsTwinOf (twin_role_of r) id v t → IsKeptTwin (twin_of t.id model (view t.values) (view t.parts))
-twin_kept r id v t model d is = subst IsKeptTwin (sym (twin_as_read r id v t model d is)) (kept_twin r v id model)
+pub twin_as_read : (r : Resolved) (id : List ℕ) (v vs ps : Json) (model : Identifier) → HasDistinctKeys v → AreRead r v vs ps → twin_of id model vs ps ≡ read_twin_as r id model v
+twin_as_read r id v vs ps model d are =
+    ap (λ (x : Json). twin_of id model x ps) (sorted_is (object (property_members (twin_role_of r) v)) vs (properties_distinct r v d) are.0)
+    ∙ ap (λ (x : Json). twin_of id model (sorted_value (object (property_members (twin_role_of r) v))) x)
+    (sorted_is (object (component_members (twin_role_of r) v)) ps (components_distinct r v d) are.1)
+
+pub twin_kept : (r : Resolved) (id : List ℕ) (v vs ps : Json) (model : Identifier) → HasDistinctKeys v → AreRead r v vs ps → IsKeptTwin (twin_of id model vs ps)
+twin_kept r id v vs ps model d are = subst IsKeptTwin (sym (twin_as_read r id v vs ps model d are)) (kept_twin r v id model)
 
 module _ (s : State) (i : Interface) (r : Resolved) (is : IsModelIn s i r) where
   as_twin_for : (id : List ℕ) (v : Json) → read_twin_as r id i.id v ≡ twin_for s id i v
@@ -58,8 +59,8 @@ module _ (s : State) (i : Interface) (r : Resolved) (is : IsModelIn s i r) where
       ∙ ap (λ (ms : Members Number). twin_of id i.id (sorted_value (object (property_members (twin_role_of (inherited (set_of s) i)) v))) (sorted_value (object ms)))
       (components_alike (set_of s) is.rules i is.there r is.resolved v)
 
-  pub twin_is_for : (id : List ℕ) (v : Json) (t : values.Twin) → HasDistinctKeys v → IsTwinOf (twin_role_of r) id v t → twin_of t.id i.id (view t.values) (view t.parts) ≡ twin_for s id i v
-  twin_is_for id v t d of = twin_as_read r id v t i.id d of ∙ as_twin_for id v
+  pub twin_is_for : (id : List ℕ) (v vs ps : Json) → HasDistinctKeys v → AreRead r v vs ps → twin_of id i.id vs ps ≡ twin_for s id i v
+  twin_is_for id v vs ps d are = twin_as_read r id v vs ps i.id d are ∙ as_twin_for id v
 
   pub twin_clear : (v : Json) → HasNoBreach (IsTwinBreach r v) → HasNoBreach (IsTwinBreach (inherited (set_of s) i) v)
   twin_clear v = clear_moves (IsTwinBreach r v) (IsTwinBreach (inherited (set_of s) i) v) (twin_alike (set_of s) is.rules i is.there r is.resolved v)

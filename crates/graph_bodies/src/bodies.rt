@@ -11,23 +11,24 @@ ghost use Rattle.graph_bodies.specs.Bodies.{IsModelIn, FailsBy};
 ghost use Rattle.graph_bodies.specs.Kept.{twin_view, IsKeptTwin};
 
 use crate::failure::{BodyFailure, failure_of};
-use dt_base::OutOfMemory;
+use dt_base::{OutOfMemory, Text};
 use dtdl_terms::{Interface, Resolved};
 use dtmi_name::Dtmi;
 use json_tree::Tree;
 use std::alloc::Global;
-use twin_value::{Twin, read_twin};
+use twin_value::{Twin, read_values};
 
-/// The same twin of this model.
-fn of_model(alloc: Global, twin: Twin, model: &Dtmi) -> Result<Twin, OutOfMemory>
-    ensures { IfOk result (λ t. t ≡ record { id = twin.id; model = model.now; values = twin.values; parts = twin.parts }) }
+/// The twin of an identifier and a model with these values and components.
+fn twin_with(
+    alloc: Global,
+    id: &str,
+    model: &Dtmi,
+    values: Tree,
+    parts: Tree,
+) -> Result<Twin, OutOfMemory>
+    ensures { IfOk result (λ t. t ≡ record { id = id.now; model = model.now; values = values; parts = parts }) }
 {
-    let Twin {
-        id,
-        model: _named,
-        values,
-        parts,
-    } = twin;
+    let id = Text::from_str(alloc, id)?;
     let model = model.copy(alloc)?;
     Ok(Twin {
         id,
@@ -52,9 +53,9 @@ pub fn twin_from_body(
         (FailsBy (BodyFault (IsTwinBreach (inherited (set_of s) interface.now) (view tree.now)) (view tree.now))) }
     ensures kept { IfOk result (λ twin. IsKeptTwin (twin_view twin)) }
 {
-    match read_twin(alloc, id, tree, resolved) {
-        Ok(twin) => {
-            let twin = of_model(alloc, twin, &interface.id)?;
+    match read_values(alloc, tree, resolved) {
+        Ok((values, parts)) => {
+            let twin = twin_with(alloc, id, &interface.id, values, parts)?;
             Ok(twin)
         }
         Err(end) => Err(failure_of(alloc, tree, end)),

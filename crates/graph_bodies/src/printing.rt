@@ -1,14 +1,16 @@
 //! What is printed of twins, relationships and components.
 
-ghost use Rattle.std.specs.Prelude.{◌≡◌, IfOk, length};
+ghost use Rattle.std.specs.Prelude.{◌≡◌, ◌<◌, ◌≤◌, length, IfOk, MatchOption};
 ghost use Rattle.json_tree.specs.View.{view};
 ghost use Rattle.graph_steps.specs.States.{twin_value, link_value, part_value, twin_text, link_text};
 ghost use Rattle.graph_bodies.specs.Kept.{twin_view, link_view, IsKeptTwin, IsKeptLink, IsKeptPart};
 
 use dt_base::OutOfMemory;
-use json_tree::{Tree, print};
+use json_tree::Tree;
 use std::alloc::Global;
-use twin_value::{Relationship, Twin, print_part, print_rel, print_twin};
+use twin_value::{
+    Relationship, Twin, left_after_link, left_after_twin, print_part, print_rel, print_twin,
+};
 
 /// The tree of a twin, as it is printed. Fails only for want of memory.
 pub fn twin_tree(alloc: Global, t: &Twin) -> Result<Tree, OutOfMemory>
@@ -34,22 +36,25 @@ pub fn part_tree(alloc: Global, values: &Tree) -> Result<Tree, OutOfMemory>
     print_part(alloc, values)
 }
 
-/// How many bytes the text of a twin has. Fails only for want of memory.
-pub fn twin_bytes(alloc: Global, t: &Twin) -> Result<usize, OutOfMemory>
+/// How many bytes the text of a twin has, where it has no more than so many; None exactly where it has more. Takes no memory.
+pub fn twin_bytes(most: u64, t: &Twin) -> Option<u64>
     requires { IsKeptTwin (twin_view t.now) }
-    ensures { IfOk result (λ bytes. bytes ≡ length (twin_text (twin_view t.now))) }
+    ensures { MatchOption result (most < length (twin_text (twin_view t.now))) (λ bytes. (bytes ≡ length (twin_text (twin_view t.now))) × (bytes ≤ most)) }
 {
-    let tree = twin_tree(alloc, t)?;
-    let text = print(alloc, &tree)?;
-    Ok(text.as_str().len())
+    match left_after_twin(most, t) {
+        Some(rest) => Some(most - rest),
+        None => None,
+    }
 }
 
-/// How many bytes the text of a relationship has. Fails only for want of memory.
-pub fn link_bytes(alloc: Global, r: &Relationship) -> Result<usize, OutOfMemory>
+/// How many bytes the text of a relationship has, where it has no more than so many; None exactly where it has more. Takes no
+/// memory.
+pub fn link_bytes(most: u64, r: &Relationship) -> Option<u64>
     requires { IsKeptLink (link_view r.now) }
-    ensures { IfOk result (λ bytes. bytes ≡ length (link_text (link_view r.now))) }
+    ensures { MatchOption result (most < length (link_text (link_view r.now))) (λ bytes. (bytes ≡ length (link_text (link_view r.now))) × (bytes ≤ most)) }
 {
-    let tree = link_tree(alloc, r)?;
-    let text = print(alloc, &tree)?;
-    Ok(text.as_str().len())
+    match left_after_link(most, r) {
+        Some(rest) => Some(most - rest),
+        None => None,
+    }
 }

@@ -43,7 +43,7 @@ all_plain (element entry entries) os (o, rest, e, is, more) =
     subst (AllByRecursion IsPlain) (sym e) (λ first keys path. is.3 ((first, keys, path), λ move. other_of move.0), all_plain entries rest more)
 
 -- ---- asks that are not refused
-changed_typed : (s : State) (ask : Ask) → WellTyped s → IsSound ask → ((r : Refusal) → Refuses s ask r → ⊥) → WellTyped (changed s ask)
+pub changed_typed : (s : State) (ask : Ask) → WellTyped s → IsSound ask → ((r : Refusal) → Refuses s ask r → ⊥) → WellTyped (changed s ask)
 changed_typed s (asks.PutModels models) w sound free = models_put s models w (all_interfaces models sound.each) free
 changed_typed s (asks.GetModel id) w sound free = w
 changed_typed s asks.ListModels w sound free = w

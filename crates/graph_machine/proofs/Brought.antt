@@ -22,7 +22,7 @@ use Rattle.graph_bodies.specs.declared.failure.BodyFailure.{BodyFailure}
 use Rattle.graph_bodies.specs.declared.failure.BodyFailure.TheVariants as failures
 use Rattle.graph_laws.proofs.Edges.{edge-with}
 use Rattle.graph_laws.proofs.Twins.{twin_own}
-use Rattle.graph_laws.proofs.Typed.{keeps_typed}
+use Rattle.graph_laws.proofs.Typed.{changed_typed, keeps_typed}
 use Rattle.graph_steps.specs.LinkAsks.{link_at, with_link}
 use Rattle.graph_steps.specs.Soundness.{IsSound}
 use Rattle.graph_steps.specs.States.{State, twin_at, twin_value, link_value, with_twin}
@@ -33,12 +33,12 @@ use Rattle.graph_held.specs.declared.stored.Stored.{Stored}
 use Rattle.graph_machine.specs.Machinery.Brought.{BringsTwin, BringsLink}
 
 -- ---- what a judge answers
-pub twin_brought : {N : Type 0} (twin : N → Twin) (bytes : N → ℕ) (tree : N → Tree) (s : State) (ask : Ask) (id : List ℕ) (res : Result N BodyFailure)
+pub twin_brought : {N : Type 0} (twin : N → Twin) (bytes : N → ℕ) (s : State) (ask : Ask) (id : List ℕ) (res : Result N BodyFailure)
     → MatchResult res (λ n. ((r : Refusal) → Refuses s ask r → ⊥) × (with_twin (twin_view (twin n)) s ≡ changed s ask)) (FailsBy (Refuses s ask))
-    → IfOk res (λ n. (twin n).id ≡ id) → IfOk res (λ n. IsHeldTwin (record { twin = twin n; bytes = bytes n })) → IfOk res (λ n. view (tree n) ≡ twin_value (twin_view (twin n)))
-    → MatchResult res (λ n. BringsTwin s ask id (twin n) (bytes n) (tree n)) (FailsBy (Refuses s ask))
-twin_brought twin bytes tree s ask id (Ok n) judged own held printed = record { free = judged.0; put = judged.1; own = own; held = held; printed = printed }
-twin_brought twin bytes tree s ask id (Err e) judged own held printed = judged
+    → IfOk res (λ n. (twin n).id ≡ id) → IfOk res (λ n. IsHeldTwin (record { twin = twin n; bytes = bytes n }))
+    → MatchResult res (λ n. BringsTwin s ask id (twin n) (bytes n)) (FailsBy (Refuses s ask))
+twin_brought twin bytes s ask id (Ok n) judged own held = record { free = judged.0; put = judged.1; own = own; held = held }
+twin_brought twin bytes s ask id (Err e) judged own held = judged
 
 pub link_brought : {N : Type 0} (edge : N → Edge Stored) (tree : N → Tree) (s : State) (ask : Ask) (source id : List ℕ) (res : Result N BodyFailure)
     → MatchResult res (λ n. ((r : Refusal) → Refuses s ask r → ⊥) × (with_link (link_of (edge n)) s ≡ changed s ask)) (FailsBy (Refuses s ask))
@@ -65,25 +65,25 @@ module _ (s : State) (ask : Ask) (failure : BodyFailure) (fails : FailsBy (Refus
   failed_follows now same (Err e) h = tt
 
 -- ---- twins
-module _ (s : State) (id : List ℕ) (twin : Twin) (bytes : ℕ) (tree : Tree) where
-  pub twin_put : (model : Identifier) (given : Tree) → BringsTwin s (asks.PutTwin id model given) id twin bytes tree → Allows s (asks.PutTwin id model given) (replies.Body tree)
-  twin_put model given b =
+module _ (s : State) (id : List ℕ) (twin : Twin) (bytes : ℕ) where
+  pub twin_put : (model : Identifier) (given tree : Tree) → view tree ≡ twin_value (twin_view twin) → BringsTwin s (asks.PutTwin id model given) id twin bytes → Allows s (asks.PutTwin id model given) (replies.Body tree)
+  twin_put model given tree printed b =
       let at : twin_at id (with_twin (twin_view twin) s) ≡ Some (twin_view twin) = ap (λ k. twin_at k (with_twin (twin_view twin) s)) (sym b.own) ∙ twin_own (twin_view twin) s in
-      inr (b.free, (twin_view twin, subst (λ (x : State). twin_at id x ≡ Some (twin_view twin)) b.put at, ap body b.printed))
+      inr (b.free, (twin_view twin, subst (λ (x : State). twin_at id x ≡ Some (twin_view twin)) b.put at, ap body printed))
 
-  pub put_typed : (model : Identifier) (given : Tree) → WellTyped s → IsSound (asks.PutTwin id model given) → BringsTwin s (asks.PutTwin id model given) id twin bytes tree → WellTyped (with_twin (twin_view twin) s)
-  put_typed model given w sound b = subst WellTyped (sym b.put) (keeps_typed s (asks.PutTwin id model given) (replies.Body tree) w sound (twin_put model given b))
+  pub put_typed : (model : Identifier) (given : Tree) → WellTyped s → IsSound (asks.PutTwin id model given) → BringsTwin s (asks.PutTwin id model given) id twin bytes → WellTyped (with_twin (twin_view twin) s)
+  put_typed model given w sound b = subst WellTyped (sym b.put) (changed_typed s (asks.PutTwin id model given) w sound b.free)
 
-  pub twin_patched : (patch : Patch) → BringsTwin s (asks.PatchTwin id patch) id twin bytes tree → Allows s (asks.PatchTwin id patch) replies.Done
+  pub twin_patched : (patch : Patch) → BringsTwin s (asks.PatchTwin id patch) id twin bytes → Allows s (asks.PatchTwin id patch) replies.Done
   twin_patched patch b = inr (b.free, refl)
 
-  pub patched_typed : (patch : Patch) → WellTyped s → IsSound (asks.PatchTwin id patch) → BringsTwin s (asks.PatchTwin id patch) id twin bytes tree → WellTyped (with_twin (twin_view twin) s)
+  pub patched_typed : (patch : Patch) → WellTyped s → IsSound (asks.PatchTwin id patch) → BringsTwin s (asks.PatchTwin id patch) id twin bytes → WellTyped (with_twin (twin_view twin) s)
   patched_typed patch w sound b = subst WellTyped (sym b.put) (keeps_typed s (asks.PatchTwin id patch) replies.Done w sound (twin_patched patch b))
 
-  pub part_patched : (name : List ℕ) (patch : Patch) → BringsTwin s (asks.PatchPart id name patch) id twin bytes tree → Allows s (asks.PatchPart id name patch) replies.Done
+  pub part_patched : (name : List ℕ) (patch : Patch) → BringsTwin s (asks.PatchPart id name patch) id twin bytes → Allows s (asks.PatchPart id name patch) replies.Done
   part_patched name patch b = inr (b.free, refl)
 
-  pub part_typed : (name : List ℕ) (patch : Patch) → WellTyped s → IsSound (asks.PatchPart id name patch) → BringsTwin s (asks.PatchPart id name patch) id twin bytes tree → WellTyped (with_twin (twin_view twin) s)
+  pub part_typed : (name : List ℕ) (patch : Patch) → WellTyped s → IsSound (asks.PatchPart id name patch) → BringsTwin s (asks.PatchPart id name patch) id twin bytes → WellTyped (with_twin (twin_view twin) s)
   part_typed name patch w sound b = subst WellTyped (sym b.put) (keeps_typed s (asks.PatchPart id name patch) replies.Done w sound (part_patched name patch b))
 
 -- ---- relationships

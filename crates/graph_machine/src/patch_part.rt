@@ -36,11 +36,7 @@ impl Machine {
     {
         match self.part_judged(id, name, patch) {
             Ok(new) => {
-                let NewTwin {
-                    twin,
-                    bytes,
-                    tree: _tree,
-                } = new;
+                let NewTwin { twin, bytes } = new;
                 self.enter_twin(twin, bytes)?;
                 Ok(Reply::Done)
             }
@@ -51,7 +47,7 @@ impl Machine {
     /// Judges a twin whose component is to be patched. What contracts see stays.
     fn part_judged(&mut self, id: &Text, name: &Text, patch: &Patch) -> Result<NewTwin, BodyFailure>
         requires { IsSound (Ask.PatchPart id.now name.now patch.now) }
-        ensures judged { MatchResult result (λ new. BringsTwin (state_of self.old) (Ask.PatchPart id.now name.now patch.now) id.now new.twin new.bytes new.tree) (FailsBy (Refuses (state_of self.old) (Ask.PatchPart id.now name.now patch.now))) }
+        ensures judged { MatchResult result (λ new. BringsTwin (state_of self.old) (Ask.PatchPart id.now name.now patch.now) id.now new.twin new.bytes) (FailsBy (Refuses (state_of self.old) (Ask.PatchPart id.now name.now patch.now))) }
         ensures typed { IfOk result (λ new. WellTyped (with_twin (twin_view new.twin) (state_of self.old))) }
         ensures same { self.new ≡ self.old }
     {

@@ -31,11 +31,7 @@ impl Machine {
     {
         match self.patch_judged(id, patch) {
             Ok(new) => {
-                let NewTwin {
-                    twin,
-                    bytes,
-                    tree: _tree,
-                } = new;
+                let NewTwin { twin, bytes } = new;
                 self.enter_twin(twin, bytes)?;
                 Ok(Reply::Done)
             }
@@ -46,7 +42,7 @@ impl Machine {
     /// Judges a twin that is to be patched. What contracts see stays.
     fn patch_judged(&mut self, id: &Text, patch: &Patch) -> Result<NewTwin, BodyFailure>
         requires { IsSound (Ask.PatchTwin id.now patch.now) }
-        ensures judged { MatchResult result (λ new. BringsTwin (state_of self.old) (Ask.PatchTwin id.now patch.now) id.now new.twin new.bytes new.tree) (FailsBy (Refuses (state_of self.old) (Ask.PatchTwin id.now patch.now))) }
+        ensures judged { MatchResult result (λ new. BringsTwin (state_of self.old) (Ask.PatchTwin id.now patch.now) id.now new.twin new.bytes) (FailsBy (Refuses (state_of self.old) (Ask.PatchTwin id.now patch.now))) }
         ensures typed { IfOk result (λ new. WellTyped (with_twin (twin_view new.twin) (state_of self.old))) }
         ensures same { self.new ≡ self.old }
     {

@@ -15,7 +15,7 @@ use crate::machine::Machine;
 use dt_base::{OutOfMemory, Text};
 use dtmi_name::Dtmi;
 use graph_asks::{Ask, Reply};
-use graph_bodies::BodyFailure;
+use graph_bodies::{BodyFailure, twin_tree};
 use graph_held::Lent;
 use json_tree::Tree;
 use twin_judges::{NewTwin, judged_put};
@@ -33,7 +33,9 @@ impl Machine {
     {
         match self.twin_judged(id, model, body) {
             Ok(new) => {
-                let NewTwin { twin, bytes, tree } = new;
+                let NewTwin { twin, bytes } = new;
+                // Made before the twin comes, so that want of memory changes nothing.
+                let tree = twin_tree(self.alloc, &twin)?;
                 self.enter_twin(twin, bytes)?;
                 Ok(Reply::Body(tree))
             }
@@ -44,7 +46,7 @@ impl Machine {
     /// Judges a twin that is to come. What contracts see stays.
     fn twin_judged(&mut self, id: &Text, model: &Dtmi, body: &Tree) -> Result<NewTwin, BodyFailure>
         requires { IsSound (Ask.PutTwin id.now model.now body.now) }
-        ensures judged { MatchResult result (λ new. BringsTwin (state_of self.old) (Ask.PutTwin id.now model.now body.now) id.now new.twin new.bytes new.tree) (FailsBy (Refuses (state_of self.old) (Ask.PutTwin id.now model.now body.now))) }
+        ensures judged { MatchResult result (λ new. BringsTwin (state_of self.old) (Ask.PutTwin id.now model.now body.now) id.now new.twin new.bytes) (FailsBy (Refuses (state_of self.old) (Ask.PutTwin id.now model.now body.now))) }
         ensures typed { IfOk result (λ new. WellTyped (with_twin (twin_view new.twin) (state_of self.old))) }
         ensures same { self.new ≡ self.old }
     {

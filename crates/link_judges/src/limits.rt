@@ -16,7 +16,7 @@ use graph_held::Lent;
 use twin_value::Relationship;
 
 /// The most bytes of a relationship's text (this project's own).
-const MOST_LINK_BYTES: u64 = 4_096;
+pub(crate) const MOST_LINK_BYTES: u64 = 4_096;
 
 /// The most relationships that there are (this project's own).
 const MOST_LINKS: u64 = 400_000;
@@ -59,17 +59,15 @@ fn bytes_with(lent: &Lent<'_>, link: &Relationship, bytes: u64) -> u64
     all - bytes_at(lent, &link.source, &link.id)
 }
 
-/// The first limit that is passed with this relationship, whose text has so many bytes. Takes no memory.
+/// The first limit of the graph that is passed with this relationship, whose text has so many bytes. Takes no memory.
 pub(crate) fn limit_passed(lent: &Lent<'_>, link: &Relationship, bytes: u64) -> Option<Limit>
     requires typed { WellTyped (state_of lent.now) }
     requires bytes { bytes ≡ length (link_text (link_view link.now)) }
+    requires short { bytes ≤ 4096 }
     ensures { MatchOption result
         (Unrefused (LinkFull (with_link (link_view link.now) (state_of lent.now)) (link_view link.now)))
         (λ limit. LinkFull (with_link (link_view link.now) (state_of lent.now)) (link_view link.now) (Refusal.Full limit)) }
 {
-    if bytes > MOST_LINK_BYTES {
-        return Some(Limit::RelationshipBytes);
-    }
     if links_with(lent, link) > MOST_LINKS {
         return Some(Limit::Relationships);
     }

@@ -1,24 +1,24 @@
 //! Relationships that come.
 
-ghost use Rattle.std.specs.Prelude.{◌≡◌, IfOk, MatchResult, length};
+ghost use Rattle.std.specs.Prelude.{◌≡◌, IfOk, MatchResult};
+ghost use Rattle.graph_asks.specs.declared.refusal.Refusal.TheVariants as refusals;
 ghost use Rattle.graph_bodies.specs.Bodies.{FailsBy};
 ghost use Rattle.graph_bodies.specs.Kept.{link_view, IsKeptLink};
+ghost use Rattle.graph_bodies.specs.declared.failure.BodyFailure.TheVariants as failures;
 ghost use Rattle.graph_held.specs.Held.{state_of, link_of, IsHeldLink};
 ghost use Rattle.graph_steps.specs.LinkAsks.{LinkFull, with_link};
 ghost use Rattle.graph_steps.specs.States.{link_value};
 ghost use Rattle.graph_steps.specs.Typed.{WellTyped};
-ghost use Rattle.json_tree.specs.Printing.{printed};
 ghost use Rattle.json_tree.specs.View.{view};
 ghost use Rattle.graph_held.specs.Judged.{Unrefused};
 
-use crate::limits::limit_passed;
-use dt_base::OutOfMemory;
+use crate::limits::{MOST_LINK_BYTES, limit_passed};
+use dtdl_terms::Limit;
 use graph_asks::Refusal;
-use graph_bodies::{BodyFailure, link_tree};
+use graph_bodies::{BodyFailure, link_bytes, link_tree};
 use graph_held::{Lent, Stored};
-use json_tree::{Tree, print};
+use json_tree::Tree;
 use rel_graph::Edge;
-use std::alloc::Global;
 use twin_value::Relationship;
 
 /// A relationship that comes, with the tree that is printed of it.
@@ -28,12 +28,11 @@ pub struct NewLink {
     pub tree: Tree,
 }
 
-/// How many bytes the text of a tree has. Fails only for want of memory.
-fn text_bytes(alloc: Global, tree: &Tree) -> Result<u64, OutOfMemory>
-    ensures { IfOk result (λ bytes. bytes ≡ length (printed (view tree.now))) }
+/// The refusal of a relationship with which a limit would be passed.
+fn full(limit: Limit) -> BodyFailure
+    ensures { result ≡ failures.Refused (refusals.Full limit) }
 {
-    let text = print(alloc, tree)?;
-    Ok(text.as_str().len() as u64)
+    BodyFailure::Refused(Refusal::Full { limit })
 }
 
 /// The relationship with the size of its text.
@@ -71,13 +70,17 @@ pub(crate) fn admitted(lent: &Lent<'_>, link: Relationship) -> Result<NewLink, B
     ensures held { IfOk result (λ new. IsHeldLink new.edge) }
     ensures tree { IfOk result (λ new. view new.tree ≡ link_value (link_of new.edge)) }
 {
-    let tree = link_tree(lent.alloc(), &link)?;
-    let bytes = text_bytes(lent.alloc(), &tree)?;
+    let Some(bytes) = link_bytes(MOST_LINK_BYTES, &link) else {
+        return Err(full(Limit::RelationshipBytes));
+    };
     match limit_passed(lent, &link, bytes) {
-        Some(limit) => Err(BodyFailure::Refused(Refusal::Full { limit })),
-        None => Ok(NewLink {
-            edge: sized(link, bytes),
-            tree,
-        }),
+        Some(limit) => Err(full(limit)),
+        None => {
+            let tree = link_tree(lent.alloc(), &link)?;
+            Ok(NewLink {
+                edge: sized(link, bytes),
+                tree,
+            })
+        }
     }
 }

@@ -86,7 +86,7 @@ fn patched_link(
     ensures tree { IfOk result (λ new. view new.tree ≡ link_value (link_of new.edge)) }
 {
     let tree = stored_tree(lent.alloc(), link)?;
-    match patched(lent.alloc(), &tree, patch) {
+    match patched(lent.alloc(), tree, patch) {
         Ok(new) => judged_again(lent, resolutions, interface, link, &new),
         Err(failure) => Err(failure),
     }

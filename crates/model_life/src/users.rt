@@ -17,9 +17,8 @@ use crate::records::Records;
 use dt_base::OutOfMemory;
 use dtdl_terms::{Content, ContentKind, Interface, ModelSet};
 use dtmi_name::Dtmi;
-use ordered_table::Table;
+use ordered_table::{Entries, Table};
 use std::alloc::Global;
-use std::collections::btree_map::Range;
 
 /// Under the text of the identifier that is used, the identifiers of the models that use it.
 pub type Users = Table<Dtmi, ()>;
@@ -189,7 +188,7 @@ pub fn unlink_all(users: &mut Users, set: &ModelSet, records: &Records, ids: &[D
 }
 
 /// The first of some users.
-pub fn first_of<'a>(users: Option<Range<'a, Dtmi, ()>>) -> Option<&'a Dtmi>
+pub fn first_of<'a>(users: Option<Entries<'a, Dtmi, ()>>) -> Option<&'a Dtmi>
     ensures { option_copied result ≡ slice_get (keys_of (unwrap_or users.entry [])) 0 }
 {
     let Some(mut users) = users else {

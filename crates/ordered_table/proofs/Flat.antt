@@ -72,7 +72,7 @@ module _ {K V : Type 0} (R : K → K → Ordering) where
       ] refl
 
   -- ---- putting in
-  insert_first : (s : List ℕ) (k : K) (v : V) (rs : List (List ℕ × List (K × V))) → AllByRecursion (λ q. C s q ≡ Less) (keys_of rs) → insert_entry (pair_cmp R) (flat rs) (s, k) v ≡ ((s, k), v) ∷ flat rs
+  pub insert_first : (s : List ℕ) (k : K) (v : V) (rs : List (List ℕ × List (K × V))) → AllByRecursion (λ q. C s q ≡ Less) (keys_of rs) → insert_entry (pair_cmp R) (flat rs) (s, k) v ≡ ((s, k), v) ∷ flat rs
   insert_first s k v [] h = refl
   insert_first s k v ((q, []) ∷ rs) h = insert_first s k v rs h.1
   insert_first s k v ((q, e ∷ es) ∷ rs) h =
@@ -90,7 +90,7 @@ module _ {K V : Type 0} (R : K → K → Ordering) where
         | Greater ↦ ap (λ ys. ((s, e.0), e.1) ∷ ys) (insert_here s k v es rs h)
       ] ∙ ap (λ o. match_ordering o (((s, k), v) ∷ ((s, e.0), e.1) ∷ xs) (((s, e.0), v) ∷ xs) (((s, e.0), e.1) ∷ insert_entry (pair_cmp R) xs (s, k) v)) (sym (then_tied (C s s) (R k e.0) (tied_itself c_total s)))
 
-  insert_past : (at q : List ℕ) (k : K) (v : V) (row : List (K × V)) (xs : List ((List ℕ × K) × V)) → C at q ≡ Greater → insert_entry (pair_cmp R) (under q row ++ xs) (at, k) v ≡ under q row ++ insert_entry (pair_cmp R) xs (at, k) v
+  pub insert_past : (at q : List ℕ) (k : K) (v : V) (row : List (K × V)) (xs : List ((List ℕ × K) × V)) → C at q ≡ Greater → insert_entry (pair_cmp R) (under q row ++ xs) (at, k) v ≡ under q row ++ insert_entry (pair_cmp R) xs (at, k) v
   insert_past at q k v [] xs h = refl
   insert_past at q k v (e ∷ es) xs h =
       let ys = under q es ++ xs in
@@ -117,16 +117,6 @@ module _ {K V : Type 0} (R : K → K → Ordering) where
       ] refl h
 
   -- a row without entries is as none
-  pub open-flat : (at : List ℕ) (rs : List (List ℕ × List (K × V))) → lookup (is_at (C at)) rs ≡ None → flat (insert_entry C rs at []) ≡ flat rs
-  open-flat at [] h = refl
-  open-flat at (r ∷ rs) h =
-      elim (C at r.0) as (λ o. cond (is_eq o) (Some r.1) (lookup (is_at (C at)) rs) ≡ None
-      → flat (match_ordering o ((at, []) ∷ r ∷ rs) ((r.0, []) ∷ rs) (r ∷ insert_entry C rs at [])) ≡ under r.0 r.1 ++ flat rs) [
-        | Less ↦ λ i. refl
-        | Equal ↦ λ i. absurd (none-some r.1 (sym i))
-        | Greater ↦ λ i. ap (λ xs. under r.0 r.1 ++ xs) (open-flat at rs i)
-      ] h
-
   pub close-flat : (at : List ℕ) (rs : List (List ℕ × List (K × V))) → lookup (is_at (C at)) rs ≡ Some [] → flat (remove_entry (is_at (C at)) rs) ≡ flat rs
   close-flat at [] h = absurd (none-some [] h)
   close-flat at (r ∷ rs) h =

@@ -26,6 +26,10 @@ pub nil_sorted : {K : Type 0} (c : K → K → Ordering) → IsStrictlySortedBy 
 unfolding IsStrictlySortedBy
 nil_sorted c = tt
 
+-- an entry with nothing after it is in order
+pub one_sorted : {K V : Type 0} (c : K → K → Ordering) (e : K × V) (es : List (K × V)) → es ≡ [] → IsStrictlySortedBy c (keys_of (e ∷ es))
+one_sorted c e es h = subst (λ xs. IsStrictlySortedBy c (keys_of (e ∷ xs))) (sym h) (cons_sorted c e.0 [] tt (nil_sorted c))
+
 module _ {K V : Type 0} (R : K → K → Ordering) where
   below_under : (s q : List ℕ) (k : K) (row : List (K × V)) (xs : List ((List ℕ × K) × V)) → C s q ≡ Less
       → AllByRecursion (λ y. pair_cmp R (s, k) y ≡ Less) (keys_of xs) → AllByRecursion (λ y. pair_cmp R (s, k) y ≡ Less) (keys_of (under q row ++ xs))

@@ -2,7 +2,9 @@
 //! they are, without copying them into one key.
 #![tactic(auto)]
 
+mod entries;
 mod row;
 mod table;
 
+pub use entries::Entries;
 pub use table::Table;

@@ -1,6 +1,6 @@
 //! Entries in the order of a text and a key.
 
-ghost use Rattle.std.specs.Prelude.{◌≡◌, ◌↔◌, ℕ, [], true, Some, unwrap_or, IfOk, OnOk, OnErr, IfErr, IsTrue, MatchResult};
+ghost use Rattle.std.specs.Prelude.{◌≡◌, [], ◌∷◌, true, Some, None, unwrap_or, IfOk, OnOk, OnErr, IfErr};
 ghost use Rattle.std.specs.Option.{option_copied, option_map};
 ghost use Rattle.std.specs.Ordering.{nat_cmp, is_lt};
 ghost use Rattle.std.specs.Cmp.Lexicographic.{slice_cmp};
@@ -10,6 +10,7 @@ ghost use Rattle.std.specs.List.Sorted.{IsStrictlySortedBy};
 ghost use Rattle.std.specs.BTreeMap.{get, is_at, insert_entry, IsOrdered};
 ghost use Rattle.ordered_table.specs.Rows.{pair_cmp, row_of, next_in, flat};
 
+use crate::entries::Entries;
 use crate::row::Row;
 use dt_base::{OutOfMemory, Text};
 use std::alloc::{AllocFailed, Global};
@@ -58,7 +59,7 @@ impl<K: Ord, V> Table<K, V> {
     }
 
     /// The entries under a text, in the order of their keys; `None` is as no entries. Takes no memory.
-    pub fn row(&self, at: &Text) -> Option<Range<'_, K, V>>
+    pub fn row(&self, at: &Text) -> Option<Entries<'_, K, V>>
         ensures rest { unwrap_or result [] ≡ row_of at.now self.now }
         ensures ordered { IsStrictlySortedBy (pair_cmp K.cmp) (keys_of self.now) }
     {
@@ -69,7 +70,7 @@ impl<K: Ord, V> Table<K, V> {
     }
 
     /// The entries under a text whose keys are past a key, in the order of their keys. Takes no memory.
-    pub fn row_after(&self, at: &Text, key: &K) -> Option<Range<'_, K, V>>
+    pub fn row_after(&self, at: &Text, key: &K) -> Option<Entries<'_, K, V>>
         ensures rest { unwrap_or result [] ≡ filter (λ e. is_lt (K.cmp key.now e.0)) (row_of at.now self.now) }
         ensures ordered { IsStrictlySortedBy (pair_cmp K.cmp) (keys_of self.now) }
     {
@@ -147,61 +148,37 @@ fn give_up<K: Ord + Drop, V: Drop>(rows: &mut BTreeMap<Text, Row<K, V>>, at: &Te
     let _row = rows.remove(at);
 }
 
+/// Puts a row of one entry under a text that has no row. `Err` is want of memory: it hands the entry back, and nothing changes.
+fn open<K: Ord + Drop, V: Drop>(
+    rows: &mut BTreeMap<Text, Row<K, V>>,
+    alloc: Global,
+    at: &Text,
+    key: K,
+    value: V,
+) -> Result<Option<V>, AllocFailed<(K, V)>>
+    ensures none { IfOk result (λ old. old ≡ None) }
+    ensures ok { OnOk result (rows.new.entries ≡ insert_entry (slice_cmp nat_cmp) rows.old.entries at.now ((key, value) ∷ [])) }
+    ensures back { IfErr result (λ failed. failed.value ≡ (key, value)) }
+    ensures err { OnErr result (rows.new.entries ≡ rows.old.entries) }
+    ensures ordered { IsOrdered (slice_cmp nat_cmp) rows.old → IsOrdered (slice_cmp nat_cmp) rows.new }
+{
+    let Ok(text) = at.copy(alloc) else {
+        return Err(AllocFailed {
+            value: (key, value),
+        });
+    };
+    match rows.insert(text, Row::single(alloc, key, value)) {
+        Ok(_row) => Ok(None),
+        Err(failed) => {
+            let (_text, row) = failed.value;
+            Err(AllocFailed {
+                value: row.into_first().unwrap(),
+            })
+        }
+    }
+}
+
 impl<K: Ord + Drop, V: Drop> Table<K, V> {
-    /// Makes a row without entries where there is none.
-    fn open(&mut self, at: &Text) -> Result<(), OutOfMemory>
-        ensures same { self.new ≡ self.old }
-        ensures ordered { IsStrictlySortedBy (pair_cmp K.cmp) (keys_of self.old) }
-    {
-        if self.rows.contains_key(at) {
-            return Ok(());
-        }
-        let text = at.copy(self.alloc)?;
-        self.rows.insert(text, Row::new(self.alloc))?;
-        Ok(())
-    }
-
-    /// Puts a value into the row under a text; where there is none, `Err` gives the key and the value back.
-    fn put(
-        &mut self,
-        at: &Text,
-        key: K,
-        value: V,
-    ) -> Result<Result<Option<V>, AllocFailed<(K, V)>>, (K, V)>
-        ensures old { IfOk result (λ put. IfOk put (λ old. old ≡ lookup (is_at (pair_cmp K.cmp (at.now, key))) self.old)) }
-        ensures ok { IfOk result (λ put. OnOk put (self.new ≡ insert_entry (pair_cmp K.cmp) self.old (at.now, key) value)) }
-        ensures back { MatchResult result (λ put. IfErr put (λ failed. failed.value ≡ (key, value))) (λ back. back ≡ (key, value)) }
-        ensures err { MatchResult result (λ put. OnErr put (self.new ≡ self.old)) (λ _. self.new ≡ self.old) }
-        ensures ordered { IsStrictlySortedBy (pair_cmp K.cmp) (keys_of self.old) }
-    {
-        let Some(row) = self.rows.get_mut(at) else {
-            return Err((key, value));
-        };
-        Ok(row.insert(key, value))
-    }
-
-    /// Puts a value into a row that may have to be made.
-    fn put_first(&mut self, at: &Text, key: K, value: V) -> Result<Option<V>, AllocFailed<(K, V)>>
-        ensures old { IfOk result (λ old. old ≡ lookup (is_at (pair_cmp K.cmp (at.now, key))) self.old) }
-        ensures ok { OnOk result (self.new ≡ insert_entry (pair_cmp K.cmp) self.old (at.now, key) value) }
-        ensures back { IfErr result (λ failed. failed.value ≡ (key, value)) }
-        ensures err { OnErr result (self.new ≡ self.old) }
-    {
-        if self.open(at).is_err() {
-            return Err(AllocFailed {
-                value: (key, value),
-            });
-        }
-        match self.put(at, key, value) {
-            Ok(Ok(old)) => Ok(old),
-            Ok(Err(failed)) => {
-                self.close(at);
-                Err(failed)
-            }
-            Err(back) => Err(AllocFailed { value: back }),
-        }
-    }
-
     /// Puts a value under a text and a key, and gives the one that was there. `Err` is want of memory: it hands the key
     /// and the value back, and nothing changes.
     pub fn insert(&mut self, at: &Text, key: K, value: V) -> Result<Option<V>, AllocFailed<(K, V)>>
@@ -211,10 +188,10 @@ impl<K: Ord + Drop, V: Drop> Table<K, V> {
         ensures err { OnErr result (self.new ≡ self.old) }
         ensures ordered { IsStrictlySortedBy (pair_cmp K.cmp) (keys_of self.old) }
     {
-        match self.put(at, key, value) {
-            Ok(put) => put,
-            Err((key, value)) => self.put_first(at, key, value),
-        }
+        let Some(row) = self.rows.get_mut(at) else {
+            return open(&mut self.rows, self.alloc, at, key, value);
+        };
+        row.insert(key, value)
     }
 
     /// Takes out what stands under a text and a key, and tells whether the row may be given up.

@@ -7,8 +7,8 @@ ghost use Rattle.rel_graph.specs.Slots.{edges_at};
 
 use crate::edge::Edge;
 use dt_base::Text;
+use ordered_table::Entries;
 use slab::Slab;
-use std::collections::btree_map::Range;
 use std::marker::Model;
 
 /// The edges of one source, in the order of their ids.
@@ -21,7 +21,7 @@ pub type Into<'a, P> = Listing<'a, (Text, Text), P>;
 #[derive(Drop)]
 pub struct Listing<'a, K, P> {
     pub(crate) edges: &'a Slab<Edge<P>>,
-    pub(crate) slots: Option<Range<'a, K, usize>>,
+    pub(crate) slots: Option<Entries<'a, K, usize>>,
 }
 
 impl<'a, K, P> Model for Listing<'a, K, P> {
@@ -41,7 +41,7 @@ impl<'a, K, P> Model for Listing<'a, K, P> {
 /// The edge of the next slot that has one.
 fn next_edge<'a, K, P>(
     edges: &'a Slab<Edge<P>>,
-    slots: &mut Range<'a, K, usize>,
+    slots: &mut Entries<'a, K, usize>,
 ) -> Option<&'a Edge<P>>
     ensures { YieldsFirstRef (λ s. edges_at (get edges.now) (values_of s)) slots.old result slots.new }
 {

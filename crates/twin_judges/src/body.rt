@@ -7,7 +7,7 @@ ghost use Rattle.graph_bodies.specs.Bodies.{FailsBy};
 ghost use Rattle.graph_bodies.specs.Kept.{twin_view, IsKeptTwin};
 ghost use Rattle.graph_held.specs.Held.{state_of, IsHeldTwin};
 ghost use Rattle.graph_steps.specs.Refusals.{or_else};
-ghost use Rattle.graph_steps.specs.States.{interface_of, set_of, twin_at, twin_value, with_twin};
+ghost use Rattle.graph_steps.specs.States.{interface_of, set_of, twin_at, with_twin};
 ghost use Rattle.graph_steps.specs.TwinAsks.{DoesNotFit, RefusesBody, TwinFull, twin_for, with_body};
 ghost use Rattle.graph_steps.specs.Typed.{WellTyped};
 ghost use Rattle.json_tree.specs.Values.{HasDistinctKeys};
@@ -46,7 +46,6 @@ fn judged_new(
         (λ new. Unrefused (or_else (DoesNotFit (with_twin (twin_view twin) (state_of lent.now)) twin.id) (TwinFull (with_twin (twin_view twin) (state_of lent.now)) (twin_view twin))) × (new.twin ≡ twin))
         (FailsBy (or_else (DoesNotFit (with_twin (twin_view twin) (state_of lent.now)) twin.id) (TwinFull (with_twin (twin_view twin) (state_of lent.now)) (twin_view twin)))) }
     ensures held { IfOk result (λ new. IsHeldTwin (record { twin = new.twin; bytes = new.bytes })) }
-    ensures tree { IfOk result (λ new. view new.tree ≡ twin_value (twin_view new.twin)) }
 {
     unless_unfit(lent, resolutions, there, &twin)?;
     within_limits(lent, there, twin)
@@ -73,7 +72,6 @@ fn judged_of(
         (λ new. Unrefused (RefusesBody (state_of lent.now) id.now (dtmi_text interface.now.id) (view tree.now) (Some interface.now)) × (twin_view new.twin ≡ twin_for (state_of lent.now) id.now interface.now (view tree.now)))
         (FailsBy (RefusesBody (state_of lent.now) id.now (dtmi_text interface.now.id) (view tree.now) (Some interface.now))) }
     ensures held { IfOk result (λ new. IsHeldTwin (record { twin = new.twin; bytes = new.bytes })) }
-    ensures tree { IfOk result (λ new. view new.tree ≡ twin_value (twin_view new.twin)) }
 {
     unless_marked(lent, id, &interface.id)?;
     let twin = judged_twin(lent, resolutions, id, interface, tree)?;
@@ -102,7 +100,6 @@ pub(crate) fn judged_body(
         (FailsBy (RefusesBody (state_of lent.now) id.now (dtmi_text model.now) (view tree.now) (interface_of (state_of lent.now) model.now))) }
     ensures id { IfOk result (λ new. new.twin.id ≡ id.now) }
     ensures held { IfOk result (λ new. IsHeldTwin (record { twin = new.twin; bytes = new.bytes })) }
-    ensures tree { IfOk result (λ new. view new.tree ≡ twin_value (twin_view new.twin)) }
 {
     match lent.interface(model) {
         Some(interface) => judged_of(lent, resolutions, there, id, interface, tree),

@@ -5,17 +5,16 @@ ghost use Rattle.std.specs.Option.{option_copied, option_map};
 ghost use Rattle.graph_bodies.specs.Bodies.{FailsBy};
 ghost use Rattle.graph_bodies.specs.Kept.{twin_view, IsKeptTwin};
 ghost use Rattle.graph_held.specs.Held.{state_of, IsHeldTwin};
-ghost use Rattle.graph_steps.specs.States.{Twin as GraphTwin, graph_bytes, twin_at, twin_text, twin_value, with_twin};
+ghost use Rattle.graph_steps.specs.States.{Twin as GraphTwin, graph_bytes, twin_at, twin_text, with_twin};
 ghost use Rattle.graph_steps.specs.TwinAsks.{TwinFull};
 ghost use Rattle.graph_steps.specs.Typed.{WellTyped};
-ghost use Rattle.json_tree.specs.View.{view};
 ghost use Rattle.graph_held.specs.Judged.{Unrefused};
 
-use crate::new_twin::{NewTwin, printed};
+use crate::new_twin::NewTwin;
 use dt_base::Text;
 use dtdl_terms::Limit;
 use graph_asks::Refusal;
-use graph_bodies::BodyFailure;
+use graph_bodies::{BodyFailure, twin_bytes};
 use graph_held::Lent;
 use twin_value::Twin;
 
@@ -69,8 +68,8 @@ fn bytes_with(lent: &Lent<'_>, there: Option<&Twin>, id: &Text, bytes: u64) -> u
     lent.bytes() - before + bytes
 }
 
-/// Refuses where a limit would be passed with a twin that comes, whose text has so many bytes, in the place of the one that
-/// there may be.
+/// Refuses where a limit of the graph would be passed with a twin that comes, whose text has so many bytes, in the place of
+/// the one that there may be.
 fn unless_full(
     lent: &Lent<'_>,
     there: Option<&Twin>,
@@ -80,15 +79,11 @@ fn unless_full(
     requires typed { WellTyped (state_of lent.now) }
     requires there { option_map twin_view (option_copied there) ≡ twin_at twin.now.id (state_of lent.now) }
     requires size { bytes ≡ length (twin_text (twin_view twin.now)) }
+    requires short { bytes ≤ 32768 }
     ensures { MatchResult result
         (λ _. Unrefused (TwinFull (with_twin (twin_view twin.now) (state_of lent.now)) (twin_view twin.now)))
         (FailsBy (TwinFull (with_twin (twin_view twin.now) (state_of lent.now)) (twin_view twin.now))) }
 {
-    if bytes > MOST_TWIN_BYTES {
-        return Err(BodyFailure::Refused(Refusal::Full {
-            limit: Limit::TwinBytes,
-        }));
-    }
     if twins_with(lent, there, &twin.id) > MOST_TWINS {
         return Err(BodyFailure::Refused(Refusal::Full {
             limit: Limit::Twins,
@@ -102,8 +97,30 @@ fn unless_full(
     Ok(())
 }
 
-/// The twin that comes, in the place of the one that there may be, with what is printed of it; refused where a limit would be
-/// passed with it. Fails for want of memory too.
+/// The twin that comes with how many bytes its text has, in the place of the one that there may be; refused where a limit of
+/// the graph would be passed with it. Fails for want of memory too.
+fn within_graph(
+    lent: &Lent<'_>,
+    there: Option<&Twin>,
+    twin: Twin,
+    bytes: u64,
+) -> Result<NewTwin, BodyFailure>
+    requires typed { WellTyped (state_of lent.now) }
+    requires there { option_map twin_view (option_copied there) ≡ twin_at twin.id (state_of lent.now) }
+    requires kept { IsKeptTwin (twin_view twin) }
+    requires size { bytes ≡ length (twin_text (twin_view twin)) }
+    requires short { bytes ≤ 32768 }
+    ensures full { MatchResult result
+        (λ new. Unrefused (TwinFull (with_twin (twin_view twin) (state_of lent.now)) (twin_view twin)) × (new.twin ≡ twin))
+        (FailsBy (TwinFull (with_twin (twin_view twin) (state_of lent.now)) (twin_view twin))) }
+    ensures held { IfOk result (λ new. IsHeldTwin (record { twin = new.twin; bytes = new.bytes })) }
+{
+    unless_full(lent, there, &twin, bytes)?;
+    Ok(NewTwin { twin, bytes })
+}
+
+/// The twin that comes, in the place of the one that there may be, with how many bytes its text has; refused where a limit
+/// would be passed with it. Fails for want of memory too.
 pub(crate) fn within_limits(
     lent: &Lent<'_>,
     there: Option<&Twin>,
@@ -116,9 +133,11 @@ pub(crate) fn within_limits(
         (λ new. Unrefused (TwinFull (with_twin (twin_view twin) (state_of lent.now)) (twin_view twin)) × (new.twin ≡ twin))
         (FailsBy (TwinFull (with_twin (twin_view twin) (state_of lent.now)) (twin_view twin))) }
     ensures held { IfOk result (λ new. IsHeldTwin (record { twin = new.twin; bytes = new.bytes })) }
-    ensures tree { IfOk result (λ new. view new.tree ≡ twin_value (twin_view new.twin)) }
 {
-    let (tree, bytes) = printed(lent.alloc(), &twin)?;
-    unless_full(lent, there, &twin, bytes)?;
-    Ok(NewTwin { twin, bytes, tree })
+    match twin_bytes(MOST_TWIN_BYTES, &twin) {
+        Some(bytes) => within_graph(lent, there, twin, bytes),
+        None => Err(BodyFailure::Refused(Refusal::Full {
+            limit: Limit::TwinBytes,
+        })),
+    }
 }

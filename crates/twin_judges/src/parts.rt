@@ -6,7 +6,7 @@ ghost use Rattle.graph_bodies.specs.Bodies.{FailsBy};
 ghost use Rattle.graph_bodies.specs.Kept.{twin_view, IsKeptPart, IsKeptTwin};
 ghost use Rattle.graph_held.specs.Held.{state_of, IsHeldTwin};
 ghost use Rattle.graph_steps.specs.Soundness.{IsReadPatch, IsSound};
-ghost use Rattle.graph_steps.specs.States.{interface_of, part_value, set_of, twin_at, twin_value, with_twin};
+ghost use Rattle.graph_steps.specs.States.{interface_of, part_value, set_of, twin_at, with_twin};
 ghost use Rattle.graph_steps.specs.TwinAsks.{RefusesNewPart, RefusesPatchPart, after_patch_part, component_at, with_new_part, with_part};
 ghost use Rattle.graph_steps.specs.Typed.{WellTyped};
 ghost use Rattle.json_tree.specs.Values.{HasDistinctKeys};
@@ -54,7 +54,6 @@ fn judged_values(
         (λ new. Unrefused (RefusesNewPart (state_of lent.now) name.now interface.now (twin_view twin.now) (Ok (view tree.now))) × (twin_view new.twin ≡ with_part name.now (view tree.now) (twin_view twin.now)))
         (FailsBy (RefusesNewPart (state_of lent.now) name.now interface.now (twin_view twin.now) (Ok (view tree.now)))) }
     ensures held { IfOk result (λ new. IsHeldTwin (record { twin = new.twin; bytes = new.bytes })) }
-    ensures tree { IfOk result (λ new. view new.tree ≡ twin_value (twin_view new.twin)) }
 {
     let values = judged_part(lent, resolutions, name, interface, tree)?;
     let new = with_component(lent.alloc(), twin, name, values)?;
@@ -86,11 +85,10 @@ fn judged_part_of(
         (FailsBy (RefusesNewPart (state_of lent.now) name.now interface.now (twin_view twin.now) (patched_from 0 (operations_of patch.now.ops) (part_value (view part.now))))) }
     ensures id { IfOk result (λ new. new.twin.id ≡ twin.now.id) }
     ensures held { IfOk result (λ new. IsHeldTwin (record { twin = new.twin; bytes = new.bytes })) }
-    ensures tree { IfOk result (λ new. view new.tree ≡ twin_value (twin_view new.twin)) }
 {
     kept_part();
     let before = part_tree(lent.alloc(), part)?;
-    let after = patched(lent.alloc(), &before, patch)?;
+    let after = patched(lent.alloc(), before, patch)?;
     judged_values(lent, resolutions, name, interface, twin, &after)
 }
 
@@ -113,7 +111,6 @@ pub fn judged_part_patch(
         (FailsBy (RefusesPatchPart (state_of lent.now) id.now name.now (operations_of patch.now.ops))) }
     ensures id { IfOk result (λ new. new.twin.id ≡ id.now) }
     ensures held { IfOk result (λ new. IsHeldTwin (record { twin = new.twin; bytes = new.bytes })) }
-    ensures tree { IfOk result (λ new. view new.tree ≡ twin_value (twin_view new.twin)) }
 {
     let Some(twin) = lent.twin(id) else {
         let refusal = twin_not_found(lent.alloc(), id)?;

@@ -63,7 +63,6 @@ fn judged_new_body(
         (FailsBy (RefusesNewBody (state_of lent.now) id.now (view tree.now))) }
     ensures id { IfOk result (λ new. new.twin.id ≡ id.now) }
     ensures held { IfOk result (λ new. IsHeldTwin (record { twin = new.twin; bytes = new.bytes })) }
-    ensures tree { IfOk result (λ new. view new.tree ≡ twin_value (twin_view new.twin)) }
 {
     unless_outer_fault(lent, tree)?;
     let model = model_of(lent.alloc(), tree)?;
@@ -91,10 +90,9 @@ fn judged_patched(
         (FailsBy (RefusesPatched (state_of lent.now) id.now (patched_from 0 (operations_of patch.now.ops) (twin_value (twin_view twin.now))))) }
     ensures id { IfOk result (λ new. new.twin.id ≡ id.now) }
     ensures held { IfOk result (λ new. IsHeldTwin (record { twin = new.twin; bytes = new.bytes })) }
-    ensures tree { IfOk result (λ new. view new.tree ≡ twin_value (twin_view new.twin)) }
 {
     let before = twin_tree(lent.alloc(), twin)?;
-    let after = patched(lent.alloc(), &before, patch)?;
+    let after = patched(lent.alloc(), before, patch)?;
     judged_new_body(lent, resolutions, Some(twin), id, &after)
 }
 
@@ -116,7 +114,6 @@ pub fn judged_patch(
         (FailsBy (RefusesPatchTwin (state_of lent.now) id.now (operations_of patch.now.ops))) }
     ensures id { IfOk result (λ new. new.twin.id ≡ id.now) }
     ensures held { IfOk result (λ new. IsHeldTwin (record { twin = new.twin; bytes = new.bytes })) }
-    ensures tree { IfOk result (λ new. view new.tree ≡ twin_value (twin_view new.twin)) }
 {
     let there = unless_frozen(lent, id)?;
     let Some(twin) = there else {

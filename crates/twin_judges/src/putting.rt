@@ -6,7 +6,7 @@ ghost use Rattle.graph_bodies.specs.Bodies.{FailsBy};
 ghost use Rattle.graph_bodies.specs.Kept.{twin_view};
 ghost use Rattle.graph_held.specs.Held.{state_of, IsHeldTwin};
 ghost use Rattle.graph_steps.specs.Soundness.{IsSound};
-ghost use Rattle.graph_steps.specs.States.{set_of, twin_value, with_twin};
+ghost use Rattle.graph_steps.specs.States.{set_of, with_twin};
 ghost use Rattle.graph_steps.specs.TwinAsks.{RefusesPutTwin, after_put_twin};
 ghost use Rattle.graph_steps.specs.Typed.{WellTyped};
 ghost use Rattle.json_tree.specs.View.{view};
@@ -42,7 +42,6 @@ pub fn judged_put(
         (FailsBy (RefusesPutTwin (state_of lent.now) id.now model.now (view tree.now))) }
     ensures id { IfOk result (λ new. new.twin.id ≡ id.now) }
     ensures held { IfOk result (λ new. IsHeldTwin (record { twin = new.twin; bytes = new.bytes })) }
-    ensures tree { IfOk result (λ new. view new.tree ≡ twin_value (twin_view new.twin)) }
 {
     let there = unless_frozen(lent, id)?;
     judged_body(lent, resolutions, there, id, model, tree)

@@ -2,11 +2,11 @@
 
 ghost use Rattle.std.specs.Prelude.{◌≡◌, ◌∷◌, Some, All, IfOk, IfSome, option_and_then};
 ghost use Rattle.std.specs.Option.{option_map};
-ghost use Rattle.json_tree.specs.Values.{object, HasDistinctKeys};
+ghost use Rattle.json_tree.specs.Values.{Json, object, HasDistinctKeys};
 ghost use Rattle.json_tree.specs.View.{view};
 ghost use Rattle.twin_patch.specs.Objects.{with_member, sorted_value};
 ghost use Rattle.twin_patch.specs.Operations.{replace, remove, change_of, operation_of, operations_of, BringsDistinctKeys};
-ghost use Rattle.twin_patch.specs.Patched.{edited, changed, applied, patched, GivesPatched};
+ghost use Rattle.twin_patch.specs.Patched.{edited, changed, applied, patched, patched_from, GivesPatched};
 ghost use Rattle.twin_patch.specs.declared.application.ApplyEnd.TheVariants as ends;
 ghost use Rattle.twin_patch.specs.Machinery.Orders.{IsInOrder, AreInOrder};
 ghost use Rattle.twin_patch.specs.Machinery.Drafts.{draft_view, both};
@@ -227,7 +227,18 @@ pub fn apply(alloc: Global, tree: &Tree, patch: &Patch) -> Result<Tree, ApplyEnd
     requires brought { All (λ (op : Op). BringsDistinctKeys (change_of op.kind)) patch.now.ops }
     ensures { GivesPatched result (patched (operations_of patch.now.ops) (view tree.now)) }
 {
-    let mut patched = Draft::Whole(sorted_copy(alloc, tree)?);
+    let copy = sorted_copy(alloc, tree)?;
+    apply_in_order(alloc, copy, patch)
+}
+
+/// The same of a tree whose members stand in that order already, at every depth: it is the sorted form of some value. The
+/// tree is taken, and changed in place of a copy; where an operation has no target, and for want of memory, it is let go.
+pub fn apply_in_order(alloc: Global, tree: Tree, patch: &Patch) -> Result<Tree, ApplyEnd>
+    requires order { (v : Json) × (view tree ≡ sorted_value v) }
+    requires brought { All (λ (op : Op). BringsDistinctKeys (change_of op.kind)) patch.now.ops }
+    ensures { GivesPatched result (patched_from 0 (operations_of patch.now.ops) (view tree)) }
+{
+    let mut patched = Draft::Whole(tree);
     'operations: for (index, op) in patch.ops.as_slice().iter().enumerate() {
         patched = applied(alloc, patched, op)?;
         if !is_there(&patched) {

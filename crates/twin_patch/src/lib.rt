@@ -14,7 +14,7 @@ mod paths;
 mod reading;
 mod word;
 
-pub use application::{ApplyEnd, apply};
+pub use application::{ApplyEnd, apply, apply_in_order};
 pub use code::PatchCode;
 pub use entry::PatchOf;
 pub use laws::{one_answer, order_of_members};

@@ -1,14 +1,19 @@
 -- Lists of what has an id, each under its own.
-use Rattle.std.proofs.Common.{◌≡◌, ℕ, List, [], ◌∷◌, map, Bool, true, false, cond, Some, refl, sym, ap, ◌∙◌, Less, Equal, Greater, is_eq}
+use Rattle.std.proofs.Common.{◌≡◌, ℕ, List, [], ◌∷◌, map, Bool, true, false, cond, Some, refl, sym, ap, ◌∙◌, Less, Equal, Greater, is_eq, subst}
 use Rattle.std.specs.Prelude.{bytes_eq}
 use Rattle.std.specs.Ordering.{match_ordering}
 use Rattle.std.specs.List.{filter, find}
-use Rattle.std.specs.Map.{lookup, remove_entry, keys_of, values_of}
+use Rattle.std.specs.List.Sorted.{IsStrictlySortedBy}
+use Rattle.std.specs.Map.{lookup, remove_entry, set_value, keys_of, values_of}
+use Rattle.std.specs.Option.{IsSome}
 use Rattle.std.specs.BTreeMap.{is_at, insert_entry}
 use Rattle.std.proofs.lemmas.Cmp.{eq_by_cmp_equiv}
+use Rattle.std.proofs.lemmas.Map.{keys-set_value}
 use Rattle.std.proofs.lemmas.Map.Lookups.{exact_bytes}
 use Rattle.std.proofs.lemmas.Map.Text.{is_eq-slice_cmp}
 use Rattle.ordered_table.proofs.Flat.{C, c_total}
+use Rattle.ordered_table.proofs.Ordered.{lookup-insert}
+use Rattle.ordered_table.proofs.Kept.{same_by_lookups, sorted-insert, lookup-set}
 
 -- the test of an id, from either side
 pub same_test : (id other : List ℕ) → is_eq (C id other) ≡ bytes_eq other id
@@ -60,3 +65,12 @@ module _ {T : Type 0} (key : T → List ℕ) where
         | true ↦ ap (λ us. t ∷ us) (filter-keyed p ts)
         | false ↦ filter-keyed p ts
       ]
+
+-- what is written over a value at its key is put at its place
+pub set-insert : {T : Type 0} (id : List ℕ) (old new : T) (es : List (List ℕ × T)) → IsStrictlySortedBy C (keys_of es) → lookup (is_at (C id)) es ≡ Some old
+    → set_value (is_at (C id)) es new ≡ insert_entry C es id new
+set-insert id old new es sorted there =
+    same_by_lookups c_total exact_bytes (set_value (is_at (C id)) es new) (insert_entry C es id new)
+    (subst (IsStrictlySortedBy C) (sym (keys-set_value (is_at (C id)) es new)) sorted)
+    (sorted-insert c_total id new es sorted)
+    (λ q. lookup-set c_total q id new es (subst IsSome (sym there) refl) ∙ sym (lookup-insert c_total q id new es))

@@ -62,9 +62,10 @@ only_new true false h = refl
 only_new false true h = refl
 only_new false false h = refl
 
-or_same : (n o : Bool) → n ≡ o → cond n true o ≡ n
-or_same true o h = refl
-or_same false o h = sym h
+-- what is there and of one model is of those that tie with it, and of no others
+there_of : (o : Option Held) (model : Identifier) → is_there_of model o ≡ true → (m : Identifier) → is_there_of m o ≡ is_eq (id_cmp m model)
+there_of None model t m = absurd (true≢false (sym t))
+there_of (Some h) model t m = sym (of_same m model h.twin.model t)
 
 not_both : (m a b : Identifier) → is_eq (id_cmp a b) ≡ false → is_eq (id_cmp m a) ≡ true → is_eq (id_cmp m b) ≡ true → ⊥
 not_both m a b h p q =
@@ -93,6 +94,42 @@ module _ (entries : List (List ℕ × Held)) (rows : Rows) (len bytes : ℕ) (ke
     summed = kept.summed;
   }
 
+  -- ---- with a twin at its place
+  module _ (h : Held) (entries' : List (List ℕ × Held)) (put : entries' ≡ insert_entry C entries (id_of h) h) where
+    sorted1 : IsStrictlySortedBy C (keys_of entries')
+    sorted1 = subst (λ es. IsStrictlySortedBy C (keys_of es)) (sym put) (sorted-insert c_total (id_of h) h entries kept.sorted)
+
+    own1 : entries' ≡ keyed (values_of entries')
+    own1 = put ∙ ap (λ es. insert_entry C es (id_of h) h) kept.own ∙ insert-keyed id_of h (values_of entries)
+        ∙ ap (λ es. keyed (values_of (insert_entry C es (id_of h) h))) (sym kept.own) ∙ ap (λ es. keyed (values_of es)) (sym put)
+
+    moved1 : (q : List ℕ) → under entries' q ≡ cond (is_eq (C q (id_of h))) (Some h) (under entries q)
+    moved1 q = ap (λ es. under es q) put ∙ lookup-insert c_total q (id_of h) h entries
+
+    -- where another had its id
+    module _ (old : Held) (there : under entries (id_of h) ≡ Some old) (as_long : length entries' ≡ len) where
+      summed1 : bytes + h.bytes - old.bytes ≡ total_bytes (values_of entries')
+      summed1 =
+          let a = total-inserted entries (id_of h) h kept.sorted in
+          let b : unwrap_or (option_map (λ (x : Held). x.bytes) (under entries (id_of h))) 0 ≡ old.bytes = ap (λ o. unwrap_or (option_map (λ (x : Held). x.bytes) o) 0) there in
+          let d : total_bytes (values_of entries') ≡ total_bytes (values_of (insert_entry C entries (id_of h) h)) = ap (λ es. total_bytes (values_of es)) put in
+          let e = kept.summed in
+          omega arith
+
+      over : (rows2 : Rows) → ((m : Identifier) → has_id m (id_of h) rows2 ≡ is_of m h) → ((m : Identifier) (q : List ℕ) → is_eq (C q (id_of h)) ≡ false → has_id m q rows2 ≡ has_id m q rows)
+          → IsKept entries' rows2 len (bytes + h.bytes - old.bytes)
+      over rows2 here else_where = record {
+        sorted = sorted1;
+        own = own1;
+        indexed = indexed-step entries entries' rows rows2 (id_of h) (Some h) moved1 here else_where kept.indexed;
+        counted = sym as_long;
+        summed = summed1;
+      }
+
+      -- and was of the same model: the index says it already
+      pub kept-stays : is_of h.twin.model old ≡ true → IsKept entries' rows len (bytes + h.bytes - old.bytes)
+      kept-stays same = over rows (λ m. kept.indexed m (id_of h) ∙ there_of (under entries (id_of h)) h.twin.model (ap (is_there_of h.twin.model) there ∙ same) m) (λ m q t. refl)
+
   -- ---- with a twin that is entered
   module _ (h : Held) (rows1 : Rows) (entered : (m : Identifier) (q : List ℕ) → has_id m q rows1 ≡ cond (is_eq (id_cmp m h.twin.model) && is_eq (C q (id_of h))) true (has_id m q rows)) where
     entered_here : (m : Identifier) (o : Option Held) → under entries (id_of h) ≡ o → has_id m (id_of h) rows1 ≡ cond (is_of m h) true (is_there_of m o)
@@ -116,20 +153,14 @@ module _ (entries : List (List ℕ × Held)) (rows : Rows) (len bytes : ℕ) (ke
         (λ t. has_else rows1 rows2 h.twin.model (id_of h) false leaves m q t ∙ entered_else m q t)
         (cases_Bool (is_eq (C q (id_of h)))))
 
+    -- ---- put at its place
     module _ (entries' : List (List ℕ × Held)) (put : entries' ≡ insert_entry C entries (id_of h) h) where
-      moved1 : (q : List ℕ) → under entries' q ≡ cond (is_eq (C q (id_of h))) (Some h) (under entries q)
-      moved1 q = ap (λ es. under es q) put ∙ lookup-insert c_total q (id_of h) h entries
-
-      own1 : entries' ≡ keyed (values_of entries')
-      own1 = put ∙ ap (λ es. insert_entry C es (id_of h) h) kept.own ∙ insert-keyed id_of h (values_of entries)
-          ∙ ap (λ es. keyed (values_of (insert_entry C es (id_of h) h))) (sym kept.own) ∙ ap (λ es. keyed (values_of es)) (sym put)
-
       -- where none had its id
       pub kept-new : under entries (id_of h) ≡ None → length entries' ≡ len + 1 → IsKept entries' rows1 (len + 1) (bytes + h.bytes)
       kept-new absent longer = record {
-        sorted = subst (λ es. IsStrictlySortedBy C (keys_of es)) (sym put) (sorted-insert c_total (id_of h) h entries kept.sorted);
-        own = own1;
-        indexed = indexed-step entries entries' rows rows1 (id_of h) (Some h) moved1 (λ m. entered_here m None absent ∙ or_false (is_of m h)) entered_else kept.indexed;
+        sorted = sorted1 h entries' put;
+        own = own1 h entries' put;
+        indexed = indexed-step entries entries' rows rows1 (id_of h) (Some h) (moved1 h entries' put) (λ m. entered_here m None absent ∙ or_false (is_of m h)) entered_else kept.indexed;
         counted = sym longer;
         summed =
             let a = total-inserted entries (id_of h) h kept.sorted in
@@ -139,38 +170,17 @@ module _ (entries : List (List ℕ × Held)) (rows : Rows) (len bytes : ℕ) (ke
             omega arith;
       }
 
-      -- where another had it, of the same model, or of another that it has left
-      module _ (old : Held) (there : under entries (id_of h) ≡ Some old) (as_long : length entries' ≡ len) where
-        summed1 : bytes + h.bytes - old.bytes ≡ total_bytes (values_of entries')
-        summed1 =
-            let a = total-inserted entries (id_of h) h kept.sorted in
-            let b : unwrap_or (option_map (λ (x : Held). x.bytes) (under entries (id_of h))) 0 ≡ old.bytes = ap (λ o. unwrap_or (option_map (λ (x : Held). x.bytes) o) 0) there in
-            let d : total_bytes (values_of entries') ≡ total_bytes (values_of (insert_entry C entries (id_of h) h)) = ap (λ es. total_bytes (values_of es)) put in
-            let e = kept.summed in
-            omega arith
-
-        over : (rows2 : Rows) → ((m : Identifier) → has_id m (id_of h) rows2 ≡ is_of m h) → ((m : Identifier) (q : List ℕ) → is_eq (C q (id_of h)) ≡ false → has_id m q rows2 ≡ has_id m q rows)
-            → IsKept entries' rows2 len (bytes + h.bytes - old.bytes)
-        over rows2 here else_where = record {
-          sorted = subst (λ es. IsStrictlySortedBy C (keys_of es)) (sym put) (sorted-insert c_total (id_of h) h entries kept.sorted);
-          own = own1;
-          indexed = indexed-step entries entries' rows rows2 (id_of h) (Some h) moved1 here else_where kept.indexed;
-          counted = sym as_long;
-          summed = summed1;
-        }
-
-        pub kept-stays : is_of h.twin.model old ≡ true → IsKept entries' rows1 len (bytes + h.bytes - old.bytes)
-        kept-stays same = over rows1 (λ m. entered_here m (Some old) there ∙ or_same (is_of m h) (is_of m old) (of_same m h.twin.model old.twin.model same)) entered_else
-
-        pub kept-moves : is_of h.twin.model old ≡ false → (rows2 : Rows) → ((m : Identifier) (q : List ℕ) → has_id m q rows2 ≡ cond (is_eq (id_cmp m old.twin.model) && is_eq (C q (id_of old))) false (has_id m q rows1))
-            → IsKept entries' rows2 len (bytes + h.bytes - old.bytes)
-        kept-moves other rows2 leaves =
-            let own_old : id_of old ≡ id_of h = own_id entries kept.own (id_of h) old there in
-            let leaves_h : (m : Identifier) (q : List ℕ) → has_id m q rows2 ≡ cond (is_eq (id_cmp m old.twin.model) && is_eq (C q (id_of h))) false (has_id m q rows1) =
-            λ m q. leaves m q ∙ ap (λ k. cond (is_eq (id_cmp m old.twin.model) && is_eq (C q k)) false (has_id m q rows1)) own_old in
-            over rows2
-            (λ m. has_here rows1 rows2 old.twin.model (id_of h) false leaves_h m ∙ ap (cond (is_of m old) false) (entered_here m (Some old) there) ∙ only_new (is_of m h) (is_of m old) (not_both m h.twin.model old.twin.model other))
-            (λ m q t. has_else rows1 rows2 old.twin.model (id_of h) false leaves_h m q t ∙ entered_else m q t)
+      -- where another had it, of another model that it has left
+      pub kept-moves : (old : Held) → under entries (id_of h) ≡ Some old → length entries' ≡ len → is_of h.twin.model old ≡ false
+          → (rows2 : Rows) → ((m : Identifier) (q : List ℕ) → has_id m q rows2 ≡ cond (is_eq (id_cmp m old.twin.model) && is_eq (C q (id_of old))) false (has_id m q rows1))
+          → IsKept entries' rows2 len (bytes + h.bytes - old.bytes)
+      kept-moves old there as_long other rows2 leaves =
+          let own_old : id_of old ≡ id_of h = own_id entries kept.own (id_of h) old there in
+          let leaves_h : (m : Identifier) (q : List ℕ) → has_id m q rows2 ≡ cond (is_eq (id_cmp m old.twin.model) && is_eq (C q (id_of h))) false (has_id m q rows1) =
+          λ m q. leaves m q ∙ ap (λ k. cond (is_eq (id_cmp m old.twin.model) && is_eq (C q k)) false (has_id m q rows1)) own_old in
+          over h entries' put old there as_long rows2
+          (λ m. has_here rows1 rows2 old.twin.model (id_of h) false leaves_h m ∙ ap (cond (is_of m old) false) (entered_here m (Some old) there) ∙ only_new (is_of m h) (is_of m old) (not_both m h.twin.model old.twin.model other))
+          (λ m q t. has_else rows1 rows2 old.twin.model (id_of h) false leaves_h m q t ∙ entered_else m q t)
 
   -- ---- without a twin
   module _ (id : List ℕ) (entries' : List (List ℕ × Held)) (taken : entries' ≡ remove_entry (is_at (C id)) entries) where

@@ -1,11 +1,11 @@
 //! The ids of the twins under their models.
 
-ghost use Rattle.std.specs.Prelude.{◌≡◌, ℕ, List, [], ◌&&◌, true, false, Some, cond, unwrap_or, None, OnErr, OnOk, MatchOption};
+ghost use Rattle.std.specs.Prelude.{◌≡◌, ℕ, List, [], ◌&&◌, true, false, Some, cond, unwrap_or, None, OnErr, OnOk, IfErr, IfOk, MatchOption, MatchResult};
 ghost use Rattle.std.specs.Option.{option_copied};
 ghost use Rattle.std.specs.Ordering.{nat_cmp, is_eq};
 ghost use Rattle.std.specs.Cmp.Lexicographic.{slice_cmp};
 ghost use Rattle.std.specs.List.Sorted.{IsStrictlySortedBy};
-ghost use Rattle.std.specs.Map.{keys_of, lookup, remove_entry};
+ghost use Rattle.std.specs.Map.{keys_of, remove_entry};
 ghost use Rattle.std.specs.BTreeMap.{get, is_at, IsOrdered};
 ghost use Rattle.dtmi_name.specs.Grammar.{Identifier, id_cmp};
 ghost use Rattle.twin_table.specs.Machinery.Rows.{ids_of, has_id, first_full, full_past, HasNoIdsPast, IsNextRow};
@@ -113,18 +113,6 @@ impl Index {
         }
     }
 
-    /// Makes a row without ids where there is none of a model.
-    fn open(&mut self, model: &Dtmi) -> Result<(), OutOfMemory>
-        ensures { (m : Identifier) → ids_of m self.new ≡ ids_of m self.old }
-    {
-        if self.rows.contains_key(model) {
-            return Ok(());
-        }
-        let key = model.copy(self.alloc)?;
-        self.rows.insert(key, Ids::new(self.alloc))?;
-        Ok(())
-    }
-
     /// Gives up the row of a model where it has no ids. Takes no memory.
     fn close(&mut self, model: &Dtmi)
         ensures { (m : Identifier) → ids_of m self.new ≡ ids_of m self.old }
@@ -134,15 +122,30 @@ impl Index {
         }
     }
 
-    /// Puts an id into the row of a model, which fails too where there is none.
-    fn put(&mut self, model: &Dtmi, id: Text) -> Result<(), OutOfMemory>
-        ensures ok { OnOk result ((m : Identifier) (q : List ℕ) → has_id m q self.new ≡ cond (is_eq (id_cmp m model.now) && is_eq (slice_cmp nat_cmp q id)) true (has_id m q self.old)) }
-        ensures err { OnErr result ((m : Identifier) → ids_of m self.new ≡ ids_of m self.old) }
+    /// Puts an id into the row of a model; where there is none, `Err` gives the id back.
+    fn put(&mut self, model: &Dtmi, id: Text) -> Result<Result<(), OutOfMemory>, Text>
+        ensures ok { IfOk result (λ put. OnOk put ((m : Identifier) (q : List ℕ) → has_id m q self.new ≡ cond (is_eq (id_cmp m model.now) && is_eq (slice_cmp nat_cmp q id)) true (has_id m q self.old))) }
+        ensures err { MatchResult result (λ put. OnErr put ((m : Identifier) → ids_of m self.new ≡ ids_of m self.old)) (λ _. self.new ≡ self.old) }
+        ensures back { IfErr result (λ back. back ≡ id) }
+        ensures none { OnErr result (ids_of model.now self.old ≡ []) }
     {
         let Some(row) = self.rows.get_mut(model) else {
-            return Err(OutOfMemory);
+            return Err(id);
         };
-        row.insert(id)
+        Ok(row.insert(id))
+    }
+
+    /// Makes a row of a model that has no ids, with one id in it. `Err` is want of memory: nothing changes.
+    fn put_first(&mut self, model: &Dtmi, id: Text) -> Result<(), OutOfMemory>
+        requires { ids_of model.now self.old ≡ [] }
+        ensures ok { OnOk result ((m : Identifier) (q : List ℕ) → has_id m q self.new ≡ cond (is_eq (id_cmp m model.now) && is_eq (slice_cmp nat_cmp q id)) true (has_id m q self.old)) }
+        ensures err { OnErr result (self.new ≡ self.old) }
+    {
+        let mut row = Ids::new(self.alloc);
+        row.insert(id)?;
+        let key = model.copy(self.alloc)?;
+        self.rows.insert(key, row)?;
+        Ok(())
     }
 
     /// Takes an id out of the row of a model. Takes no memory.
@@ -161,12 +164,10 @@ impl Index {
         ensures err { OnErr result ((m : Identifier) (q : List ℕ) → has_id m q self.new ≡ has_id m q self.old) }
     {
         let copy = id.copy(self.alloc)?;
-        self.open(model)?;
-        let end = self.put(model, copy);
-        if end.is_err() {
-            self.close(model);
+        match self.put(model, copy) {
+            Ok(put) => put,
+            Err(copy) => self.put_first(model, copy),
         }
-        end
     }
 
     /// Takes an id from under a model. Takes no memory.

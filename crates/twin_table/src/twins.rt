@@ -1,10 +1,10 @@
 //! The twins of a graph.
 
-ghost use Rattle.std.specs.Prelude.{◌≡◌, [], length, slice_get, IfOk, IfErr, OnErr, OnOk, MatchOption};
+ghost use Rattle.std.specs.Prelude.{◌≡◌, ◌+◌, ◌<◌, ◌^◌, [], false, Some, length, slice_get, IfOk, IfErr, OnErr, OnOk, MatchOption};
 ghost use Rattle.std.specs.Option.{option_copied, option_map};
 ghost use Rattle.std.specs.Map.{values_of};
 ghost use Rattle.twin_table.specs.Held.{InOrder, held_at, twin_at, next_past, with_held, without_held, of_model, total_bytes, HasNoModelPast, IsNextModel};
-ghost use Rattle.twin_table.specs.Machinery.Keeping.{under, is_there_of};
+ghost use Rattle.twin_table.specs.Machinery.Keeping.{is_there_of};
 
 use crate::held::{Held, PutEnd};
 use crate::index::Index;
@@ -135,16 +135,52 @@ impl Twins {
         ensures back { IfErr result (λ end. end.back ≡ twin) }
         ensures err { OnErr result (self.new ≡ self.old) }
     {
-        if self.len == u64::MAX {
+        if bytes > u64::MAX - self.bytes {
             return Err(PutEnd { back: twin });
         }
-        if bytes > u64::MAX - self.bytes {
+        match self.replaced(twin, bytes) {
+            Ok(old) => Ok(Some(old)),
+            Err(twin) => self.put_anew(twin, bytes),
+        }
+    }
+
+    /// Puts a twin with its size in the place of the one with its id and its model, and gives that one; hands it back where
+    /// there is none. Takes no memory.
+    fn replaced(&mut self, twin: Twin, bytes: u64) -> Result<Twin, Twin>
+        requires { total_bytes self.old + bytes < 2 ^ 64 }
+        ensures old { IfOk result (λ old. Some old ≡ twin_at twin.id self.old) }
+        ensures ok { OnOk result (self.new ≡ with_held (record { twin = twin; bytes = bytes }) self.old) }
+        ensures back { IfErr result (λ back. back ≡ twin) }
+        ensures err { OnErr result (self.new ≡ self.old) }
+        ensures none { OnErr result (is_there_of twin.model (held_at twin.id self.old) ≡ false) }
+    {
+        let Some(held) = self.twins.get_mut(&twin.id) else {
+            return Err(twin);
+        };
+        if twin.model != held.twin.model {
+            return Err(twin);
+        }
+        let old = std::mem::replace(held, Held { twin, bytes });
+        self.bytes = (self.bytes + bytes).saturating_sub(old.bytes);
+        Ok(old.twin)
+    }
+
+    /// Puts a twin with its size at its place, where none with its id and its model is, and gives the one with its id that
+    /// was there. Fails as `put` does.
+    fn put_anew(&mut self, twin: Twin, bytes: u64) -> Result<Option<Twin>, PutEnd>
+        requires sum { total_bytes self.old + bytes < 2 ^ 64 }
+        requires none { is_there_of twin.model (held_at twin.id self.old) ≡ false }
+        ensures old { IfOk result (λ old. old ≡ twin_at twin.id self.old) }
+        ensures ok { OnOk result (self.new ≡ with_held (record { twin = twin; bytes = bytes }) self.old) }
+        ensures back { IfErr result (λ end. end.back ≡ twin) }
+        ensures err { OnErr result (self.new ≡ self.old) }
+    {
+        if self.len == u64::MAX {
             return Err(PutEnd { back: twin });
         }
         let Ok(id) = twin.id.copy(self.alloc) else {
             return Err(PutEnd { back: twin });
         };
-        let stays = is_of(&self.twins, &twin);
         let Ok(()) = self.index.enter(&twin.model, &twin.id) else {
             return Err(PutEnd { back: twin });
         };
@@ -160,9 +196,6 @@ impl Twins {
                     bytes: less,
                 } = old;
                 self.bytes = (self.bytes + bytes).saturating_sub(less);
-                if stays {
-                    return Ok(Some(old));
-                }
                 self.index.leave(&old.model, &old.id);
                 Ok(Some(old))
             }
@@ -187,16 +220,6 @@ impl Twins {
         self.len = self.len.saturating_sub(1);
         self.bytes = self.bytes.saturating_sub(bytes);
         Some(twin)
-    }
-}
-
-/// Whether there is a twin with the id and the model of this one.
-fn is_of(twins: &BTreeMap<Text, Held>, twin: &Twin) -> bool
-    ensures { result ≡ is_there_of twin.now.model (under twins.now.entries twin.now.id) }
-{
-    match twins.get(&twin.id) {
-        Some(held) => twin.model == held.twin.model,
-        None => false,
     }
 }
 

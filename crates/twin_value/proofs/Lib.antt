@@ -12,3 +12,5 @@ pub mod Bodies
 pub mod Linked
 pub mod OneBreach
 pub mod Outermost
+pub mod TwinLengths
+pub mod Marked

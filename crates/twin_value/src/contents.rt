@@ -5,6 +5,7 @@ ghost use Rattle.std.specs.Option.{option_map};
 ghost use Rattle.dtdl_terms.specs.TermViews.{kind_term, contents_term};
 ghost use Rattle.twin_value.specs.Roles.{member_role, twin_metadata, declared_role, twin_declared_role, twin_content_role, part_content_role, link_property_role, twin_role, part_role, link_role};
 ghost use Rattle.twin_value.specs.Named.{property_called};
+ghost use Rattle.twin_value.specs.Machinery.Marks.{begins_with_mark};
 ghost use Rattle.twin_value.specs.Machinery.Views.{role_view};
 
 use crate::index::Index;
@@ -107,7 +108,18 @@ pub fn metadata_role<'r, 'a>(key: &str) -> Role<'r, 'a>
     }
 }
 
+/// Whether a key begins with the mark of the words that no content is called by.
+fn begins_with_mark(key: &str) -> bool
+    ensures { result ≡ begins_with_mark key.now }
+{
+    match key.as_bytes().first() {
+        Some(byte) => *byte == b'$',
+        None => false,
+    }
+}
+
 /// The role of a member of a twin.
+#[tactic(auto, using(crate::proofs::Marked::unmarked))]
 pub fn twin_role<'r, 'a>(
     library: &'r Library<'a>,
     contents: &Index<'r, ResolvedContent>,
@@ -115,19 +127,22 @@ pub fn twin_role<'r, 'a>(
 ) -> Role<'r, 'a>
     ensures { role_view result ≡ twin_role library.now contents.now key.now }
 {
-    if key == "$metadata" {
-        return Role::TwinMetadata;
-    }
-    if key == "$dtId" {
-        return Role::Text;
-    }
-    if key == "$etag" {
-        return Role::Anything;
+    if begins_with_mark(key) {
+        if key == "$metadata" {
+            return Role::TwinMetadata;
+        }
+        if key == "$dtId" {
+            return Role::Text;
+        }
+        if key == "$etag" {
+            return Role::Anything;
+        }
     }
     twin_content_role(library, contents.get(key))
 }
 
 /// The role of a member of a component.
+#[tactic(auto, using(crate::proofs::Marked::unmarked))]
 pub fn part_role<'r, 'a>(
     library: &'r Library<'a>,
     contents: &Index<'r, ResolvedContent>,
@@ -135,13 +150,14 @@ pub fn part_role<'r, 'a>(
 ) -> Role<'r, 'a>
     ensures { role_view result ≡ part_role library.now contents.now key.now }
 {
-    if key == "$metadata" {
+    if begins_with_mark(key) && key == "$metadata" {
         return Role::Object;
     }
     part_content_role(library, contents.get(key))
 }
 
 /// The role of a member of a relationship.
+#[tactic(auto, using(crate::proofs::Marked::unmarked))]
 pub fn link_role<'r, 'a>(
     library: &'r Library<'a>,
     from: &Option<&'r Dtmi>,
@@ -150,23 +166,25 @@ pub fn link_role<'r, 'a>(
 ) -> Role<'r, 'a>
     ensures { role_view result ≡ link_role library.now (option_map (λ f. f.now) from.now) (contents_term properties.now) key.now }
 {
-    if key == "$targetId" {
-        return Role::TargetId;
-    }
-    if key == "$relationshipName" {
-        return Role::LinkName;
-    }
-    if key == "$relationshipId" {
-        return Role::Text;
-    }
-    if key == "$sourceId" {
-        return Role::Text;
-    }
-    if key == "$etag" {
-        return Role::Anything;
-    }
-    if key == "$metadata" {
-        return Role::Anything;
+    if begins_with_mark(key) {
+        if key == "$targetId" {
+            return Role::TargetId;
+        }
+        if key == "$relationshipName" {
+            return Role::LinkName;
+        }
+        if key == "$relationshipId" {
+            return Role::Text;
+        }
+        if key == "$sourceId" {
+            return Role::Text;
+        }
+        if key == "$etag" {
+            return Role::Anything;
+        }
+        if key == "$metadata" {
+            return Role::Anything;
+        }
     }
     property_role(library, *from, properties, key)
 }

@@ -178,14 +178,21 @@ pub fn bare_part(alloc: Global, part: &Tree) -> Result<Tree, OutOfMemory>
     Ok(ordered(members))
 }
 
-/// The members that are components, each without its `$metadata`, sorted.
-pub fn parts_of(alloc: Global, from: &[Member], keys: &Keys) -> Result<Tree, OutOfMemory>
-    ensures { IfOk result (λ t. IsSortedOf (object (picked (λ key. is_part_role (keys_role keys.now key)) without_metadata (members_view from.now))) (view t)) }
+/// The members that are properties, and those that are components, each of these without its `$metadata`; both sorted.
+pub fn values_and_parts(
+    alloc: Global,
+    from: &[Member],
+    keys: &Keys,
+) -> Result<(Tree, Tree), OutOfMemory>
+    ensures { IfOk result (λ made. IsSortedOf (object (picked (λ key. is_value_role (keys_role keys.now key)) itself (members_view from.now))) (view made.0)
+        × IsSortedOf (object (picked (λ key. is_part_role (keys_role keys.now key)) without_metadata (members_view from.now))) (view made.1)) }
 {
-    let mut members = Vec::new(alloc);
+    let mut values = Vec::with_capacity(alloc, from.len())?;
+    let mut parts = Vec::new(alloc);
     for member in from {
-        let passes = is_part(keys.role(member.key.as_str()));
-        push_part_if(&mut members, alloc, passes, member)?;
+        let role = keys.role(member.key.as_str());
+        push_if(&mut values, alloc, is_value(role), member)?;
+        push_part_if(&mut parts, alloc, is_part(role), member)?;
     }
-    Ok(ordered(members))
+    Ok((ordered(values), ordered(parts)))
 }

@@ -95,7 +95,7 @@ fn add_name<'a, T>(
 }
 
 /// Whether a name that there may be is this one.
-fn is_name(key: Option<&str>, name: &str) -> bool
+fn is_called(key: Option<&str>, name: &str) -> bool
     ensures { result ≡ is_called name.now (option_map (λ t. t.now) key.entry) }
 {
     match key {
@@ -109,7 +109,7 @@ fn first_called<'a, T: Keyed>(items: &'a [T], name: &str) -> Option<&'a T>
     ensures { option_map (λ x. x.now) result ≡ find (λ x. is_called name.now (T.key_of x)) items.now }
 {
     for item in items {
-        if is_name(item.key(), name) {
+        if is_called(item.key(), name) {
             return Some(item);
         }
     }

@@ -32,7 +32,7 @@ pub fn print_part(alloc: Global, values: &Tree) -> Result<Tree, OutOfMemory>
     ensures { IfOk result (λ t. IsSortedOf (with_metadata (view values.now)) (view t)) }
 {
     let from = members_in(values);
-    let mut members = Vec::with_capacity(alloc, from.len())?;
+    let mut members = Vec::with_capacity(alloc, from.len().saturating_add(1))?;
     let metadata = ordered(Vec::new(alloc));
     push_made(&mut members, alloc, "$metadata", metadata)?;
     push_all(&mut members, alloc, from)?;
@@ -57,12 +57,14 @@ pub fn print_twin(alloc: Global, t: &Twin) -> Result<Tree, OutOfMemory>
     ensures { IfOk result (λ tree. IsSortedOf (twin_json t.now) (view tree)) }
 {
     let values = members_in(&t.values);
-    let mut members = Vec::with_capacity(alloc, values.len())?;
+    let parts = members_in(&t.parts);
+    let count = values.len().saturating_add(parts.len()).saturating_add(2);
+    let mut members = Vec::with_capacity(alloc, count)?;
     push_text(&mut members, alloc, "$dtId", t.id.as_str())?;
     let metadata = print_metadata(alloc, &t.model)?;
     push_made(&mut members, alloc, "$metadata", metadata)?;
     push_all(&mut members, alloc, values)?;
-    push_parts(&mut members, alloc, members_in(&t.parts))?;
+    push_parts(&mut members, alloc, parts)?;
     Ok(ordered(members))
 }
 
@@ -72,7 +74,7 @@ pub fn print_rel(alloc: Global, r: &Relationship) -> Result<Tree, OutOfMemory>
     ensures { IfOk result (λ tree. IsSortedOf (link_json r.now) (view tree)) }
 {
     let values = members_in(&r.payload);
-    let mut members = Vec::with_capacity(alloc, values.len())?;
+    let mut members = Vec::with_capacity(alloc, values.len().saturating_add(4))?;
     push_text(&mut members, alloc, "$relationshipId", r.id.as_str())?;
     push_text(&mut members, alloc, "$relationshipName", r.name.as_str())?;
     push_text(&mut members, alloc, "$sourceId", r.source.as_str())?;

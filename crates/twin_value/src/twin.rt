@@ -3,14 +3,16 @@
 ghost use Rattle.std.specs.Prelude.{◌≡◌, IfOk, IsSome, Some, MatchResult};
 ghost use Rattle.std.specs.Option.{IsSomeAnd};
 ghost use Rattle.dtmi_name.specs.Grammar.{OwnDtmiText};
+ghost use Rattle.json_tree.specs.Sorting.{IsSortedOf};
+ghost use Rattle.json_tree.specs.Values.{object};
 ghost use Rattle.json_tree.specs.View.{view};
 ghost use Rattle.twin_value.specs.Breaches.{IsModelId, IsBreach, IsTwinBreach, HasNoBreach, EndsBy, twin_role_of};
 ghost use Rattle.twin_value.specs.Machinery.Views.{role_view};
 ghost use Rattle.twin_value.specs.Roles.{twin_body};
-ghost use Rattle.twin_value.specs.Twins.{IsTwinOf, model_text};
+ghost use Rattle.twin_value.specs.Twins.{IsTwinOf, component_members, model_text, property_members};
 
 use crate::end::{BodyEnd, judge_body, text_under, want_of_memory};
-use crate::gather::{parts_of, values_of};
+use crate::gather::values_and_parts;
 use crate::keys::Keys;
 use crate::library::Library;
 use crate::role::Role;
@@ -72,17 +74,48 @@ fn model_of(alloc: Global, tree: &Tree) -> Result<Dtmi, OutOfMemory>
     }
 }
 
-/// The twin of an identifier for which a body without breach stands.
-fn twin_of(alloc: Global, id: &str, tree: &Tree, role: Role) -> Result<Twin, OutOfMemory>
+/// The values of the properties, and the components, of a body in a role.
+fn values_in(alloc: Global, tree: &Tree, role: Role) -> Result<(Tree, Tree), OutOfMemory>
+    ensures { IfOk result (λ made. IsSortedOf (object (property_members (role_view role.entry) (view tree.now))) (view made.0)
+        × IsSortedOf (object (component_members (role_view role.entry) (view tree.now))) (view made.1)) }
+{
+    let keys = Keys::of(alloc, role)?;
+    values_and_parts(alloc, members_in(tree), &keys)
+}
+
+/// The same of the body of a twin that may have a breach.
+fn values_by(
+    alloc: Global,
+    tree: &Tree,
+    library: &Library,
+    contents: &[ResolvedContent],
+) -> Result<(Tree, Tree), BodyEnd>
+    ensures { MatchResult result
+        (λ made. HasNoBreach (IsBreach (twin_body library.now contents.now) (view tree.now))
+        × IsSortedOf (object (property_members (twin_body library.now contents.now) (view tree.now))) (view made.0)
+        × IsSortedOf (object (component_members (twin_body library.now contents.now) (view tree.now))) (view made.1))
+        (EndsBy (IsBreach (twin_body library.now contents.now) (view tree.now))) }
+{
+    let role = Role::Twin { library, contents };
+    judge_body(alloc, tree, role)?;
+    let made = values_in(alloc, tree, role)?;
+    Ok(made)
+}
+
+/// The twin of an identifier and of the model that a body names, with these values and components.
+fn twin_with(
+    alloc: Global,
+    id: &str,
+    tree: &Tree,
+    values: Tree,
+    parts: Tree,
+) -> Result<Twin, OutOfMemory>
     requires { IsSomeAnd (model_text (view tree.now)) (λ model. (IsModelId model → ⊥) → ⊥) }
-    ensures { IfOk result (IsTwinOf (role_view role.entry) id.now (view tree.now)) }
+    ensures { IfOk result (λ twin. (twin.id ≡ id.now) × IsSomeAnd (model_text (view tree.now)) (λ text. OwnDtmiText text twin.model)
+        × (twin.values ≡ values) × (twin.parts ≡ parts)) }
 {
     let id = Text::from_str(alloc, id)?;
     let model = model_of(alloc, tree)?;
-    let keys = Keys::of(alloc, role)?;
-    let members = members_in(tree);
-    let values = values_of(alloc, members, &keys)?;
-    let parts = parts_of(alloc, members, &keys)?;
     Ok(Twin {
         id,
         model,
@@ -91,22 +124,19 @@ fn twin_of(alloc: Global, id: &str, tree: &Tree, role: Role) -> Result<Twin, Out
     })
 }
 
-/// The same of a body that may have a breach.
-fn twin_by(
-    alloc: Global,
-    id: &str,
-    tree: &Tree,
-    library: &Library,
-    contents: &[ResolvedContent],
-) -> Result<Twin, BodyEnd>
+/// The values of the properties, and the components by their names, each with the values of its properties, of a twin for
+/// which the body of a request stands (this project's own), for a caller who knows the identifier and the model. They are
+/// objects whose members are sorted at every depth. The body is judged as by `read_twin`, and fails as there: by the first
+/// breach, in preorder and at one place by the number of its code, or for want of memory.
+pub fn read_values(alloc: Global, tree: &Tree, resolved: &Resolved) -> Result<(Tree, Tree), BodyEnd>
     ensures { MatchResult result
-        (λ twin. HasNoBreach (IsBreach (twin_body library.now contents.now) (view tree.now)) × IsTwinOf (twin_body library.now contents.now) id.now (view tree.now) twin)
-        (EndsBy (IsBreach (twin_body library.now contents.now) (view tree.now))) }
+        (λ made. HasNoBreach (IsTwinBreach resolved.now (view tree.now))
+        × IsSortedOf (object (property_members (twin_role_of resolved.now) (view tree.now))) (view made.0)
+        × IsSortedOf (object (component_members (twin_role_of resolved.now) (view tree.now))) (view made.1))
+        (EndsBy (IsTwinBreach resolved.now (view tree.now))) }
 {
-    let role = Role::Twin { library, contents };
-    judge_body(alloc, tree, role)?;
-    let twin = twin_of(alloc, id, tree, role)?;
-    Ok(twin)
+    let library = Library::of(alloc, resolved)?;
+    values_by(alloc, tree, &library, resolved.contents.as_slice())
 }
 
 /// The twin of an identifier for which the body of a request stands (this project's own): `$metadata` names its model by
@@ -118,6 +148,7 @@ pub fn read_twin(alloc: Global, id: &str, tree: &Tree, resolved: &Resolved) -> R
         (λ twin. HasNoBreach (IsTwinBreach resolved.now (view tree.now)) × IsTwinOf (twin_role_of resolved.now) id.now (view tree.now) twin)
         (EndsBy (IsTwinBreach resolved.now (view tree.now))) }
 {
-    let library = Library::of(alloc, resolved)?;
-    twin_by(alloc, id, tree, &library, resolved.contents.as_slice())
+    let (values, parts) = read_values(alloc, tree, resolved)?;
+    let twin = twin_with(alloc, id, tree, values, parts)?;
+    Ok(twin)
 }

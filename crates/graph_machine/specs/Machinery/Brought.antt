@@ -1,4 +1,5 @@
--- What a judge lets come: nothing refuses the ask, it is what the ask changes, and it can be kept and printed.
+-- What a judge lets come: nothing refuses the ask, it is what the ask changes, and it can be kept; of a relationship also what
+-- is printed of it.
 use Rattle.std.specs.Prelude.{◌≡◌, ℕ, List}
 use Rattle.json_tree.specs.View.{view}
 use Rattle.json_tree.specs.declared.tree.Tree.{Tree}
@@ -8,18 +9,17 @@ use Rattle.graph_asks.specs.declared.ask.Ask.{Ask}
 use Rattle.graph_asks.specs.declared.refusal.Refusal.{Refusal}
 use Rattle.graph_bodies.specs.Kept.{twin_view}
 use Rattle.graph_steps.specs.LinkAsks.{with_link}
-use Rattle.graph_steps.specs.States.{State, twin_value, link_value, with_twin}
+use Rattle.graph_steps.specs.States.{State, link_value, with_twin}
 use Rattle.graph_steps.specs.Steps.{Refuses, changed}
 use Rattle.graph_held.specs.Held.{link_of, IsHeldTwin, IsHeldLink}
 use Rattle.graph_held.specs.declared.stored.Stored.{Stored}
 
--- a twin of this id, with how many bytes its text has, and what is printed of it
-pub record BringsTwin (s : State) (ask : Ask) (id : List ℕ) (twin : Twin) (bytes : ℕ) (tree : Tree) : Type 0 where
+-- a twin of this id, with how many bytes its text has
+pub record BringsTwin (s : State) (ask : Ask) (id : List ℕ) (twin : Twin) (bytes : ℕ) : Type 0 where
   pub free : (r : Refusal) → Refuses s ask r → ⊥
   pub put : with_twin (twin_view twin) s ≡ changed s ask
   pub own : twin.id ≡ id
   pub held : IsHeldTwin (record { twin = twin; bytes = bytes })
-  pub printed : view tree ≡ twin_value (twin_view twin)
 
 -- a relationship of this source and id, and what is printed of it
 pub record BringsLink (s : State) (ask : Ask) (source id : List ℕ) (edge : Edge Stored) (tree : Tree) : Type 0 where

@@ -18,10 +18,10 @@ pub returns-in_ok-twin-in-Ok-clause-twin : goal.returns-in_ok-twin-in-Ok-clause-
 returns-in_ok-twin-in-Ok-clause-twin c = λ s is. (
   twin_clear s c.args.interface.now c.args.resolved.now is (view c.args.tree.now) c.in-Ok.ensures.0,
   ap (λ (t : values.Twin). twin_view t) c.in_ok-twin-in-Ok.ensures
-      ∙ twin_is_for s c.args.interface.now c.args.resolved.now is c.args.id.now (view c.args.tree.now) c.in-Ok.twin c.requires c.in-Ok.ensures.1,
+      ∙ twin_is_for s c.args.interface.now c.args.resolved.now is c.args.id.now (view c.args.tree.now) (view c.in-Ok.values) (view c.in-Ok.parts) c.requires (c.in-Ok.ensures.1, c.in-Ok.ensures.2),
 )
 
 pub returns-in_ok-twin-in-Ok-clause-kept : goal.returns-in_ok-twin-in-Ok-clause-kept
 returns-in_ok-twin-in-Ok-clause-kept c =
     subst (λ (t : values.Twin). IsKeptTwin (twin_view t)) (sym c.in_ok-twin-in-Ok.ensures)
-    (twin_kept c.args.resolved.now c.args.id.now (view c.args.tree.now) c.in-Ok.twin c.args.interface.now.id c.requires c.in-Ok.ensures.1)
+    (twin_kept c.args.resolved.now c.args.id.now (view c.args.tree.now) (view c.in-Ok.values) (view c.in-Ok.parts) c.args.interface.now.id c.requires (c.in-Ok.ensures.1, c.in-Ok.ensures.2))

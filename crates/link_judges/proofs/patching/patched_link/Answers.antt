@@ -20,6 +20,6 @@ returns-in-Ok-clause-judged c =
     patched_so (state_of c.args.lent.now) c.args.interface.now (link_of c.args.link.now) (patched_from 0 os (link_value (link_of c.args.link.now))) (view c.in-Ok.new)
     (ap (patched_from 0 os) (sym c.in_ok-tree.ensures) ∙ c.in-Ok.ensures.patched) (λ (new : NewLink). link_of new.edge) c.judged_again.result c.judged_again.ensures.judged
 
-pub returns-clause-judged : goal.returns-clause-judged
-returns-clause-judged c =
+pub returns-in-Err-clause-judged : goal.returns-in-Err-clause-judged
+returns-in-Err-clause-judged c =
     fault_so (state_of c.args.lent.now) c.args.interface.now (link_of c.args.link.now) (operations_of c.args.patch.now.ops) (view c.in_ok-tree.tree) c.in_ok-tree.ensures c.in-Err.failure c.in-Err.ensures.patched

@@ -9,7 +9,7 @@ pub returns-then-twins_with-gt-MOST_TWINS : goal.returns-then-twins_with-gt-MOST
 returns-then-twins_with-gt-MOST_TWINS c =
     let t = twin_view c.args.twin.now in
     let size = c.requires.size in
-    let low = c.if-bytes-gt-MOST_TWIN_BYTES.false in
+    let low = c.requires.short in
     let count = c.twins_with.ensures t refl in
     let many = c.if-twins_with-gt-MOST_TWINS.true in
     over_twins (with_twin t (state_of c.args.lent.now)) t (omega (arith, size, low)) (omega (arith, count, many))
@@ -18,7 +18,7 @@ pub returns-then-bytes_with-gt-MOST_GRAPH_BYTES : goal.returns-then-bytes_with-g
 returns-then-bytes_with-gt-MOST_GRAPH_BYTES c =
     let t = twin_view c.args.twin.now in
     let size = c.requires.size in
-    let low = c.if-bytes-gt-MOST_TWIN_BYTES.false in
+    let low = c.requires.short in
     let count = c.twins_with.ensures t refl in
     let few = c.if-twins_with-gt-MOST_TWINS.false in
     let sum = c.bytes_with.ensures t refl c.requires.size in
@@ -29,7 +29,7 @@ pub returns : goal.returns
 returns c =
     let t = twin_view c.args.twin.now in
     let size = c.requires.size in
-    let low = c.if-bytes-gt-MOST_TWIN_BYTES.false in
+    let low = c.requires.short in
     let count = c.twins_with.ensures t refl in
     let few = c.if-twins_with-gt-MOST_TWINS.false in
     let sum = c.bytes_with.ensures t refl c.requires.size in

@@ -23,11 +23,11 @@ invariant_of-self c =
 
 pub returns-clause-judged : goal.returns-clause-judged
 returns-clause-judged c =
-    subst (λ (h : Holding). MatchResult c.judged_patch.result (λ n. BringsTwin (state_of h) (asks.PatchTwin c.args.id.now c.args.patch.now) c.args.id.now n.twin n.bytes n.tree) (FailsBy (Refuses (state_of h) (asks.PatchTwin c.args.id.now c.args.patch.now)))) (c.new-lent.ensures ∙ c.self.view_is)
-    (twin_brought (λ n. n.twin) (λ n. n.bytes) (λ n. n.tree) (state_of c.new-lent.result) (asks.PatchTwin c.args.id.now c.args.patch.now) c.args.id.now c.judged_patch.result c.judged_patch.ensures.judged c.judged_patch.ensures.id c.judged_patch.ensures.held c.judged_patch.ensures.tree)
+    subst (λ (h : Holding). MatchResult c.judged_patch.result (λ n. BringsTwin (state_of h) (asks.PatchTwin c.args.id.now c.args.patch.now) c.args.id.now n.twin n.bytes) (FailsBy (Refuses (state_of h) (asks.PatchTwin c.args.id.now c.args.patch.now)))) (c.new-lent.ensures ∙ c.self.view_is)
+    (twin_brought (λ n. n.twin) (λ n. n.bytes) (state_of c.new-lent.result) (asks.PatchTwin c.args.id.now c.args.patch.now) c.args.id.now c.judged_patch.result c.judged_patch.ensures.judged c.judged_patch.ensures.id c.judged_patch.ensures.held)
 
 pub returns-clause-typed : goal.returns-clause-typed
 returns-clause-typed c =
     subst (λ (h : Holding). IfOk c.judged_patch.result (λ n. WellTyped (with_twin (twin_view n.twin) (state_of h)))) (c.new-lent.ensures ∙ c.self.view_is)
-    (only_ok c.judged_patch.result _ _ _ (λ n b. patched_typed (state_of c.new-lent.result) c.args.id.now n.twin n.bytes n.tree c.args.patch.now (subst (λ (h : Holding). WellTyped (state_of h)) (sym c.new-lent.ensures) c.self.invariant.typed) c.requires b)
-    (twin_brought (λ n. n.twin) (λ n. n.bytes) (λ n. n.tree) (state_of c.new-lent.result) (asks.PatchTwin c.args.id.now c.args.patch.now) c.args.id.now c.judged_patch.result c.judged_patch.ensures.judged c.judged_patch.ensures.id c.judged_patch.ensures.held c.judged_patch.ensures.tree))
+    (only_ok c.judged_patch.result _ _ _ (λ n b. patched_typed (state_of c.new-lent.result) c.args.id.now n.twin n.bytes c.args.patch.now (subst (λ (h : Holding). WellTyped (state_of h)) (sym c.new-lent.ensures) c.self.invariant.typed) c.requires b)
+    (twin_brought (λ n. n.twin) (λ n. n.bytes) (state_of c.new-lent.result) (asks.PatchTwin c.args.id.now c.args.patch.now) c.args.id.now c.judged_patch.result c.judged_patch.ensures.judged c.judged_patch.ensures.id c.judged_patch.ensures.held))

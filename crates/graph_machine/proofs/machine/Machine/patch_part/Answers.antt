@@ -14,7 +14,7 @@ pub enter_twin-requires-clause-held : goal.enter_twin-requires-clause-held
 enter_twin-requires-clause-held c = c.in-Ok.ensures.judged.held
 
 pub returns-in_ok-enter_twin-in-Ok-clause-allowed : goal.returns-in_ok-enter_twin-in-Ok-clause-allowed
-returns-in_ok-enter_twin-in-Ok-clause-allowed c = part_patched (state_of c.args.self.now) c.args.id.now c.in-Ok.new.twin c.in-Ok.new.bytes c.in-Ok.new.tree c.args.name.now c.args.patch.now c.in-Ok.ensures.judged
+returns-in_ok-enter_twin-in-Ok-clause-allowed c = part_patched (state_of c.args.self.now) c.args.id.now c.in-Ok.new.twin c.in-Ok.new.bytes c.args.name.now c.args.patch.now c.in-Ok.ensures.judged
 
 pub returns-in_ok-enter_twin-in-Ok-clause-follows : goal.returns-in_ok-enter_twin-in-Ok-clause-follows
 returns-in_ok-enter_twin-in-Ok-clause-follows c = c.in_ok-enter_twin-in-Ok.ensures.ok ∙ ap (λ (h : Holding). with_twin (twin_view c.in-Ok.new.twin) (state_of h)) c.part_judged.ensures.same ∙ c.in-Ok.ensures.judged.put

@@ -7,6 +7,9 @@ use Rattle.graph_held.specs.Held.{Holding, state_of}
 use Rattle.graph_machine.proofs.Brought.{twin_put, failed_allows, failed_follows}
 use Rattle.graph_machine.proofs.machine.Machine.put_twin.Goals as goal
 
+pub twin_tree-requires : goal.twin_tree-requires
+twin_tree-requires c = c.in-Ok.ensures.judged.held.kept
+
 pub enter_twin-requires-clause-typed : goal.enter_twin-requires-clause-typed
 enter_twin-requires-clause-typed c = subst (λ (h : Holding). WellTyped (with_twin (twin_view c.in-Ok.new.twin) (state_of h))) (sym c.twin_judged.ensures.same) c.in-Ok.ensures.typed
 
@@ -14,7 +17,7 @@ pub enter_twin-requires-clause-held : goal.enter_twin-requires-clause-held
 enter_twin-requires-clause-held c = c.in-Ok.ensures.judged.held
 
 pub returns-in_ok-enter_twin-in-Ok-clause-allowed : goal.returns-in_ok-enter_twin-in-Ok-clause-allowed
-returns-in_ok-enter_twin-in-Ok-clause-allowed c = twin_put (state_of c.args.self.now) c.args.id.now c.in-Ok.new.twin c.in-Ok.new.bytes c.in-Ok.new.tree c.args.model.now c.args.body.now c.in-Ok.ensures.judged
+returns-in_ok-enter_twin-in-Ok-clause-allowed c = twin_put (state_of c.args.self.now) c.args.id.now c.in-Ok.new.twin c.in-Ok.new.bytes c.args.model.now c.args.body.now c.in_ok-tree-in-Ok.tree c.in_ok-tree-in-Ok.ensures c.in-Ok.ensures.judged
 
 pub returns-in_ok-enter_twin-in-Ok-clause-follows : goal.returns-in_ok-enter_twin-in-Ok-clause-follows
 returns-in_ok-enter_twin-in-Ok-clause-follows c = c.in_ok-enter_twin-in-Ok.ensures.ok ∙ ap (λ (h : Holding). with_twin (twin_view c.in-Ok.new.twin) (state_of h)) c.twin_judged.ensures.same ∙ c.in-Ok.ensures.judged.put

@@ -1,13 +1,8 @@
-use Rattle.std.proofs.Common.{◌≡◌, sym, ap, ◌∙◌, None}
-use Rattle.std.specs.Option.{option_copied_mut}
-use Rattle.std.specs.Map.{lookup, set_value}
-use Rattle.std.specs.BTreeMap.{is_at}
-use Rattle.ordered_table.proofs.Ordered.{set-absent}
+use Rattle.std.proofs.Common.{ap}
+use Rattle.std.specs.Option.{is_some}
+use Rattle.ordered_table.proofs.Ordered.{one_sorted}
 use Rattle.ordered_table.proofs.row.Row.set.Goals as goal
 
-pub returns-in_default-clause-entries : goal.returns-in_default-clause-entries
-returns-in_default-clause-entries g c =
-    let none : lookup (is_at (g.K.Ord.cmp c.args.key.now)) c.self.inside.entries.entries ≡ None = sym c.get_mut.ensures.value ∙ ap option_copied_mut c.in_default.is in
-    ap (λ m. m.entries) c.get_mut.follows.holds-at-none
-    ∙ sym (set-absent (is_at (g.K.Ord.cmp c.args.key.now)) c.self.inside.entries.entries c.args.value none)
-    ∙ ap (λ es. set_value (is_at (g.K.Ord.cmp c.args.key.now)) es c.args.value) c.self.view_is
+pub returns-in-Some-clause-ordered : goal.returns-in-Some-clause-ordered
+returns-in-Some-clause-ordered g c =
+    one_sorted g.K.Ord.cmp c.write.new.entry c.self.inside.entries.entries (c.self.invariant (ap is_some c.in-Some.is))

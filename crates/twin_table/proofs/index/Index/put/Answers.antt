@@ -41,6 +41,3 @@ returns-clause-err c =
     (λ k. ap (lookup (is_at (id_cmp k))) written ∙ lookup-set models_total k model new rows (subst IsSome (sym looked) refl))
     (same ∙ ap (λ o. unwrap_or o []) (sym looked)) m
     ∙ ap (ids_of m) c.self.view_is) c.insert.ensures.err
-
-pub invariant_of-self-2 : goal.invariant_of-self-2
-invariant_of-self-2 c = (c.get_mut.follows.holds c.insert.new.self).4
