@@ -3,6 +3,7 @@ pub mod Sought
 pub mod Hits
 pub mod Stands
 pub mod Pieces
+mod Slashes
 pub mod Names
 pub mod OuterBreaches
 pub mod Patched

@@ -1,7 +1,7 @@
 //! The parts of paths, and what they name.
 
-ghost use Rattle.std.specs.Prelude.{◌≡◌, ◌≤◌, ◌↔◌, ◌==◌, [], ℕ, List, length, get_or, slice_get, IfOk, IsTrue, MatchOption};
-ghost use Rattle.std.specs.List.{slice_split};
+ghost use Rattle.std.specs.Prelude.{◌≡◌, ◌≤◌, ◌↔◌, ◌==◌, ◌+◌, [], ℕ, List, drop, length, get_or, slice_get, IfOk, IsTrue, MatchOption};
+ghost use Rattle.std.specs.List.{position_or_len, slice_split};
 ghost use Rattle.std.specs.Option.{option_map};
 ghost use Rattle.dtmi_name.specs.Grammar.{Identifier, NameText, OwnDtmiText};
 ghost use Rattle.graph_routes.specs.Parts.{NamesComponent, NamesModel, part_at};
@@ -16,11 +16,34 @@ use std::alloc::Global;
 /// The most bytes of a model's identifier.
 const MOST_BYTES: usize = 128;
 
+/// The place of the first slash at or behind a place; the length where none stands there.
+fn next_slash(bytes: &[u8], from: usize) -> usize
+    requires { from ≤ length bytes.now }
+    ensures next { result ≡ from + position_or_len (λ b. b == 47) (drop from bytes.now) }
+    ensures within { result ≤ length bytes.now }
+{
+    let mut at = from;
+    'bytes: while at < bytes.len() && bytes[at] != b'/' {
+        at += 1;
+    }
+    at
+}
+
 /// What stands in a path behind so many of its slashes, up to the next one.
 fn found_piece(path: &str, slashes: usize) -> Option<&str>
     ensures { option_map (λ p. p.now) result ≡ slice_get (slice_split (λ b. b == 47) path.now) slashes }
 {
-    path.split('/').nth(slashes)
+    let bytes = path.as_bytes();
+    let mut start = 0;
+    'pieces: for _ in 0..slashes {
+        let slash = next_slash(bytes, start);
+        if slash == bytes.len() {
+            return None;
+        }
+        start = slash + 1;
+    }
+    let end = next_slash(bytes, start);
+    Some(&path[start..end])
 }
 
 /// The same, or the empty text.
