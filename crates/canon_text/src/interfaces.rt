@@ -64,7 +64,7 @@ pub fn canon_interface(alloc: Global, interface: &Interface) -> Result<List<u8>,
     ensures { IfOk result (λ bytes. bytes ≡ interface_text interface.now) }
 {
     let tree = canon_tree(alloc, interface)?;
-    let text = print(alloc, &tree)?.inner;
+    let text = print(alloc, &tree)?.into_string(alloc)?;
     Ok(List::from_vec(text.into_bytes()))
 }
 
@@ -95,7 +95,7 @@ pub fn canon(alloc: Global, interfaces: &[Interface]) -> Result<List<u8>, OutOfM
     ensures { IfOk result (λ bytes. bytes ≡ set_text interfaces.now) }
 {
     let tree = canon_set_tree(alloc, interfaces)?;
-    let mut text = print(alloc, &tree)?.inner;
+    let mut text = print(alloc, &tree)?.into_string(alloc)?;
     text.push_str("\n")?;
     Ok(List::from_vec(text.into_bytes()))
 }

@@ -3,3 +3,4 @@ pub mod Faults
 pub mod Files
 pub mod Pieces
 pub mod Shelves
+pub mod Texts

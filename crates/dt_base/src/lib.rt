@@ -14,6 +14,7 @@ mod memory;
 mod object;
 mod reads;
 mod shelf;
+mod short;
 mod sink;
 mod source;
 mod std_io;

@@ -1,15 +1,26 @@
 ghost use Rattle.std.specs.Prelude.{◌≡◌, IfOk, string_bytes};
 
 use crate::OutOfMemory;
+use crate::short::Short;
 use std::alloc::Global;
 use std::cmp::Ordering;
 use std::marker::Model;
 
 /// A text in UTF-8 that contracts see as the list of its bytes. Texts are ordered by their bytes, so in
 /// the order of their scalar values, and a text that another begins with comes before it.
+///
+/// A text of at most 30 bytes is held in place unless it was made of a `String`, so that most identifiers and keys take no
+/// memory of their own and are compared where they lie.
 #[derive(Debug, Drop)]
 pub struct Text {
-    pub inner: String,
+    held: Held,
+}
+
+/// Where the bytes of a text lie.
+#[derive(Debug, Drop)]
+enum Held {
+    InPlace(Short),
+    Apart(String),
 }
 
 impl Model for Text {
@@ -20,7 +31,9 @@ impl Model for Text {
 
     ghost coded = { coded_list coded_ℕ };
 
-    ghost view = { λ t. string_bytes t.inner };
+    ghost use Rattle.dt_base.specs.Texts.{held_bytes};
+
+    ghost view = { λ t. held_bytes t.held };
 }
 
 impl Text {
@@ -28,29 +41,54 @@ impl Text {
     pub fn from_str(alloc: Global, text: &str) -> Result<Text, OutOfMemory>
         ensures { IfOk result (λ t. t ≡ text.now) }
     {
-        let inner = String::from_str(alloc, text)?;
-        Ok(Text { inner })
+        if let Some(short) = Short::from_str(text) {
+            return Ok(Text {
+                held: Held::InPlace(short),
+            });
+        }
+        let string = String::from_str(alloc, text)?;
+        Ok(Text {
+            held: Held::Apart(string),
+        })
     }
 
     /// The text of a `String`, which is moved.
-    pub fn from_string(inner: String) -> Text
-        ensures { result ≡ string_bytes inner }
+    pub fn from_string(string: String) -> Text
+        ensures { result ≡ string_bytes string }
     {
-        Text { inner }
+        Text {
+            held: Held::Apart(string),
+        }
+    }
+
+    /// The bytes as a `String`, which is moved where the text was made of one. Fails only for want of memory.
+    pub fn into_string(self, alloc: Global) -> Result<String, OutOfMemory>
+        ensures { IfOk result (λ string. string_bytes string ≡ self) }
+    {
+        match self.held {
+            Held::InPlace(short) => Ok(String::from_str(alloc, short.as_str())?),
+            Held::Apart(string) => Ok(string),
+        }
     }
 
     /// Its bytes, as text.
     pub fn as_str(&self) -> &str
         ensures { result.now ≡ self.now }
     {
-        self.inner.as_str()
+        match &self.held {
+            Held::InPlace(short) => short.as_str(),
+            Held::Apart(string) => string.as_str(),
+        }
     }
 
     /// Its bytes.
     pub fn as_bytes(&self) -> &[u8]
         ensures { result.now ≡ self.now }
     {
-        self.inner.as_bytes()
+        match &self.held {
+            Held::InPlace(short) => short.as_bytes(),
+            Held::Apart(string) => string.as_bytes(),
+        }
     }
 
     /// An equal text.
@@ -71,7 +109,7 @@ impl PartialEq for Text {
     ghost laws = { Prim.search (comparing, rules) };
 
     fn eq(&self, other: &Text) -> bool {
-        self.inner == other.inner
+        self.as_str() == other.as_str()
     }
 }
 
@@ -112,6 +150,6 @@ impl Ord for Text {
     ghost matches_eq = { Prim.search (comparing, rules) };
 
     fn cmp(&self, other: &Text) -> Ordering {
-        self.inner.cmp(&other.inner)
+        self.as_str().cmp(other.as_str())
     }
 }

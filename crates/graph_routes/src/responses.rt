@@ -68,7 +68,7 @@ fn printed_in(alloc: Global, status: u16, tree: &Tree) -> Result<Response, OutOf
     Ok(Response {
         status,
         allow: None,
-        body: List::from_vec(text.inner.into_bytes()),
+        body: List::from_vec(text.into_string(alloc)?.into_bytes()),
     })
 }
 

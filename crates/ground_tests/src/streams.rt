@@ -89,6 +89,29 @@ fn copies_and_quiet_objects(rt: HostRuntime) -> Result<(), Fail> {
 }
 
 #[test]
+fn texts_are_the_same_wherever_they_lie(rt: HostRuntime) -> Result<(), Fail> {
+    let rows = [
+        "",
+        "é",
+        "29 bytes, that is one too few",
+        "30 bytes, the most with an é.",
+        "30 bytes, for which is room en",
+        "31 bytes, one more than fits in",
+        "31 bytes, which ends with an é",
+    ];
+    for row in rows {
+        let made = Text::from_str(rt.alloc(), row)?;
+        let moved = Text::from_string(String::from_str(rt.alloc(), row)?);
+        assert_eq!(rt; made.as_str(), row);
+        assert!(rt; made == moved, "{row}");
+        assert!(rt; made.cmp(&moved).is_eq(), "{row}");
+        assert_eq!(rt; made.into_string(rt.alloc())?.as_str(), row);
+        assert_eq!(rt; moved.into_string(rt.alloc())?.as_str(), row);
+    }
+    Ok(())
+}
+
+#[test]
 fn texts_key_maps_by_their_bytes(rt: HostRuntime) -> Result<(), Fail> {
     let mut sizes = BTreeMap::new(rt.alloc());
     for name in ["b", "", "é", "ab", "a", "B"] {

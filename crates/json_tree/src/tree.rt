@@ -32,6 +32,6 @@ pub struct Member {
 }
 
 // Where a text is read, its tree takes most of the memory.
-const _: () = prove!(size_of::<Tree>() == 32);
+const _: () = prove!(size_of::<Tree>() == 40);
 
-const _: () = prove!(size_of::<Member>() == 56);
+const _: () = prove!(size_of::<Member>() == 72);

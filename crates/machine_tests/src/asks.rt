@@ -36,7 +36,7 @@ pub(crate) fn model_id(rt: &impl Abort, alloc: Global, text: &str) -> Result<Dtm
 /// A reply as its text.
 pub(crate) fn shown(alloc: Global, reply: &Reply) -> Result<String, Fail> {
     match reply {
-        Reply::Body(tree) | Reply::Created(tree) => Ok(print(alloc, tree)?.inner),
+        Reply::Body(tree) | Reply::Created(tree) => Ok(print(alloc, tree)?.into_string(alloc)?),
         Reply::Canon(bytes) => Ok(String::from_utf8(bytes.as_slice().to_vec(alloc)?)?),
         Reply::Done => Ok(String::from_str(alloc, "done")?),
         Reply::Refused(refusal) => shown_refusal(alloc, refusal),

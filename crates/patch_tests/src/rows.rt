@@ -39,7 +39,7 @@ fn applied(alloc: Global, tree: &Tree, patch: &Patch) -> Result<String, Fail>
 {
     let patch = patch.copy(alloc)?;
     match apply(alloc, tree, &patch) {
-        Ok(tree) => Ok(print(alloc, &tree)?.inner),
+        Ok(tree) => Ok(print(alloc, &tree)?.into_string(alloc)?),
         Err(ApplyEnd::NoTarget { index }) => Ok(format!(in alloc;
             "{} {index}",
             PatchCode::NoTarget.text()

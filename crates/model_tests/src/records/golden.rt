@@ -1,5 +1,6 @@
 //! Every field of a read record, printed once, with neighbours that differ.
 
+use super::readable;
 use model_read::read_interfaces;
 use std::alloc::Global;
 use std::test::Fail;
@@ -21,15 +22,15 @@ const NO_TEXTS: &str =
 /// The second interface of the document.
 const RECORD: [&str; 58] = [
     r#"Uploaded { interface: Interface { id: Dtmi { text: "dtmi:a;1", path_end: 6, version: 1 }"#,
-    r#", comment: Some(Text { inner: "ic" })"#,
-    r#", description: Localized { entries: List { items: [Entry { language: Text { inner: "en" }, text: Text { inner: "id" } }] } }"#,
-    r#", display_name: Localized { entries: List { items: [Entry { language: Text { inner: "en" }, text: Text { inner: "in" } }"#,
-    r#", Entry { language: Text { inner: "de" }, text: Text { inner: "iv" } }] } }"#,
+    r#", comment: Some(Text { held: Apart("ic") })"#,
+    r#", description: Localized { entries: List { items: [Entry { language: Text { held: Apart("en") }, text: Text { held: Apart("id") } }] } }"#,
+    r#", display_name: Localized { entries: List { items: [Entry { language: Text { held: Apart("en") }, text: Text { held: Apart("in") } }"#,
+    r#", Entry { language: Text { held: Apart("de") }, text: Text { held: Apart("iv") } }] } }"#,
     r#", parents: List { items: [Dtmi { text: "dtmi:p;2", path_end: 6, version: 2 }] }, contents: List { items: ["#,
     r#"Content { name: Name { text: "t" }, common: Common { id: Some(Dtmi { text: "dtmi:t;1", path_end: 6, version: 1 })"#,
-    r#", comment: Some(Text { inner: "tc" })"#,
-    r#", description: Localized { entries: List { items: [Entry { language: Text { inner: "en" }, text: Text { inner: "td" } }] } }"#,
-    r#", display_name: Localized { entries: List { items: [Entry { language: Text { inner: "en" }, text: Text { inner: "tn" } }] } } }"#,
+    r#", comment: Some(Text { held: Apart("tc") })"#,
+    r#", description: Localized { entries: List { items: [Entry { language: Text { held: Apart("en") }, text: Text { held: Apart("td") } }] } }"#,
+    r#", display_name: Localized { entries: List { items: [Entry { language: Text { held: Apart("en") }, text: Text { held: Apart("tn") } }] } } }"#,
     r#", kind: Telemetry { schema: Primitive(Double), semantic: Some(Name { text: "Ta" }), unit: Some(Name { text: "tu" }) } }"#,
     r#", Content { name: Name { text: "p" }, common: "#,
     BARE,
@@ -55,7 +56,7 @@ const RECORD: [&str; 58] = [
     NO_TEXTS,
     r#", of_text: true, values: List { items: [EnumEntry { name: Name { text: "x" }, common: "#,
     BARE,
-    r#", value: Word(Text { inner: "y" }) }] } }, Map { common: "#,
+    r#", value: Word(Text { held: Apart("y") }) }] } }, Map { common: "#,
     COMMON,
     r#""dtmi:m;1", path_end: 6, version: 1"#,
     NO_TEXTS,
@@ -77,7 +78,7 @@ const RECORD: [&str; 58] = [
     NO_TEXTS,
     r#", of_text: false, values: List { items: [EnumEntry { name: Name { text: "z" }, common: "#,
     BARE,
-    r#", value: Number(-3) }] } }] } }, document: 9, base: Text { inner: "/1" }, index: 1, id_at: 5, parents_at: Some(2), parents_as_text: true, contents_at: Some(0) }"#,
+    r#", value: Number(-3) }] } }] } }, document: 9, base: Text { held: Apart("/1") }, index: 1, id_at: 5, parents_at: Some(2), parents_as_text: true, contents_at: Some(0) }"#,
 ];
 
 fn joined(alloc: Global, pieces: &[&str]) -> Result<String, Fail> {
@@ -96,7 +97,8 @@ fn prints_every_field(rt: HostRuntime) -> Result<(), Fail> {
     let Some(uploaded) = uploads.as_slice().last() else {
         panic!(rt; "the document declares two interfaces")
     };
-    let got = format!(in alloc; "{uploaded:?}")?;
+    let shown = format!(in alloc; "{uploaded:?}")?;
+    let got = readable(alloc, shown.as_str())?;
     let want = joined(alloc, &RECORD)?;
     assert_eq!(rt; got.as_str(), want.as_str());
     Ok(())

@@ -26,6 +26,18 @@ new-preserved c =
       others = λ q off. let both = others_next c.new.yielded u [] q off in c.enter.ensures.others q both.1 ∙ c.new.invariant.others q both.0;
     }
 
+pub new-preserved-in_ok-enter : goal.new-preserved-in_ok-enter
+new-preserved-in_ok-enter c =
+    let u : Uploaded = c.in-Some.upload in
+    let rest : List Uploaded = c.next.new.self.rest.items in
+    let split : c.new.yielded ++ c.in-Some.upload ∷ c.next.new.self.rest.items ≡ c.args.new = ap (λ r. c.new.yielded ++ r) (sym c.in-Some.ensures.steps.0) ∙ c.new.invariant.whole in
+    record {
+      whole = append_assoc c.new.yielded (u ∷ []) rest ∙ split;
+      set = c.in_ok-enter.ensures.ok ∙ ap (with_interface u.interface) c.new.invariant.set ∙ sym (with_more c.new.yielded u c.args.set.now);
+      records = records_next c.new.yielded u rest c.new.records c.enter.new.records (subst (λ us. AreApart (map (λ (v : Uploaded). v.interface) us)) (sym split) c.requires.apart) c.in_ok-enter.ensures.record c.new.invariant.records;
+      others = λ q off. let both = others_next c.new.yielded u [] q off in c.enter.ensures.others q both.1 ∙ c.new.invariant.others q both.0;
+    }
+
 pub returns-in_err-enter-clause-ordered : goal.returns-in_err-enter-clause-ordered
 returns-in_err-enter-clause-ordered c =
     let u : Uploaded = c.in-Some.upload in

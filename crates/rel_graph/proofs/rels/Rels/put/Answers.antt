@@ -49,3 +49,8 @@ pub invariant_of-self-in-Err : goal.invariant_of-self-in-Err
 invariant_of-self-in-Err g c =
     kept-back c.self.inside.edges c.reserve.new.self c.reserve.new.self.capacity c.self.inside.order c.insert.new.self c.self.inside.index.links c.enter.new.self.links c.leave-in-Err.new.self.links c.self.inside.index.counts c.enter.new.self.counts c.leave-in-Err.new.self.counts c.self.inside.len
     c.self.invariant c.reserve.ensures.rest_kept c.in-Err.ensures.err c.args.edge c.vacant_key-slot.result c.in-Ok-enter.link c.in-Ok-enter.ensures.old c.in-Ok-enter.ensures.links c.in-Ok-enter.ensures.counts c.leave-in-Err.ensures.links c.leave-in-Err.ensures.counts
+
+pub invariant_of-self-in-Err-2 : goal.invariant_of-self-in-Err-2
+invariant_of-self-in-Err-2 g c =
+    kept-back c.self.inside.edges c.reserve.new.self c.reserve.new.self.capacity c.self.inside.order c.insert.new.self c.self.inside.index.links c.enter.new.self.links c.leave-in-Err.new.self.links c.self.inside.index.counts c.enter.new.self.counts c.leave-in-Err.new.self.counts c.self.inside.len
+    c.self.invariant c.reserve.ensures.rest_kept c.in-Err.ensures.err c.args.edge c.vacant_key-slot.result c.in-Ok-enter.link c.in-Ok-enter.ensures.old c.in-Ok-enter.ensures.links c.in-Ok-enter.ensures.counts c.leave-in-Err.ensures.links c.leave-in-Err.ensures.counts
