@@ -29,11 +29,18 @@ impl Decimal {
         ensures literal { IfOk result (λ text. IsLiteralOf (string_bytes text) (number_of self.now)) }
     {
         let mut text = String::with_capacity(alloc, LONGEST)?;
+        self.push(&mut text)?;
+        Ok(text)
+    }
+
+    /// Appends the text that `print` gives. Fails only for want of memory.
+    pub fn push(&self, text: &mut String) -> Result<(), AllocError>
+        ensures { OnOk result (string_bytes text.new ≡ string_bytes text.old ++ text_of (number_of self.now)) }
+    {
         if self.negative {
             text.push('-')?;
         }
-        push_size(&mut text, self.coefficient(), self.exponent)?;
-        Ok(text)
+        push_size(text, self.coefficient(), self.exponent)
     }
 }
 
@@ -62,7 +69,7 @@ fn push_whole(text: &mut String, coefficient: u128, power: u32) -> Result<(), Al
         (string_bytes text.new ≡ string_bytes text.old ++ whole_text (decimal coefficient) power) }
 {
     if power <= MOST_DIGITS - digit_count(coefficient) {
-        write!(text, "{coefficient}")?;
+        push_digits(text, coefficient)?;
         push_zeros(text, power)
     } else {
         write!(text, "{coefficient}e{power}")
@@ -82,7 +89,7 @@ fn push_fraction(text: &mut String, coefficient: u128, places: u32) -> Result<()
     if places < MOST_DIGITS {
         text.push_str("0.")?;
         push_zeros(text, places - count)?;
-        write!(text, "{coefficient}")
+        push_digits(text, coefficient)
     } else {
         write!(text, "{coefficient}e-{places}")
     }
@@ -95,9 +102,21 @@ fn push_pointed(text: &mut String, coefficient: u128, places: u32) -> Result<(),
     ensures { OnOk result
         (string_bytes text.new ≡ string_bytes text.old ++ pointed_text (decimal coefficient) places) }
 {
-    write!(text, "{coefficient}")?;
+    push_digits(text, coefficient)?;
     let end = text.as_str().len();
     text.insert(end - places as usize, '.')
+}
+
+/// Writes the digits of a whole number; those of one of 64 bits are found several times as fast.
+fn push_digits(text: &mut String, coefficient: u128) -> Result<(), AllocError>
+    ensures { OnOk result (string_bytes text.new ≡ string_bytes text.old ++ decimal coefficient) }
+{
+    if coefficient <= u64::MAX as u128 {
+        let short = coefficient as u64;
+        write!(text, "{short}")
+    } else {
+        write!(text, "{coefficient}")
+    }
 }
 
 fn push_zeros(text: &mut String, count: u32) -> Result<(), AllocError>

@@ -110,12 +110,12 @@ pub fn push_quoted(out: &mut String, text: &str) -> Result<(), AllocError>
     out.push('"')
 }
 
-fn push_number(alloc: Global, out: &mut String, decimal: &Decimal) -> Result<(), AllocError>
+fn push_number(out: &mut String, decimal: &Decimal) -> Result<(), AllocError>
     ensures printed { OnOk result (string_bytes out.new ≡ string_bytes out.old ++ text_of (number_of decimal.now)) }
     ensures of_tree { IsOfTree (number (number_of decimal.now)) }
 {
     of_number(decimal);
-    out.push_str(decimal.print(alloc)?.as_str())
+    decimal.push(out)
 }
 
 /// Appends a comma, unless this is the first position.
@@ -130,7 +130,7 @@ fn push_comma(out: &mut String, position: usize) -> Result<(), AllocError>
 
 /// Appends a value, of which its texts and numbers then say that they are those of a tree.
 #[cycle(prints)]
-fn push_value(alloc: Global, out: &mut String, tree: &Tree) -> Result<(), AllocError>
+fn push_value(out: &mut String, tree: &Tree) -> Result<(), AllocError>
     ensures printed { OnOk result (string_bytes out.new ≡ string_bytes out.old ++ printed (view tree.now)) }
     ensures of_tree { OnOk result (IsOfTree (view tree.now)) }
 {
@@ -138,35 +138,35 @@ fn push_value(alloc: Global, out: &mut String, tree: &Tree) -> Result<(), AllocE
         Tree::Null => out.push_str("null"),
         Tree::Bool(true) => out.push_str("true"),
         Tree::Bool(false) => out.push_str("false"),
-        Tree::Number(decimal) => push_number(alloc, out, decimal),
+        Tree::Number(decimal) => push_number(out, decimal),
         Tree::Text(text) => push_quoted(out, text.as_str()),
         Tree::List(items) => {
             out.push('[')?;
-            push_elements(alloc, out, items.as_slice())
+            push_elements(out, items.as_slice())
         }
         Tree::Members(members) => {
             out.push('{')?;
-            push_members(alloc, out, members.as_slice())
+            push_members(out, members.as_slice())
         }
     }
 }
 
 /// Appends elements and the closing bracket.
 #[cycle(prints)]
-fn push_elements(alloc: Global, out: &mut String, items: &[Tree]) -> Result<(), AllocError>
+fn push_elements(out: &mut String, items: &[Tree]) -> Result<(), AllocError>
     ensures printed { OnOk result (string_bytes out.new ≡ string_bytes out.old ++ printed_elements (elements_view items.now)) }
     ensures of_tree { OnOk result (AreOfTrees (elements_view items.now)) }
 {
     for (position, item) in items.iter().enumerate() {
         push_comma(out, position)?;
-        push_value(alloc, out, item)?;
+        push_value(out, item)?;
     }
     out.push(']')
 }
 
 /// Appends members and the closing brace.
 #[cycle(prints)]
-fn push_members(alloc: Global, out: &mut String, members: &[Member]) -> Result<(), AllocError>
+fn push_members(out: &mut String, members: &[Member]) -> Result<(), AllocError>
     ensures printed { OnOk result (string_bytes out.new ≡ string_bytes out.old ++ printed_members (members_view members.now)) }
     ensures of_tree { OnOk result (MembersAreOfTrees (members_view members.now)) }
 {
@@ -174,7 +174,7 @@ fn push_members(alloc: Global, out: &mut String, members: &[Member]) -> Result<(
         push_comma(out, position)?;
         push_quoted(out, member.key.as_str())?;
         out.push(':')?;
-        push_value(alloc, out, &member.value)?;
+        push_value(out, &member.value)?;
     }
     out.push('}')
 }
@@ -193,6 +193,6 @@ pub fn print(alloc: Global, tree: &Tree) -> Result<Text, OutOfMemory>
         → IfOk result (λ t. Spells t (view tree.now)) }
 {
     let mut out = String::with_capacity(alloc, FIRST_ROOM)?;
-    push_value(alloc, &mut out, tree)?;
+    push_value(&mut out, tree)?;
     Ok(Text::from_string(out))
 }

@@ -7,6 +7,6 @@ use Rattle.json_decimal.proofs.decimal.Decimal.print.Goals as goal
 
 pub returns-clause-literal : goal.returns-clause-literal
 returns-clause-literal c =
-    let text : string_bytes c.push_size.new.text ≡ text_of (number_of c.args.self.now) = search rules in
+    let text : string_bytes c.push.new.text ≡ text_of (number_of c.args.self.now) = search rules in
     let P : List ℕ → Type 0 = λ t. IsLiteralOf t (number_of c.args.self.now) in
     subst P (sym text) (decimal_reads_back c.args.self.now)
