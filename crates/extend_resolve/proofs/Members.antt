@@ -1,7 +1,7 @@
 -- Elements of lists, by position, by their own tests and by the list's.
-use Rattle.std.proofs.Common.{◌≡◌, ◌≢◌, ◌↔◌, ℕ, zero, suc, ◌+◌, ◌<◌, ◌≤◌, ◌⊎◌, inl, inr, List, [], ◌∷◌, ◌++◌, Bool, true, false, cond, ◌||◌, length, map, take, get_or, slice_index_or, nat_eq, not, Option, Some, None, refl, sym, ap, ◌∙◌, subst, true≢false, arith}
+use Rattle.std.proofs.Common.{◌≡◌, ◌≢◌, ℕ, zero, suc, ◌+◌, ◌<◌, ◌⊎◌, inl, inr, List, [], ◌∷◌, ◌++◌, Bool, true, false, ◌||◌, length, map, take, get_or, slice_index_or, nat_eq, Option, Some, None, refl, sym, ap, ◌∙◌, subst, true≢false, arith}
 use Rattle.std.specs.Prelude.{slice_get, Contains, IsSome}
-use Rattle.std.specs.List.{AllByRecursion, list_any, filter_map, cons_option}
+use Rattle.std.specs.List.{AllByRecursion, AllZip, list_any, filter_map, cons_option}
 use Rattle.std.proofs.lemmas.Bool.Decides.{nat_tests}
 use Rattle.std.proofs.lemmas.Option.{same_Some, none-some}
 use Rattle.extend_resolve.specs.Machinery.Links.{IsIn}
@@ -172,18 +172,22 @@ module _ {X : Type 0} (P Q : X → Type 0) (weaker : (x : X) → P x → Q x) wh
   all_weaker [] all = tt
   all_weaker (x ∷ xs) all = (weaker x all.0, all_weaker xs all.1)
 
-module _ {X Y : Type 0} (f : X → Y) where
-  pub all_mapped : (P : Y → Type 0) (xs : List X) → AllByRecursion (λ x. P (f x)) xs → AllByRecursion P (map f xs)
-  all_mapped P [] all = tt
-  all_mapped P (x ∷ xs) all = (all.0, all_mapped P xs all.1)
+module _ {X Y : Type 0} (P Q : X → Y → Type 0) (weaker : (x : X) (y : Y) → P x y → Q x y) where
+  pub zip_weaker : (xs : List X) (ys : List Y) → AllZip P xs ys → AllZip Q xs ys
+  zip_weaker [] [] all = tt
+  zip_weaker [] (y ∷ ys) all = absurd all
+  zip_weaker (x ∷ xs) [] all = absurd all
+  zip_weaker (x ∷ xs) (y ∷ ys) all = (weaker x y all.0, zip_weaker xs ys all.1)
 
-  pub all_unmapped : (P : Y → Type 0) (xs : List X) → AllByRecursion P (map f xs) → AllByRecursion (λ x. P (f x)) xs
-  all_unmapped P [] all = tt
-  all_unmapped P (x ∷ xs) all = (all.0, all_unmapped P xs all.1)
+  zip_taken : (xs : List X) (ys : List Y) (k : ℕ) (x : X) (y : Y) → slice_get xs k ≡ Some x → AllZip P (take k xs) ys → Q x y → AllZip Q (take (suc k) xs) (ys ++ y ∷ [])
+  zip_taken [] ys k x y h all q = absurd (none-some x h)
+  zip_taken (z ∷ xs) [] zero x y h all q = (subst (λ v. Q v y) (sym (same_Some z x h)) q, tt)
+  zip_taken (z ∷ xs) (w ∷ ys) zero x y h all q = absurd all
+  zip_taken (z ∷ xs) [] (suc k) x y h all q = absurd all
+  zip_taken (z ∷ xs) (w ∷ ys) (suc k) x y h all q = (weaker z w all.0, zip_taken xs ys k x y h all.1 q)
 
-  pub map_twice : {Z : Type 0} (g : Y → Z) (xs : List X) → map g (map f xs) ≡ map (λ x. g (f x)) xs
-  map_twice g [] = refl
-  map_twice g (x ∷ xs) = ap (λ zs. g (f x) ∷ zs) (map_twice g xs)
+  pub zip_take_more : (xs : List X) (ys : List Y) (k : ℕ) (x : X) (y : Y) → slice_get xs k ≡ Some x → AllZip P (take k xs) ys → Q x y → AllZip Q (take (k + 1) xs) (ys ++ y ∷ [])
+  zip_take_more xs ys k x y h all q = let e : suc k ≡ k + 1 = omega arith in subst (λ n. AllZip Q (take n xs) (ys ++ y ∷ [])) e (zip_taken xs ys k x y h all q)
 
 pub read_option : {X : Type 0} (xs : List (Option X)) (k : ℕ) (x : Option X) → k < length xs → x ≡ get_or xs k x → x ≡ get_or xs k None
 read_option xs k x low is = is ∙ sym (read_at xs (get_or xs k x) None k (read_placed xs k x low))
