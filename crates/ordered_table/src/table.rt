@@ -12,7 +12,7 @@ ghost use Rattle.ordered_table.specs.Rows.{pair_cmp, row_of, next_in, flat};
 
 use crate::entries::Entries;
 use crate::row::Row;
-use dt_base::{OutOfMemory, Text};
+use dt_base::Text;
 use std::alloc::{AllocFailed, Global};
 use std::collections::BTreeMap;
 use std::collections::btree_map::Range;

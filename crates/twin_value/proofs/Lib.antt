@@ -13,4 +13,4 @@ pub mod Linked
 pub mod OneBreach
 pub mod Outermost
 pub mod TwinLengths
-pub mod Marked
+pub mod Dollar

@@ -4,4 +4,4 @@ pub mod Views
 pub mod Walks
 pub mod Gathering
 pub mod Outer
-pub mod Marks
+pub mod Dollar

@@ -5,7 +5,7 @@ ghost use Rattle.std.specs.Option.{option_map};
 ghost use Rattle.dtdl_terms.specs.TermViews.{kind_term, contents_term};
 ghost use Rattle.twin_value.specs.Roles.{member_role, twin_metadata, declared_role, twin_declared_role, twin_content_role, part_content_role, link_property_role, twin_role, part_role, link_role};
 ghost use Rattle.twin_value.specs.Named.{property_called};
-ghost use Rattle.twin_value.specs.Machinery.Marks.{begins_with_mark};
+ghost use Rattle.twin_value.specs.Machinery.Dollar.{begins_with_dollar};
 ghost use Rattle.twin_value.specs.Machinery.Views.{role_view};
 
 use crate::index::Index;
@@ -108,9 +108,9 @@ pub fn metadata_role<'r, 'a>(key: &str) -> Role<'r, 'a>
     }
 }
 
-/// Whether a key begins with the mark of the words that no content is called by.
-fn begins_with_mark(key: &str) -> bool
-    ensures { result ≡ begins_with_mark key.now }
+/// Whether a key begins with `$`, as the words do that no content is called by.
+fn begins_with_dollar(key: &str) -> bool
+    ensures { result ≡ begins_with_dollar key.now }
 {
     match key.as_bytes().first() {
         Some(byte) => *byte == b'$',
@@ -119,7 +119,7 @@ fn begins_with_mark(key: &str) -> bool
 }
 
 /// The role of a member of a twin.
-#[tactic(auto, using(crate::proofs::Marked::unmarked))]
+#[tactic(auto, using(crate::proofs::Dollar::unmarked))]
 pub fn twin_role<'r, 'a>(
     library: &'r Library<'a>,
     contents: &Index<'r, ResolvedContent>,
@@ -127,7 +127,7 @@ pub fn twin_role<'r, 'a>(
 ) -> Role<'r, 'a>
     ensures { role_view result ≡ twin_role library.now contents.now key.now }
 {
-    if begins_with_mark(key) {
+    if begins_with_dollar(key) {
         if key == "$metadata" {
             return Role::TwinMetadata;
         }
@@ -142,7 +142,7 @@ pub fn twin_role<'r, 'a>(
 }
 
 /// The role of a member of a component.
-#[tactic(auto, using(crate::proofs::Marked::unmarked))]
+#[tactic(auto, using(crate::proofs::Dollar::unmarked))]
 pub fn part_role<'r, 'a>(
     library: &'r Library<'a>,
     contents: &Index<'r, ResolvedContent>,
@@ -150,14 +150,14 @@ pub fn part_role<'r, 'a>(
 ) -> Role<'r, 'a>
     ensures { role_view result ≡ part_role library.now contents.now key.now }
 {
-    if begins_with_mark(key) && key == "$metadata" {
+    if begins_with_dollar(key) && key == "$metadata" {
         return Role::Object;
     }
     part_content_role(library, contents.get(key))
 }
 
 /// The role of a member of a relationship.
-#[tactic(auto, using(crate::proofs::Marked::unmarked))]
+#[tactic(auto, using(crate::proofs::Dollar::unmarked))]
 pub fn link_role<'r, 'a>(
     library: &'r Library<'a>,
     from: &Option<&'r Dtmi>,
@@ -166,7 +166,7 @@ pub fn link_role<'r, 'a>(
 ) -> Role<'r, 'a>
     ensures { role_view result ≡ link_role library.now (option_map (λ f. f.now) from.now) (contents_term properties.now) key.now }
 {
-    if begins_with_mark(key) {
+    if begins_with_dollar(key) {
         if key == "$targetId" {
             return Role::TargetId;
         }
