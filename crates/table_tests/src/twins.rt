@@ -138,12 +138,12 @@ fn is_same_answer(twin: &Option<Twin>, row: &Option<Row>) -> bool {
 
 fn is_get_alike(twins: &Twins, plain: &Plain, id: &Text) -> bool {
     let (place, is_there) = plain.place(id);
-    match (twins.get(id), plain.rows.get(place)) {
-        (Some(twin), Some(row)) => {
-            is_there && is_same(twin, row) && twins.bytes_of(id) == Some(row.bytes)
+    match (twins.get(id), twins.held(id), plain.rows.get(place)) {
+        (Some(twin), Some(held), Some(row)) => {
+            is_there && is_same(twin, row) && is_same(&held.twin, row) && held.bytes == row.bytes
         }
-        (Some(_), None) => false,
-        (None, _) => !is_there && twins.bytes_of(id).is_none(),
+        (None, None, _) => !is_there,
+        _ => false,
     }
 }
 

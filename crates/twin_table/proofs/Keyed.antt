@@ -1,5 +1,5 @@
 -- Lists of what has an id, each under its own.
-use Rattle.std.proofs.Common.{◌≡◌, ℕ, List, [], ◌∷◌, map, Bool, true, false, cond, Some, refl, sym, ap, ◌∙◌, Less, Equal, Greater, is_eq, subst}
+use Rattle.std.proofs.Common.{◌≡◌, ℕ, List, [], ◌∷◌, map, Bool, true, false, cond, Some, None, length, refl, sym, ap, ◌∙◌, Less, Equal, Greater, is_eq, subst}
 use Rattle.std.specs.Prelude.{bytes_eq}
 use Rattle.std.specs.Ordering.{match_ordering}
 use Rattle.std.specs.List.{filter, find}
@@ -8,8 +8,10 @@ use Rattle.std.specs.Map.{lookup, remove_entry, set_value, keys_of, values_of}
 use Rattle.std.specs.Option.{IsSome}
 use Rattle.std.specs.BTreeMap.{is_at, insert_entry}
 use Rattle.std.proofs.lemmas.Cmp.{eq_by_cmp_equiv}
-use Rattle.std.proofs.lemmas.Map.{keys-set_value}
+use Rattle.std.proofs.lemmas.Option.{none-some}
+use Rattle.std.proofs.lemmas.Map.{keys-set_value, length-set_value}
 use Rattle.std.proofs.lemmas.Map.Lookups.{exact_bytes}
+use Rattle.std.proofs.lemmas.Map.Steps.{set_value_same}
 use Rattle.std.proofs.lemmas.Map.Text.{is_eq-slice_cmp}
 use Rattle.ordered_table.proofs.Flat.{C, c_total}
 use Rattle.ordered_table.proofs.Ordered.{lookup-insert}
@@ -74,3 +76,22 @@ set-insert id old new es sorted there =
     (subst (IsStrictlySortedBy C) (sym (keys-set_value (is_at (C id)) es new)) sorted)
     (sorted-insert c_total id new es sorted)
     (λ q. lookup-set c_total q id new es (subst IsSome (sym there) refl) ∙ sym (lookup-insert c_total q id new es))
+
+-- so that what was there, written at its key, changes nothing
+pub insert-same : {T : Type 0} (id : List ℕ) (old : T) (es : List (List ℕ × T)) → IsStrictlySortedBy C (keys_of es) → lookup (is_at (C id)) es ≡ Some old
+    → insert_entry C es id old ≡ es
+insert-same id old es sorted there = sym (set-insert id old old es sorted there) ∙ set_value_same (is_at (C id)) es old there
+
+-- and there are as many
+pub length-over : {T : Type 0} (id : List ℕ) (old new : T) (es : List (List ℕ × T)) → IsStrictlySortedBy C (keys_of es) → lookup (is_at (C id)) es ≡ Some old
+    → length (insert_entry C es id new) ≡ length es
+length-over id old new es sorted there = ap length (sym (set-insert id old new es sorted there)) ∙ length-set_value (is_at (C id)) es new
+
+-- where none is found, none is taken out
+pub remove-none : {K X : Type 0} (test : K → Bool) (es : List (K × X)) → lookup test es ≡ None → remove_entry test es ≡ es
+remove-none test [] h = refl
+remove-none test (e ∷ es) h =
+    elim (test e.0) as (λ b. cond b (Some e.1) (lookup test es) ≡ None → cond b es (e ∷ remove_entry test es) ≡ e ∷ es) [
+      | true ↦ λ p. absurd (none-some e.1 (sym p))
+      | false ↦ λ p. ap (λ rs. e ∷ rs) (remove-none test es p)
+    ] h

@@ -1,10 +1,11 @@
--- The ids under the models, after a row was made, written over or given up.
-use Rattle.std.proofs.Common.{◌≡◌, ℕ, List, [], ◌∷◌, Bool, true, false, cond, ◌&&◌, Option, Some, None, unwrap_or, refl, sym, ap, ◌∙◌, Equal, is_eq}
+-- The ids under the models, after a row was made, written over or given up, or an id went to another model.
+use Rattle.std.proofs.Common.{◌≡◌, ℕ, List, [], ◌∷◌, Bool, true, false, cond, ◌&&◌, Option, Some, None, unwrap_or, refl, sym, ap, ◌∙◌, Equal, is_eq, true≢false}
 use Rattle.std.specs.Option.{is_some}
 use Rattle.std.specs.Cmp.{IsTotalOrder}
 use Rattle.std.specs.Map.{lookup}
 use Rattle.std.specs.BTreeMap.{is_at}
-use Rattle.std.proofs.lemmas.Cmp.{nat_list_cmp_total, on_total}
+use Rattle.std.proofs.lemmas.Cmp.{nat_list_cmp_total, on_total, eq_by_cmp_equiv}
+use Rattle.std.proofs.lemmas.Map.Lookups.{exact_bytes}
 use Rattle.ordered_table.proofs.Flat.{C}
 use Rattle.ordered_table.proofs.Ordered.{unlike}
 use Rattle.dtmi_name.specs.Grammar.{Identifier, dtmi_text, id_cmp}
@@ -74,3 +75,43 @@ some_put false o = refl
 pub some_taken : (b : Bool) (o : Option (Unit {0})) → is_some (cond b None o) ≡ cond b false (is_some o)
 some_taken true o = refl
 some_taken false o = refl
+
+-- ---- an id that was under one model alone, once it is under another
+of_same : (m from to : Identifier) → is_eq (id_cmp from to) ≡ true → is_eq (id_cmp m from) ≡ is_eq (id_cmp m to)
+of_same m from to h =
+    (eq_by_cmp_equiv models_total).symm m from ∙ ap is_eq (models_total.congr from to m (unlike (id_cmp from to) h)) ∙ (eq_by_cmp_equiv models_total).symm to m
+
+not_both : (m from to : Identifier) → is_eq (id_cmp from to) ≡ false → is_eq (id_cmp m to) ≡ true → is_eq (id_cmp m from) ≡ true → ⊥
+not_both m from to h p q = true≢false (sym p ∙ ap is_eq (models_total.congr m from to (unlike (id_cmp m from) q)) ∙ h)
+
+here : (t s h : Bool) → (s ≡ true → h ≡ t) → h ≡ cond s t h
+here t true h x = x refl
+here t false h x = refl
+
+in_and_out : (f t s h : Bool) → (t ≡ true → f ≡ true → ⊥) → (s ≡ true → h ≡ f) → cond (f && s) false (cond (t && s) true h) ≡ cond s t h
+in_and_out true true true h x y = absurd (x refl refl)
+in_and_out true false true h x y = refl
+in_and_out false true true h x y = refl
+in_and_out false false true h x y = y refl
+in_and_out true true false h x y = refl
+in_and_out true false false h x y = refl
+in_and_out false true false h x y = refl
+in_and_out false false false h x y = refl
+
+module _ (rows : Rows) (id : List ℕ) (from to : Identifier) (alone : (m : Identifier) → has_id m id rows ≡ is_eq (id_cmp m from)) where
+  at_id : (m : Identifier) (q : List ℕ) → is_eq (C q id) ≡ true → has_id m q rows ≡ is_eq (id_cmp m from)
+  at_id m q t = ap (λ k. has_id m k rows) (exact_bytes q id (unlike (C q id) t)) ∙ alone m
+
+  -- the same model
+  pub shifted-same : is_eq (id_cmp from to) ≡ true → (m : Identifier) (q : List ℕ) → has_id m q rows ≡ cond (is_eq (C q id)) (is_eq (id_cmp m to)) (has_id m q rows)
+  shifted-same same m q = here (is_eq (id_cmp m to)) (is_eq (C q id)) (has_id m q rows) (λ t. at_id m q t ∙ of_same m from to same)
+
+  -- another, under which it came before it left
+  pub shifted-moves : is_eq (id_cmp from to) ≡ false → (rows1 rows2 : Rows)
+      → ((m : Identifier) (q : List ℕ) → has_id m q rows1 ≡ cond (is_eq (id_cmp m to) && is_eq (C q id)) true (has_id m q rows))
+      → ((m : Identifier) (q : List ℕ) → has_id m q rows2 ≡ cond (is_eq (id_cmp m from) && is_eq (C q id)) false (has_id m q rows1))
+      → (m : Identifier) (q : List ℕ) → has_id m q rows2 ≡ cond (is_eq (C q id)) (is_eq (id_cmp m to)) (has_id m q rows)
+  shifted-moves other rows1 rows2 entered leaves m q =
+      leaves m q
+      ∙ ap (cond (is_eq (id_cmp m from) && is_eq (C q id)) false) (entered m q)
+      ∙ in_and_out (is_eq (id_cmp m from)) (is_eq (id_cmp m to)) (is_eq (C q id)) (has_id m q rows) (not_both m from to other) (at_id m q)

@@ -1,11 +1,11 @@
 -- The fields of the twins after one was put in, put over another, handed back or taken out.
-use Rattle.std.proofs.Common.{◌≡◌, ℕ, ◌+◌, ◌-◌, List, Bool, true, false, true≢false, ◌&&◌, cond, Option, Some, None, length, unwrap_or, refl, sym, ap, ◌∙◌, subst, is_eq, arith, ⊎_elim}
+use Rattle.std.proofs.Common.{◌≡◌, ℕ, ◌+◌, ◌-◌, List, Bool, true, false, ◌&&◌, cond, Option, Some, None, length, unwrap_or, refl, sym, ap, ◌∙◌, subst, is_eq, arith, ⊎_elim}
 use Rattle.std.specs.Option.{option_map}
 use Rattle.std.specs.List.Sorted.{IsStrictlySortedBy}
 use Rattle.std.specs.Map.{remove_entry, keys_of, values_of}
 use Rattle.std.specs.BTreeMap.{is_at, insert_entry}
 use Rattle.std.proofs.lemmas.Bool.{cases_Bool}
-use Rattle.std.proofs.lemmas.Cmp.{tied_itself, eq_by_cmp_equiv}
+use Rattle.std.proofs.lemmas.Cmp.{tied_itself}
 use Rattle.std.proofs.lemmas.Map.Lookups.{exact_bytes}
 use Rattle.dtmi_name.specs.Grammar.{Identifier, id_cmp}
 use Rattle.ordered_table.proofs.Flat.{C, c_total}
@@ -15,8 +15,7 @@ use Rattle.twin_table.specs.declared.held.Held.{Held}
 use Rattle.twin_table.specs.Held.{id_of, keyed, is_of, total_bytes}
 use Rattle.twin_table.specs.Machinery.Rows.{Rows, has_id}
 use Rattle.twin_table.specs.Machinery.Keeping.{under, is_there_of, IsKept}
-use Rattle.twin_table.proofs.Rows.{models_total}
-use Rattle.twin_table.proofs.Keyed.{insert-keyed, remove-keyed}
+use Rattle.twin_table.proofs.Keyed.{insert-keyed, remove-keyed, length-over}
 use Rattle.twin_table.proofs.Kept.{own_id, total-inserted, total-removed}
 
 tied : (id : List ℕ) → is_eq (C id id) ≡ true
@@ -51,30 +50,6 @@ module _ (entries entries' : List (List ℕ × Held)) (rows rows' : Rows) (id : 
       (λ t. else_where m q t ∙ indexed m q ∙ ap (is_there_of m) (sym (moved q ∙ ap (λ b. cond b now (under entries q)) t)))
       (cases_Bool (is_eq (C q id)))
 
--- ---- models that tie
-of_same : (m a b : Identifier) → is_eq (id_cmp a b) ≡ true → is_eq (id_cmp m a) ≡ is_eq (id_cmp m b)
-of_same m a b h =
-    (eq_by_cmp_equiv models_total).symm m a ∙ ap is_eq (models_total.congr a b m (unlike (id_cmp a b) h)) ∙ (eq_by_cmp_equiv models_total).symm b m
-
-only_new : (n o : Bool) → (n ≡ true → o ≡ true → ⊥) → cond o false (cond n true o) ≡ n
-only_new true true h = absurd (h refl refl)
-only_new true false h = refl
-only_new false true h = refl
-only_new false false h = refl
-
--- what is there and of one model is of those that tie with it, and of no others
-there_of : (o : Option Held) (model : Identifier) → is_there_of model o ≡ true → (m : Identifier) → is_there_of m o ≡ is_eq (id_cmp m model)
-there_of None model t m = absurd (true≢false (sym t))
-there_of (Some h) model t m = sym (of_same m model h.twin.model t)
-
-not_both : (m a b : Identifier) → is_eq (id_cmp a b) ≡ false → is_eq (id_cmp m a) ≡ true → is_eq (id_cmp m b) ≡ true → ⊥
-not_both m a b h p q =
-    true≢false (sym q ∙ (ap is_eq (models_total.congr m a b (unlike (id_cmp m a) p))) ∙ h)
-
-gone : (n : Bool) → cond n false (cond n true false) ≡ false
-gone true = refl
-gone false = refl
-
 left : (n : Bool) → cond n false n ≡ false
 left true = refl
 left false = refl
@@ -85,14 +60,14 @@ or_false false = refl
 
 module _ (entries : List (List ℕ × Held)) (rows : Rows) (len bytes : ℕ) (kept : IsKept entries rows len bytes) where
   -- the same twins, and an index that says the same
-  pub kept-same : (rows' : Rows) → ((m : Identifier) (q : List ℕ) → has_id m q rows' ≡ has_id m q rows) → IsKept entries rows' len bytes
-  kept-same rows' h = record {
+  pub kept-same : (entries' : List (List ℕ × Held)) → entries' ≡ entries → (rows' : Rows) → ((m : Identifier) (q : List ℕ) → has_id m q rows' ≡ has_id m q rows) → IsKept entries' rows' len bytes
+  kept-same entries' same rows' h = subst (λ es. IsKept es rows' len bytes) (sym same) (record {
     sorted = kept.sorted;
     own = kept.own;
     indexed = λ m q. h m q ∙ kept.indexed m q;
     counted = kept.counted;
     summed = kept.summed;
-  }
+  })
 
   -- ---- with a twin at its place
   module _ (h : Held) (entries' : List (List ℕ × Held)) (put : entries' ≡ insert_entry C entries (id_of h) h) where
@@ -107,7 +82,7 @@ module _ (entries : List (List ℕ × Held)) (rows : Rows) (len bytes : ℕ) (ke
     moved1 q = ap (λ es. under es q) put ∙ lookup-insert c_total q (id_of h) h entries
 
     -- where another had its id
-    module _ (old : Held) (there : under entries (id_of h) ≡ Some old) (as_long : length entries' ≡ len) where
+    module _ (old : Held) (there : under entries (id_of h) ≡ Some old) where
       summed1 : bytes + h.bytes - old.bytes ≡ total_bytes (values_of entries')
       summed1 =
           let a = total-inserted entries (id_of h) h kept.sorted in
@@ -116,19 +91,17 @@ module _ (entries : List (List ℕ × Held)) (rows : Rows) (len bytes : ℕ) (ke
           let e = kept.summed in
           omega arith
 
-      over : (rows2 : Rows) → ((m : Identifier) → has_id m (id_of h) rows2 ≡ is_of m h) → ((m : Identifier) (q : List ℕ) → is_eq (C q (id_of h)) ≡ false → has_id m q rows2 ≡ has_id m q rows)
+      pub kept-over : (rows2 : Rows) → ((m : Identifier) (q : List ℕ) → has_id m q rows2 ≡ cond (is_eq (C q (id_of h))) (is_of m h) (has_id m q rows))
           → IsKept entries' rows2 len (bytes + h.bytes - old.bytes)
-      over rows2 here else_where = record {
+      kept-over rows2 shifted = record {
         sorted = sorted1;
         own = own1;
-        indexed = indexed-step entries entries' rows rows2 (id_of h) (Some h) moved1 here else_where kept.indexed;
-        counted = sym as_long;
+        indexed = indexed-step entries entries' rows rows2 (id_of h) (Some h) moved1
+            (λ m. shifted m (id_of h) ∙ ap (λ b. cond b (is_of m h) (has_id m (id_of h) rows)) (tied (id_of h)))
+            (λ m q t. shifted m q ∙ ap (λ b. cond b (is_of m h) (has_id m q rows)) t) kept.indexed;
+        counted = kept.counted ∙ sym (ap length put ∙ length-over (id_of h) old h entries kept.sorted there);
         summed = summed1;
       }
-
-      -- and was of the same model: the index says it already
-      pub kept-stays : is_of h.twin.model old ≡ true → IsKept entries' rows len (bytes + h.bytes - old.bytes)
-      kept-stays same = over rows (λ m. kept.indexed m (id_of h) ∙ there_of (under entries (id_of h)) h.twin.model (ap (is_there_of h.twin.model) there ∙ same) m) (λ m q t. refl)
 
   -- ---- with a twin that is entered
   module _ (h : Held) (rows1 : Rows) (entered : (m : Identifier) (q : List ℕ) → has_id m q rows1 ≡ cond (is_eq (id_cmp m h.twin.model) && is_eq (C q (id_of h))) true (has_id m q rows)) where
@@ -137,21 +110,6 @@ module _ (entries : List (List ℕ × Held)) (rows : Rows) (len bytes : ℕ) (ke
 
     entered_else : (m : Identifier) (q : List ℕ) → is_eq (C q (id_of h)) ≡ false → has_id m q rows1 ≡ has_id m q rows
     entered_else = has_else rows rows1 h.twin.model (id_of h) true entered
-
-    -- and leaves again
-    pub kept-back : (rows2 : Rows) → ((m : Identifier) (q : List ℕ) → has_id m q rows2 ≡ cond (is_eq (id_cmp m h.twin.model) && is_eq (C q (id_of h))) false (has_id m q rows1))
-        → under entries (id_of h) ≡ None → IsKept entries rows2 len bytes
-    kept-back rows2 leaves absent = kept-same rows2 (λ m q.
-        ⊎_elim
-        (λ t. let same : q ≡ id_of h = exact_bytes q (id_of h) (unlike (C q (id_of h)) t) in
-        ap (λ k. has_id m k rows2) same
-        ∙ has_here rows1 rows2 h.twin.model (id_of h) false leaves m
-        ∙ ap (cond (is_of m h) false) (entered_here m None absent)
-        ∙ gone (is_of m h)
-        ∙ sym (kept.indexed m (id_of h) ∙ ap (is_there_of m) absent)
-        ∙ ap (λ k. has_id m k rows) (sym same))
-        (λ t. has_else rows1 rows2 h.twin.model (id_of h) false leaves m q t ∙ entered_else m q t)
-        (cases_Bool (is_eq (C q (id_of h)))))
 
     -- ---- put at its place
     module _ (entries' : List (List ℕ × Held)) (put : entries' ≡ insert_entry C entries (id_of h) h) where
@@ -169,18 +127,6 @@ module _ (entries : List (List ℕ × Held)) (rows : Rows) (len bytes : ℕ) (ke
             let e = kept.summed in
             omega arith;
       }
-
-      -- where another had it, of another model that it has left
-      pub kept-moves : (old : Held) → under entries (id_of h) ≡ Some old → length entries' ≡ len → is_of h.twin.model old ≡ false
-          → (rows2 : Rows) → ((m : Identifier) (q : List ℕ) → has_id m q rows2 ≡ cond (is_eq (id_cmp m old.twin.model) && is_eq (C q (id_of old))) false (has_id m q rows1))
-          → IsKept entries' rows2 len (bytes + h.bytes - old.bytes)
-      kept-moves old there as_long other rows2 leaves =
-          let own_old : id_of old ≡ id_of h = own_id entries kept.own (id_of h) old there in
-          let leaves_h : (m : Identifier) (q : List ℕ) → has_id m q rows2 ≡ cond (is_eq (id_cmp m old.twin.model) && is_eq (C q (id_of h))) false (has_id m q rows1) =
-          λ m q. leaves m q ∙ ap (λ k. cond (is_eq (id_cmp m old.twin.model) && is_eq (C q k)) false (has_id m q rows1)) own_old in
-          over h entries' put old there as_long rows2
-          (λ m. has_here rows1 rows2 old.twin.model (id_of h) false leaves_h m ∙ ap (cond (is_of m old) false) (entered_here m (Some old) there) ∙ only_new (is_of m h) (is_of m old) (not_both m h.twin.model old.twin.model other))
-          (λ m q t. has_else rows1 rows2 old.twin.model (id_of h) false leaves_h m q t ∙ entered_else m q t)
 
   -- ---- without a twin
   module _ (id : List ℕ) (entries' : List (List ℕ × Held)) (taken : entries' ≡ remove_entry (is_at (C id)) entries) where

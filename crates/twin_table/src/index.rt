@@ -177,4 +177,19 @@ impl Index {
         self.take(model, id);
         self.close(model);
     }
+
+    /// Moves an id that is under one model alone to another. `Err` is want of memory: under no model an id comes or goes.
+    /// Takes no memory where the models are the same.
+    pub fn shift(&mut self, id: &Text, from: &Dtmi, to: &Dtmi) -> Result<(), OutOfMemory>
+        requires { (m : Identifier) → has_id m id.now self.old ≡ is_eq (id_cmp m from.now) }
+        ensures ok { OnOk result ((m : Identifier) (q : List ℕ) → has_id m q self.new ≡ cond (is_eq (slice_cmp nat_cmp q id.now)) (is_eq (id_cmp m to.now)) (has_id m q self.old)) }
+        ensures err { OnErr result ((m : Identifier) (q : List ℕ) → has_id m q self.new ≡ has_id m q self.old) }
+    {
+        if from == to {
+            return Ok(());
+        }
+        self.enter(to, id)?;
+        self.leave(from, id);
+        Ok(())
+    }
 }

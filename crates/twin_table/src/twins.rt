@@ -1,10 +1,13 @@
 //! The twins of a graph.
 
-ghost use Rattle.std.specs.Prelude.{◌≡◌, ◌+◌, ◌<◌, ◌^◌, [], false, Some, length, slice_get, IfOk, IfErr, OnErr, OnOk, MatchOption};
+ghost use Rattle.std.specs.Prelude.{◌≡◌, ℕ, List, [], Some, cond, length, slice_get, IfOk, IfErr, OnErr, OnOk, MatchOption};
 ghost use Rattle.std.specs.Option.{option_copied, option_map};
+ghost use Rattle.std.specs.Ordering.{nat_cmp, is_eq};
+ghost use Rattle.std.specs.Cmp.Lexicographic.{slice_cmp};
 ghost use Rattle.std.specs.Map.{values_of};
-ghost use Rattle.twin_table.specs.Held.{InOrder, held_at, twin_at, next_past, with_held, without_held, of_model, total_bytes, HasNoModelPast, IsNextModel};
-ghost use Rattle.twin_table.specs.Machinery.Keeping.{is_there_of};
+ghost use Rattle.dtmi_name.specs.Grammar.{Identifier};
+ghost use Rattle.twin_table.specs.Held.{InOrder, held_at, twin_at, next_past, with_held, without_held, is_of, of_model, total_bytes, HasNoModelPast, IsNextModel};
+ghost use Rattle.twin_table.specs.Machinery.Rows.{has_id};
 
 use crate::held::{Held, PutEnd};
 use crate::index::Index;
@@ -13,7 +16,7 @@ use dt_base::Text;
 use dtmi_name::Dtmi;
 use std::alloc::Global;
 use std::collections::BTreeMap;
-use std::collections::btree_map::Range;
+use std::collections::btree_map::{Entry, Range};
 use std::marker::Model;
 use std::ops::Bound;
 use twin_value::Twin;
@@ -86,14 +89,11 @@ impl Twins {
         }
     }
 
-    /// The size that was given with the twin with an id. Takes no memory.
-    pub fn bytes_of(&self, id: &Text) -> Option<u64>
-        ensures { result ≡ option_map (λ h. h.bytes) (held_at id.now self.now) }
+    /// The twin with an id, and the size that was given with it. Takes no memory.
+    pub fn held(&self, id: &Text) -> Option<&Held>
+        ensures { option_copied result ≡ held_at id.now self.now }
     {
-        match self.twins.get(id) {
-            Some(held) => Some(held.bytes),
-            None => None,
-        }
+        self.twins.get(id)
     }
 
     /// The twin with the least id past a given one, or with the least of all; `None` exactly where there is none. Takes no
@@ -135,74 +135,32 @@ impl Twins {
         ensures back { IfErr result (λ end. end.back ≡ twin) }
         ensures err { OnErr result (self.new ≡ self.old) }
     {
-        if bytes > u64::MAX - self.bytes {
-            return Err(PutEnd { back: twin });
-        }
-        match self.replaced(twin, bytes) {
-            Ok(old) => Ok(Some(old)),
-            Err(twin) => self.put_anew(twin, bytes),
-        }
-    }
-
-    /// Puts a twin with its size in the place of the one with its id and its model, and gives that one; hands it back where
-    /// there is none. Takes no memory.
-    fn replaced(&mut self, twin: Twin, bytes: u64) -> Result<Twin, Twin>
-        requires { total_bytes self.old + bytes < 2 ^ 64 }
-        ensures old { IfOk result (λ old. Some old ≡ twin_at twin.id self.old) }
-        ensures ok { OnOk result (self.new ≡ with_held (record { twin = twin; bytes = bytes }) self.old) }
-        ensures back { IfErr result (λ back. back ≡ twin) }
-        ensures err { OnErr result (self.new ≡ self.old) }
-        ensures none { OnErr result (is_there_of twin.model (held_at twin.id self.old) ≡ false) }
-    {
-        let Some(held) = self.twins.get_mut(&twin.id) else {
-            return Err(twin);
-        };
-        if twin.model != held.twin.model {
-            return Err(twin);
-        }
-        let old = std::mem::replace(held, Held { twin, bytes });
-        self.bytes = (self.bytes + bytes).saturating_sub(old.bytes);
-        Ok(old.twin)
-    }
-
-    /// Puts a twin with its size at its place, where none with its id and its model is, and gives the one with its id that
-    /// was there. Fails as `put` does.
-    fn put_anew(&mut self, twin: Twin, bytes: u64) -> Result<Option<Twin>, PutEnd>
-        requires sum { total_bytes self.old + bytes < 2 ^ 64 }
-        requires none { is_there_of twin.model (held_at twin.id self.old) ≡ false }
-        ensures old { IfOk result (λ old. old ≡ twin_at twin.id self.old) }
-        ensures ok { OnOk result (self.new ≡ with_held (record { twin = twin; bytes = bytes }) self.old) }
-        ensures back { IfErr result (λ end. end.back ≡ twin) }
-        ensures err { OnErr result (self.new ≡ self.old) }
-    {
-        if self.len == u64::MAX {
+        if self.len == u64::MAX || bytes > u64::MAX - self.bytes {
             return Err(PutEnd { back: twin });
         }
         let Ok(id) = twin.id.copy(self.alloc) else {
             return Err(PutEnd { back: twin });
         };
-        let Ok(()) = self.index.enter(&twin.model, &twin.id) else {
+        let Ok(entry) = self.twins.entry(id) else {
             return Err(PutEnd { back: twin });
         };
-        match self.twins.insert(id, Held { twin, bytes }) {
-            Ok(None) => {
+        match entry {
+            Entry::Occupied(mut there) => {
+                let old = put_over(&mut self.index, there.get_mut(), Held { twin, bytes })?;
+                self.bytes = (self.bytes + bytes).saturating_sub(old.bytes);
+                Ok(Some(old.twin))
+            }
+            Entry::Vacant(place) => {
+                let there = place.insert_entry(Held { twin, bytes });
+                let held = there.get();
+                let Ok(()) = self.index.enter(&held.twin.model, &held.twin.id) else {
+                    return Err(PutEnd {
+                        back: there.remove().twin,
+                    });
+                };
                 self.len += 1;
                 self.bytes += bytes;
                 Ok(None)
-            }
-            Ok(Some(old)) => {
-                let Held {
-                    twin: old,
-                    bytes: less,
-                } = old;
-                self.bytes = (self.bytes + bytes).saturating_sub(less);
-                self.index.leave(&old.model, &old.id);
-                Ok(Some(old))
-            }
-            Err(failed) => {
-                let (_id, held) = failed.value;
-                self.index.leave(&held.twin.model, &held.twin.id);
-                Err(PutEnd { back: held.twin })
             }
         }
     }
@@ -221,6 +179,23 @@ impl Twins {
         self.bytes = self.bytes.saturating_sub(bytes);
         Some(twin)
     }
+}
+
+/// Puts a twin in the place of the one with its id, and gives that one. `Err` is want of memory: it hands the twin back,
+/// and nothing changes.
+fn put_over(index: &mut Index, place: &mut Held, held: Held) -> Result<Held, PutEnd>
+    requires { (m : Identifier) → has_id m held.twin.id index.old ≡ is_of m place.old }
+    ensures old { IfOk result (λ old. old ≡ place.old) }
+    ensures ok { OnOk result (place.new ≡ held) }
+    ensures index { OnOk result ((m : Identifier) (q : List ℕ) → has_id m q index.new ≡ cond (is_eq (slice_cmp nat_cmp q held.twin.id)) (is_of m held) (has_id m q index.old)) }
+    ensures back { IfErr result (λ end. end.back ≡ held.twin) }
+    ensures err { OnErr result (place.new ≡ place.old) }
+    ensures err_index { OnErr result ((m : Identifier) (q : List ℕ) → has_id m q index.new ≡ has_id m q index.old) }
+{
+    let Ok(()) = index.shift(&held.twin.id, &place.twin.model, &held.twin.model) else {
+        return Err(PutEnd { back: held.twin });
+    };
+    Ok(std::mem::replace(place, held))
 }
 
 /// The first twin that is left.
