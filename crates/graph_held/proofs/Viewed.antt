@@ -22,7 +22,7 @@ use Rattle.dtdl_terms.specs.declared.resolved.Resolved.{Resolved}
 use Rattle.extend_resolve.specs.Breaches.{BreaksNoRule}
 use Rattle.model_resolve.specs.Resolving.{HoldsRight, IsResolved, entry_at}
 use Rattle.model_resolve.proofs.Changes.{all_map}
-use Rattle.std.proofs.lemmas.Option.{same_Some}
+use Rattle.std.proofs.lemmas.Option.{IfSome_then, same_Some}
 use Rattle.graph_laws.proofs.Edges.{edge_there}
 use Rattle.graph_laws.proofs.Keyed.{entries, values-entries}
 use Rattle.graph_laws.proofs.Lists.{all_at, found_passes}
@@ -83,19 +83,29 @@ sized size g f (x ∷ xs) all =
     sum_by-cons size x xs ∙ ap (λ n. n + sum_by size xs) all.0 ∙ ap (λ n. g (f x) + n) (sized size g f xs all.1) ∙ sym (sum_by-cons (λ (n : ℕ). n) (g (f x)) (map g (map f xs)))
 
 -- ---- twins
+pub held_seen : (h : Holding) (id : List ℕ) → twin_at id (state_of h) ≡ option_map twin_of (table.held_at id h.twins)
+held_seen h id = find-map twin_of (λ (t : Twin). bytes_eq t.id id) h.twins
+
+pub held_right : (id : List ℕ) (hs : List Held) → AllByRecursion IsHeldTwin hs → IfSome (table.held_at id hs) IsHeldTwin
+held_right id hs all = by (table.held_at id hs) refl
+  where
+    by : (o : Option Held) → table.held_at id hs ≡ o → IfSome o IsHeldTwin
+    by None e = tt
+    by (Some h) e = all_at IsHeldTwin hs h all (found_passes (λ (g : Held). bytes_eq g.twin.id id) hs h e).1
+
 twice : (o : Option Held) → option_map twin_of o ≡ option_map twin_view (option_map (λ (h : Held). h.twin) o)
 twice None = refl
 twice (Some h) = refl
 
 pub twin_seen : (h : Holding) (id : List ℕ) → twin_at id (state_of h) ≡ option_map twin_view (table.twin_at id h.twins)
-twin_seen h id = find-map twin_of (λ (t : Twin). bytes_eq t.id id) h.twins ∙ twice (table.held_at id h.twins)
+twin_seen h id = held_seen h id ∙ twice (table.held_at id h.twins)
+
+twin_right : (o : Option Held) → IfSome o IsHeldTwin → IfSome (option_map (λ (h : Held). h.twin) o) (λ t. IsKeptTwin (twin_view t))
+twin_right None right = tt
+twin_right (Some h) right = right.kept
 
 pub twin_kept : (id : List ℕ) (hs : List Held) → AllByRecursion IsHeldTwin hs → IfSome (table.twin_at id hs) (λ t. IsKeptTwin (twin_view t))
-twin_kept id hs all = by (table.held_at id hs) refl
-  where
-    by : (o : Option Held) → table.held_at id hs ≡ o → IfSome (option_map (λ (h : Held). h.twin) o) (λ t. IsKeptTwin (twin_view t))
-    by None e = tt
-    by (Some h) e = (all_at IsHeldTwin hs h all (found_passes (λ (g : Held). bytes_eq g.twin.id id) hs h e).1).kept
+twin_kept id hs all = twin_right (table.held_at id hs) (held_right id hs all)
 
 pub twins_without : (id : List ℕ) (h : Holding) → state_of (holding h.models (table.without_held id h.twins) h.links) ≡ without_twin id (state_of h)
 twins_without id h =
@@ -111,12 +121,18 @@ twins_with x h =
 pub link_seen : (h : Holding) (source id : List ℕ) → link_at source id (state_of h) ≡ option_map link_of (edge_at source id h.links)
 link_seen h source id = lookup-map key key link_of (λ e. refl) (is_at (key_cmp (source, id))) h.links
 
-pub link_kept : (source id : List ℕ) (es : List (Edge Stored)) → AllByRecursion IsHeldLink es → IfSome (edge_at source id es) (λ e. IsKeptLink (link_of e))
-link_kept source id es all = by (edge_at source id es) refl
+pub link_right : (source id : List ℕ) (es : List (Edge Stored)) → AllByRecursion IsHeldLink es → IfSome (edge_at source id es) IsHeldLink
+link_right source id es all = by (edge_at source id es) refl
   where
-    by : (o : Option (Edge Stored)) → edge_at source id es ≡ o → IfSome o (λ e. IsKeptLink (link_of e))
+    by : (o : Option (Edge Stored)) → edge_at source id es ≡ o → IfSome o IsHeldLink
     by None e = tt
-    by (Some l) e = (all_at IsHeldLink es l all (edge_there source id es l e).2).kept
+    by (Some l) e = all_at IsHeldLink es l all (edge_there source id es l e).2
+
+pub link_kept : (source id : List ℕ) (es : List (Edge Stored)) → AllByRecursion IsHeldLink es → IfSome (edge_at source id es) (λ e. IsKeptLink (link_of e))
+link_kept source id es all = IfSome_then (edge_at source id es) (link_right source id es all) (λ e right. right.kept)
+
+pub link_size : (source id : List ℕ) (es : List (Edge Stored)) → AllByRecursion IsHeldLink es → IfSome (edge_at source id es) (λ e. e.payload.bytes ≡ length (link_text (link_of e)))
+link_size source id es all = IfSome_then (edge_at source id es) (link_right source id es all) (λ e right. right.size)
 
 pub links_without : (source id : List ℕ) (h : Holding) → state_of (holding h.models h.twins (without_edge source id h.links)) ≡ after_drop_rel (state_of h) source id
 links_without source id h =

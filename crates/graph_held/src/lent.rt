@@ -1,13 +1,13 @@
 //! The parts of a graph, lent.
 
-ghost use Rattle.std.specs.Prelude.{◌≡◌, IfSome, true};
+ghost use Rattle.std.specs.Prelude.{◌≡◌, IfSome, length, true};
 ghost use Rattle.std.specs.List.{AllByRecursion};
 ghost use Rattle.std.specs.Option.{is_some, option_copied, option_map};
 ghost use Rattle.graph_bodies.specs.Kept.{twin_view, IsKeptTwin, IsKeptLink};
 ghost use Rattle.graph_steps.specs.LinkAsks.{link_at};
-ghost use Rattle.graph_steps.specs.States.{graph_bytes, interface_of, is_live, twin_at};
+ghost use Rattle.graph_steps.specs.States.{graph_bytes, interface_of, is_live, link_text, twin_at};
 ghost use Rattle.graph_steps.specs.Typed.{WellTyped};
-ghost use Rattle.graph_held.specs.Held.{holding, state_of, link_of, IsHeldTwin, IsHeldLink, IsHeldRight};
+ghost use Rattle.graph_held.specs.Held.{holding, state_of, twin_of, link_of, IsHeldTwin, IsHeldLink, IsHeldRight};
 
 use crate::stored::Stored;
 use dt_base::Text;
@@ -17,7 +17,7 @@ use model_life::Models;
 use rel_graph::{Edge, Rels};
 use std::alloc::Global;
 use std::marker::Model;
-use twin_table::Twins;
+use twin_table::{Held, Twins};
 use twin_value::Twin;
 
 /// The models, the twins and the relationships of a graph, lent, which contracts see as these in their order; `state_of` is
@@ -116,10 +116,19 @@ impl<'a> Lent<'a> {
         self.twins.get(id)
     }
 
-    /// The relationship of a source with an id. Takes no memory.
+    /// The twin with an id, and how many bytes its text has. Takes no memory.
+    pub fn held(&self, id: &Text) -> Option<&'a Held>
+        ensures at { option_map twin_of (option_copied result) ≡ twin_at id.now (state_of self.now) }
+        ensures held { IfSome (option_copied result) IsHeldTwin }
+    {
+        self.twins.held(id)
+    }
+
+    /// The relationship of a source with an id, which carries how many bytes its text has. Takes no memory.
     pub fn link(&self, source: &Text, id: &Text) -> Option<&'a Edge<Stored>>
         ensures at { option_map link_of (option_copied result) ≡ link_at source.now id.now (state_of self.now) }
         ensures kept { IfSome (option_copied result) (λ e. IsKeptLink (link_of e)) }
+        ensures size { IfSome (option_copied result) (λ e. e.payload.bytes ≡ length (link_text (link_of e))) }
     {
         self.links.get(source, id)
     }

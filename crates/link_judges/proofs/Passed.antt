@@ -1,7 +1,7 @@
 -- Limits with one relationship more, or with one in the place of another.
 use Rattle.std.proofs.Common.{◌≡◌, ℕ, ◌+◌, ◌<◌, ◌≤◌, inl, inr, List, length, Some, None, unwrap_or, refl, sym, ap, ◌∙◌, arith}
 use Rattle.std.specs.Option.{option_map}
-use Rattle.std.specs.List.{AllByRecursion, sum_by}
+use Rattle.std.specs.List.{sum_by}
 use Rattle.std.proofs.lemmas.List.Sums.{sum-map}
 use Rattle.std.proofs.lemmas.Map.Entries.{sum_by-insert_entry}
 use Rattle.dtdl_terms.specs.declared.limit.Limit.TheVariants as limits
@@ -14,12 +14,7 @@ use Rattle.graph_asks.specs.declared.refusal.Refusal.TheVariants as refusals
 use Rattle.graph_steps.specs.LinkAsks.{LinkFull, link_at, with_link}
 use Rattle.graph_steps.specs.States.{State, Link, link_text, graph_bytes}
 use Rattle.graph_steps.specs.Typed.{WellTyped}
-use Rattle.graph_laws.proofs.Edges.{edge_there}
 use Rattle.graph_laws.proofs.Keyed.{sorted-keys, values-entries}
-use Rattle.graph_laws.proofs.Lists.{all_at}
-use Rattle.graph_held.specs.Held.{Holding, link_of, state_of, IsHeldLink}
-use Rattle.graph_held.specs.declared.stored.Stored.{Stored}
-use Rattle.graph_held.proofs.Viewed.{link_seen}
 use Rattle.graph_held.specs.Judged.{Unrefused}
 
 -- ---- the first limit that is passed
@@ -50,7 +45,7 @@ module _ (new : State) (l : Link) where
 sum-put : {P : Type 0} (f : Edge P → ℕ) (e : Edge P) (es : List (Edge P)) → InOrder es → sum_by f (with_edge e es) + unwrap_or (option_map f (edge_at e.source e.id es)) 0 ≡ sum_by f es + f e
 sum-put f e es o = sum_by-insert_entry f keys_total (keyed es) (key e) e (sorted-keys key key_cmp es o) ∙ ap (λ xs. sum_by f xs + f e) (values-entries key es)
 
-abbrev text_size : Link → ℕ
+abbrev pub text_size : Link → ℕ
 text_size l = length (link_text l)
 
 abbrev each : Link → ℕ
@@ -82,13 +77,3 @@ module _ (s : State) (w : WellTyped s) (l : Link) where
       let put = links_put in
       let zero_there : unwrap_or (option_map each (link_at l.source l.id s)) 0 ≡ 0 = ap (λ o. unwrap_or (option_map each o) 0) none in
       omega (arith, put, zero_there)
-
--- ---- what is kept of the size of a relationship
-module _ (h : Holding) (source id : List ℕ) where
-  pub size_there : AllByRecursion IsHeldLink h.links → (e : Edge Stored) → edge_at source id h.links ≡ Some e → e.payload.bytes ≡ unwrap_or (option_map text_size (link_at source id (state_of h))) 0
-  size_there all e found =
-      (all_at IsHeldLink h.links e all (edge_there source id h.links e found).2).size
-      ∙ sym (ap (λ o. unwrap_or (option_map text_size o) 0) (link_seen h source id ∙ ap (option_map link_of) found))
-
-  pub size_none : edge_at source id h.links ≡ None → 0 ≡ unwrap_or (option_map text_size (link_at source id (state_of h))) 0
-  size_none none = sym (ap (λ o. unwrap_or (option_map text_size o) 0) (link_seen h source id ∙ ap (option_map link_of) none))

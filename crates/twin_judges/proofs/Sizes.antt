@@ -1,14 +1,12 @@
 -- How many twins there are with one that comes, and how many bytes their texts have.
 use Rattle.std.proofs.Common.{◌≡◌, ℕ, ◌+◌, ◌-◌, ◌<◌, ◌≤◌, inl, inr, List, [], ◌∷◌, length, cond, Option, Some, None, unwrap_or, refl, sym, ap, ◌∙◌, is_eq, arith}
 use Rattle.std.specs.Option.{option_map}
-use Rattle.std.specs.List.{AllByRecursion, find, sum_by}
+use Rattle.std.specs.List.{find, sum_by}
 use Rattle.std.specs.Map.{lookup, values_of}
 use Rattle.std.specs.BTreeMap.{is_at}
 use Rattle.std.proofs.lemmas.List.Sums.{sum-map, sum_by-cons}
 use Rattle.std.proofs.lemmas.Map.Entries.{sum_by-insert_entry, sum_by-remove_entry}
 use Rattle.ordered_table.proofs.Flat.{C, c_total}
-use Rattle.twin_table.specs.Held.{held_at}
-use Rattle.twin_table.specs.declared.held.Held.{Held}
 use Rattle.graph_steps.specs.States.{State, Twin, twin_at, twin_text, graph_bytes, keyed_twins, with_twin}
 use Rattle.dtdl_terms.specs.declared.limit.Limit.TheVariants as limits
 use Rattle.graph_asks.specs.declared.refusal.Refusal.TheVariants as refusals
@@ -16,9 +14,6 @@ use Rattle.graph_steps.specs.TwinAsks.{TwinFull}
 use Rattle.graph_steps.specs.Typed.{WellTyped}
 use Rattle.graph_held.specs.Judged.{Unrefused}
 use Rattle.graph_laws.proofs.Keyed.{tests, values-entries, sorted-keys}
-use Rattle.graph_laws.proofs.Lists.{all_at, found_passes}
-use Rattle.graph_held.specs.Held.{Holding, state_of, twin_of, IsHeldTwin}
-use Rattle.graph_held.proofs.Viewed.{find-map}
 use Rattle.std.specs.Prelude.{bytes_eq}
 
 abbrev id_of : Twin → List ℕ
@@ -58,7 +53,7 @@ counted (t ∷ ts) =
     let first : sum_by one (t ∷ ts) ≡ 1 + sum_by one ts = sum_by-cons one t ts in
     omega (arith, first, later)
 
-module _ (s : State) (w : WellTyped s) (id : List ℕ) (t : Twin) (same : t.id ≡ id) where
+module _ (s : State) (w : WellTyped s) (t : Twin) where
   count_with : length (with_twin t s).twins + before one t.id s ≡ length s.twins + 1
   count_with =
       let all = sum_with s w one t in
@@ -66,15 +61,15 @@ module _ (s : State) (w : WellTyped s) (id : List ℕ) (t : Twin) (same : t.id �
       let old = counted s.twins in
       omega (arith, all, new, old)
 
-  pub same_count : (u : Twin) → Some u ≡ twin_at id s → length s.twins ≡ length (with_twin t s).twins
+  pub same_count : (u : Twin) → Some u ≡ twin_at t.id s → length s.twins ≡ length (with_twin t s).twins
   same_count u found =
-      let had : before one t.id s ≡ 1 = ap (λ (q : List ℕ). before one q s) same ∙ sym (ap (λ o. unwrap_or (option_map one o) 0) found) in
+      let had : before one t.id s ≡ 1 = sym (ap (λ o. unwrap_or (option_map one o) 0) found) in
       let all = count_with in
       omega (arith, had, all)
 
-  pub more_count : None ≡ twin_at id s → length s.twins + 1 ≡ length (with_twin t s).twins
+  pub more_count : None ≡ twin_at t.id s → length s.twins + 1 ≡ length (with_twin t s).twins
   more_count none =
-      let had : before one t.id s ≡ 0 = ap (λ (q : List ℕ). before one q s) same ∙ sym (ap (λ o. unwrap_or (option_map one o) 0) none) in
+      let had : before one t.id s ≡ 0 = sym (ap (λ o. unwrap_or (option_map one o) 0) none) in
       let all = count_with in
       omega (arith, had, all)
 
@@ -110,12 +105,3 @@ module _ (new : State) (t : Twin) (small : length (twin_text t) ≤ 32768) where
     not_over less r (inl h) = omega (arith, small, h.0)
     not_over less r (inr (a, inl h)) = omega (arith, few, h.0)
     not_over less r (inr (a, inr (b, h))) = omega (arith, less, h.0)
-
--- ---- the sizes that are held
-pub size_seen : (h : Holding) (id : List ℕ) → AllByRecursion IsHeldTwin h.twins → unwrap_or (option_map (λ (g : Held). g.bytes) (held_at id h.twins)) 0 ≡ before size id (state_of h)
-size_seen h id all =
-    by (held_at id h.twins) refl ∙ sym (ap (λ o. unwrap_or (option_map size o) 0) (find-map twin_of (λ (t : Twin). bytes_eq t.id id) h.twins))
-  where
-    by : (o : Option Held) → held_at id h.twins ≡ o → unwrap_or (option_map (λ (g : Held). g.bytes) o) 0 ≡ unwrap_or (option_map size (option_map twin_of o)) 0
-    by None e = refl
-    by (Some g) e = (all_at IsHeldTwin h.twins g all (found_passes (λ (k : Held). bytes_eq k.twin.id id) h.twins g e).1).size

@@ -1,11 +1,11 @@
 //! Twins that come with a body, whether they are put or patched.
 
-ghost use Rattle.std.specs.Prelude.{◌≡◌, Some, IfOk, MatchResult};
+ghost use Rattle.std.specs.Prelude.{◌≡◌, Some, IfOk, IfSome, MatchResult};
 ghost use Rattle.std.specs.Option.{option_copied, option_map};
 ghost use Rattle.dtmi_name.specs.Grammar.{dtmi_text};
 ghost use Rattle.graph_bodies.specs.Bodies.{FailsBy};
 ghost use Rattle.graph_bodies.specs.Kept.{twin_view, IsKeptTwin};
-ghost use Rattle.graph_held.specs.Held.{state_of, IsHeldTwin};
+ghost use Rattle.graph_held.specs.Held.{state_of, twin_of, IsHeldTwin};
 ghost use Rattle.graph_steps.specs.Refusals.{or_else};
 ghost use Rattle.graph_steps.specs.States.{interface_of, set_of, twin_at, with_twin};
 ghost use Rattle.graph_steps.specs.TwinAsks.{DoesNotFit, RefusesBody, TwinFull, twin_for, with_body};
@@ -27,18 +27,20 @@ use graph_bodies::BodyFailure;
 use graph_held::{Lent, judged_twin};
 use json_tree::Tree;
 use model_resolve::Resolutions;
+use twin_table::Held;
 use twin_value::Twin;
 
-/// A twin without breach that comes in the place of the one that there may be, refused where a relationship would not be well typed or a limit would be passed with
-/// it. Fails for want of memory too.
+/// A twin without breach that comes in the place of the one that there may be, refused where a relationship would not be
+/// well typed or a limit would be passed with it. Fails for want of memory too.
 fn judged_new(
     lent: &Lent<'_>,
     resolutions: &mut Resolutions,
-    there: Option<&Twin>,
+    there: Option<&Held>,
     twin: Twin,
 ) -> Result<NewTwin, BodyFailure>
     requires typed { WellTyped (state_of lent.now) }
-    requires there { option_map twin_view (option_copied there) ≡ twin_at twin.id (state_of lent.now) }
+    requires there { option_map twin_of (option_copied there) ≡ twin_at twin.id (state_of lent.now) }
+    requires held { IfSome (option_copied there) IsHeldTwin }
     requires kept { IsKeptTwin (twin_view twin) }
     requires right { HoldsRight (set_of (state_of lent.now)) resolutions.old }
     ensures right { HoldsRight (set_of (state_of lent.now)) resolutions.new }
@@ -52,18 +54,18 @@ fn judged_new(
 }
 
 /// The twin of an id for which a body of this interface's twins stands, where it may come in the place of the one that there
-/// may be. Fails by the first reason why it
-/// may not, or for want of memory.
+/// may be. Fails by the first reason why it may not, or for want of memory.
 fn judged_of(
     lent: &Lent<'_>,
     resolutions: &mut Resolutions,
-    there: Option<&Twin>,
+    there: Option<&Held>,
     id: &Text,
     interface: &Interface,
     tree: &Tree,
 ) -> Result<NewTwin, BodyFailure>
     requires typed { WellTyped (state_of lent.now) }
-    requires old { option_map twin_view (option_copied there) ≡ twin_at id.now (state_of lent.now) }
+    requires old { option_map twin_of (option_copied there) ≡ twin_at id.now (state_of lent.now) }
+    requires held { IfSome (option_copied there) IsHeldTwin }
     requires there { interface_of (state_of lent.now) interface.now.id ≡ Some interface.now }
     requires distinct { HasDistinctKeys (view tree.now) }
     requires right { HoldsRight (set_of (state_of lent.now)) resolutions.old }
@@ -79,18 +81,18 @@ fn judged_of(
 }
 
 /// The twin of an id for which a body stands that names this model, where it may come in the place of the one that there may
-/// be. Fails by the first reason why it may
-/// not, or for want of memory.
+/// be. Fails by the first reason why it may not, or for want of memory.
 pub(crate) fn judged_body(
     lent: &Lent<'_>,
     resolutions: &mut Resolutions,
-    there: Option<&Twin>,
+    there: Option<&Held>,
     id: &Text,
     model: &Dtmi,
     tree: &Tree,
 ) -> Result<NewTwin, BodyFailure>
     requires typed { WellTyped (state_of lent.now) }
-    requires old { option_map twin_view (option_copied there) ≡ twin_at id.now (state_of lent.now) }
+    requires old { option_map twin_of (option_copied there) ≡ twin_at id.now (state_of lent.now) }
+    requires held { IfSome (option_copied there) IsHeldTwin }
     requires distinct { HasDistinctKeys (view tree.now) }
     requires right { HoldsRight (set_of (state_of lent.now)) resolutions.old }
     ensures right { HoldsRight (set_of (state_of lent.now)) resolutions.new }

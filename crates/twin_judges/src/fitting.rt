@@ -4,7 +4,7 @@ ghost use Rattle.std.specs.Prelude.{◌≡◌, ◌↔◌, IsTrue, IsSome, MatchR
 ghost use Rattle.std.specs.Option.{IsSomeAnd, option_copied, option_map};
 ghost use Rattle.graph_bodies.specs.Bodies.{FailsBy};
 ghost use Rattle.graph_bodies.specs.Kept.{twin_view};
-ghost use Rattle.graph_held.specs.Held.{state_of};
+ghost use Rattle.graph_held.specs.Held.{state_of, twin_of};
 ghost use Rattle.graph_steps.specs.States.{set_of, twin_at, with_twin};
 ghost use Rattle.graph_steps.specs.TwinAsks.{DoesNotFit};
 ghost use Rattle.graph_steps.specs.Typed.{WellTyped};
@@ -18,6 +18,7 @@ use graph_fits::least_ill;
 use graph_held::Lent;
 use model_resolve::Resolutions;
 use std::cmp::Ordering;
+use twin_table::Held;
 use twin_value::Twin;
 
 /// Whether two identifiers are one.
@@ -54,11 +55,11 @@ fn unless_ill(
 pub(crate) fn unless_unfit(
     lent: &Lent<'_>,
     resolutions: &mut Resolutions,
-    there: Option<&Twin>,
+    there: Option<&Held>,
     twin: &Twin,
 ) -> Result<(), BodyFailure>
     requires typed { WellTyped (state_of lent.now) }
-    requires there { option_map twin_view (option_copied there) ≡ twin_at twin.now.id (state_of lent.now) }
+    requires there { option_map twin_of (option_copied there) ≡ twin_at twin.now.id (state_of lent.now) }
     requires right { HoldsRight (set_of (state_of lent.now)) resolutions.old }
     ensures right { HoldsRight (set_of (state_of lent.now)) resolutions.new }
     ensures fits { MatchResult result
@@ -68,7 +69,7 @@ pub(crate) fn unless_unfit(
     let Some(old) = there else {
         return Ok(());
     };
-    if is_one(&old.model, &twin.model) {
+    if is_one(&old.twin.model, &twin.model) {
         return Ok(());
     }
     unless_ill(lent, resolutions, twin)

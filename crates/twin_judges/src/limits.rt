@@ -1,21 +1,21 @@
 //! The limits of twins and of the graph.
 
-ghost use Rattle.std.specs.Prelude.{◌≡◌, ℕ, ◌+◌, ◌≤◌, length, unwrap_or, IfOk, MatchResult};
+ghost use Rattle.std.specs.Prelude.{◌≡◌, ◌≤◌, length, unwrap_or, IfOk, IfSome, MatchResult};
 ghost use Rattle.std.specs.Option.{option_copied, option_map};
 ghost use Rattle.graph_bodies.specs.Bodies.{FailsBy};
 ghost use Rattle.graph_bodies.specs.Kept.{twin_view, IsKeptTwin};
-ghost use Rattle.graph_held.specs.Held.{state_of, IsHeldTwin};
-ghost use Rattle.graph_steps.specs.States.{Twin as GraphTwin, graph_bytes, twin_at, twin_text, with_twin};
+ghost use Rattle.graph_held.specs.Held.{state_of, twin_of, IsHeldTwin};
+ghost use Rattle.graph_steps.specs.States.{Twin as GraphTwin, twin_at, twin_text, with_twin};
 ghost use Rattle.graph_steps.specs.TwinAsks.{TwinFull};
 ghost use Rattle.graph_steps.specs.Typed.{WellTyped};
 ghost use Rattle.graph_held.specs.Judged.{Unrefused};
 
 use crate::new_twin::NewTwin;
-use dt_base::Text;
 use dtdl_terms::Limit;
 use graph_asks::Refusal;
 use graph_bodies::{BodyFailure, twin_bytes};
 use graph_held::Lent;
+use twin_table::Held;
 use twin_value::Twin;
 
 /// The most bytes that the text of a twin has.
@@ -27,13 +27,11 @@ const MOST_TWINS: u64 = 100_000;
 /// The most bytes that the texts of all twins and relationships have together.
 const MOST_GRAPH_BYTES: u64 = 268_435_456;
 
-/// How many twins there are with one of this id, where there may be one already. Takes no memory.
-fn twins_with(lent: &Lent<'_>, there: Option<&Twin>, id: &Text) -> u64
+/// How many twins there are with one that comes in the place of the one that there may be. Takes no memory.
+fn twins_with(lent: &Lent<'_>, there: Option<&Held>) -> u64
     requires typed { WellTyped (state_of lent.now) }
-    requires there { option_map twin_view (option_copied there) ≡ twin_at id.now (state_of lent.now) }
-    ensures { (t : GraphTwin) → t.id ≡ id.now → result ≡ length (with_twin t (state_of lent.now)).twins }
+    ensures { (t : GraphTwin) → option_map twin_of (option_copied there.entry) ≡ twin_at t.id (state_of lent.now) → result ≡ length (with_twin t (state_of lent.now)).twins }
 {
-    let _id = id;
     let twins = lent.twins().len();
     match there {
         Some(_) => twins,
@@ -41,72 +39,28 @@ fn twins_with(lent: &Lent<'_>, there: Option<&Twin>, id: &Text) -> u64
     }
 }
 
-/// How many bytes the text of the twin with an id has that there may be, 0 where there is none. Takes no memory.
-fn bytes_before(lent: &Lent<'_>, there: Option<&Twin>, id: &Text) -> u64
-    requires { option_map twin_view (option_copied there) ≡ twin_at id.now (state_of lent.now) }
-    ensures { result ≡ unwrap_or (option_map (λ t. length (twin_text t)) (twin_at id.now (state_of lent.now))) 0 }
+/// How many bytes the text of the twin has that there may be, 0 where there is none. Takes no memory.
+fn bytes_before(there: Option<&Held>) -> u64
+    requires { IfSome (option_copied there) IsHeldTwin }
+    ensures { result ≡ unwrap_or (option_map (λ t. length (twin_text t)) (option_map twin_of (option_copied there.entry))) 0 }
 {
-    if there.is_none() {
-        return 0;
-    }
-    lent.right();
-    match lent.twins().bytes_of(id) {
-        Some(bytes) => bytes,
+    match there {
+        Some(held) => held.bytes,
         None => 0,
     }
 }
 
-/// How many bytes the texts of all twins and relationships have together with a twin of this id whose text has so many, where
-/// there may be one already. Takes no memory.
-fn bytes_with(lent: &Lent<'_>, there: Option<&Twin>, id: &Text, bytes: u64) -> u64
-    requires typed { WellTyped (state_of lent.now) }
-    requires there { option_map twin_view (option_copied there) ≡ twin_at id.now (state_of lent.now) }
-    requires few { bytes ≤ 32768 }
-    ensures { (t : GraphTwin) → t.id ≡ id.now → bytes ≡ length (twin_text t) → result ≡ graph_bytes (with_twin t (state_of lent.now)) }
-{
-    let before = bytes_before(lent, there, id);
-    lent.bytes() - before + bytes
-}
-
-/// Refuses where a limit of the graph would be passed with a twin that comes, whose text has so many bytes, in the place of
-/// the one that there may be.
-fn unless_full(
-    lent: &Lent<'_>,
-    there: Option<&Twin>,
-    twin: &Twin,
-    bytes: u64,
-) -> Result<(), BodyFailure>
-    requires typed { WellTyped (state_of lent.now) }
-    requires there { option_map twin_view (option_copied there) ≡ twin_at twin.now.id (state_of lent.now) }
-    requires size { bytes ≡ length (twin_text (twin_view twin.now)) }
-    requires short { bytes ≤ 32768 }
-    ensures { MatchResult result
-        (λ _. Unrefused (TwinFull (with_twin (twin_view twin.now) (state_of lent.now)) (twin_view twin.now)))
-        (FailsBy (TwinFull (with_twin (twin_view twin.now) (state_of lent.now)) (twin_view twin.now))) }
-{
-    if twins_with(lent, there, &twin.id) > MOST_TWINS {
-        return Err(BodyFailure::Refused(Refusal::Full {
-            limit: Limit::Twins,
-        }));
-    }
-    if bytes_with(lent, there, &twin.id, bytes) > MOST_GRAPH_BYTES {
-        return Err(BodyFailure::Refused(Refusal::Full {
-            limit: Limit::GraphBytes,
-        }));
-    }
-    Ok(())
-}
-
 /// The twin that comes with how many bytes its text has, in the place of the one that there may be; refused where a limit of
-/// the graph would be passed with it. Fails for want of memory too.
+/// the graph would be passed with it.
 fn within_graph(
     lent: &Lent<'_>,
-    there: Option<&Twin>,
+    there: Option<&Held>,
     twin: Twin,
     bytes: u64,
 ) -> Result<NewTwin, BodyFailure>
     requires typed { WellTyped (state_of lent.now) }
-    requires there { option_map twin_view (option_copied there) ≡ twin_at twin.id (state_of lent.now) }
+    requires there { option_map twin_of (option_copied there) ≡ twin_at twin.id (state_of lent.now) }
+    requires held { IfSome (option_copied there) IsHeldTwin }
     requires kept { IsKeptTwin (twin_view twin) }
     requires size { bytes ≡ length (twin_text (twin_view twin)) }
     requires short { bytes ≤ 32768 }
@@ -115,7 +69,17 @@ fn within_graph(
         (FailsBy (TwinFull (with_twin (twin_view twin) (state_of lent.now)) (twin_view twin))) }
     ensures held { IfOk result (λ new. IsHeldTwin (record { twin = new.twin; bytes = new.bytes })) }
 {
-    unless_full(lent, there, &twin, bytes)?;
+    if twins_with(lent, there) > MOST_TWINS {
+        return Err(BodyFailure::Refused(Refusal::Full {
+            limit: Limit::Twins,
+        }));
+    }
+    let before = bytes_before(there);
+    if lent.bytes() - before + bytes > MOST_GRAPH_BYTES {
+        return Err(BodyFailure::Refused(Refusal::Full {
+            limit: Limit::GraphBytes,
+        }));
+    }
     Ok(NewTwin { twin, bytes })
 }
 
@@ -123,11 +87,12 @@ fn within_graph(
 /// would be passed with it. Fails for want of memory too.
 pub(crate) fn within_limits(
     lent: &Lent<'_>,
-    there: Option<&Twin>,
+    there: Option<&Held>,
     twin: Twin,
 ) -> Result<NewTwin, BodyFailure>
     requires typed { WellTyped (state_of lent.now) }
-    requires there { option_map twin_view (option_copied there) ≡ twin_at twin.id (state_of lent.now) }
+    requires there { option_map twin_of (option_copied there) ≡ twin_at twin.id (state_of lent.now) }
+    requires held { IfSome (option_copied there) IsHeldTwin }
     requires kept { IsKeptTwin (twin_view twin) }
     ensures full { MatchResult result
         (λ new. Unrefused (TwinFull (with_twin (twin_view twin) (state_of lent.now)) (twin_view twin)) × (new.twin ≡ twin))

@@ -1,11 +1,11 @@
 //! The ask that patches a twin.
 
-ghost use Rattle.std.specs.Prelude.{◌≡◌, Some, IfOk, MatchResult};
+ghost use Rattle.std.specs.Prelude.{◌≡◌, Some, IfOk, IfSome, MatchResult};
 ghost use Rattle.std.specs.Option.{option_copied, option_map};
 ghost use Rattle.graph_asks.specs.declared.refusal.Refusal.{Refusal};
 ghost use Rattle.graph_bodies.specs.Bodies.{FailsBy};
-ghost use Rattle.graph_bodies.specs.Kept.{twin_view, IsKeptTwin};
-ghost use Rattle.graph_held.specs.Held.{state_of, IsHeldTwin};
+ghost use Rattle.graph_bodies.specs.Kept.{twin_view};
+ghost use Rattle.graph_held.specs.Held.{state_of, twin_of, IsHeldTwin};
 ghost use Rattle.graph_steps.specs.Soundness.{IsReadPatch, IsSound};
 ghost use Rattle.graph_steps.specs.States.{set_of, twin_at, twin_value, with_twin};
 ghost use Rattle.graph_steps.specs.TwinAsks.{BodyFault, RefusesNewBody, RefusesPatched, RefusesPatchTwin, after_patch_twin, interface_in, with_body, with_patched};
@@ -31,7 +31,7 @@ use graph_held::Lent;
 use json_tree::Tree;
 use model_resolve::Resolutions;
 use twin_patch::Patch;
-use twin_value::Twin;
+use twin_table::Held;
 
 /// Refuses a body that has a breach which shows without a model, or for want of memory.
 fn unless_outer_fault(lent: &Lent<'_>, tree: &Tree) -> Result<(), BodyFailure>
@@ -48,12 +48,13 @@ fn unless_outer_fault(lent: &Lent<'_>, tree: &Tree) -> Result<(), BodyFailure>
 fn judged_new_body(
     lent: &Lent<'_>,
     resolutions: &mut Resolutions,
-    there: Option<&Twin>,
+    there: Option<&Held>,
     id: &Text,
     tree: &Tree,
 ) -> Result<NewTwin, BodyFailure>
     requires typed { WellTyped (state_of lent.now) }
-    requires old { option_map twin_view (option_copied there) ≡ twin_at id.now (state_of lent.now) }
+    requires old { option_map twin_of (option_copied there) ≡ twin_at id.now (state_of lent.now) }
+    requires held { IfSome (option_copied there) IsHeldTwin }
     requires distinct { HasDistinctKeys (view tree.now) }
     requires right { HoldsRight (set_of (state_of lent.now)) resolutions.old }
     ensures right { HoldsRight (set_of (state_of lent.now)) resolutions.new }
@@ -75,25 +76,25 @@ fn judged_patched(
     lent: &Lent<'_>,
     resolutions: &mut Resolutions,
     id: &Text,
-    twin: &Twin,
+    held: &Held,
     patch: &Patch,
 ) -> Result<NewTwin, BodyFailure>
     requires typed { WellTyped (state_of lent.now) }
-    requires at { twin_at id.now (state_of lent.now) ≡ Some (twin_view twin.now) }
-    requires kept { IsKeptTwin (twin_view twin.now) }
+    requires at { twin_at id.now (state_of lent.now) ≡ Some (twin_of held.now) }
+    requires held { IsHeldTwin held.now }
     requires read { (of : PatchOf) × IsReadPatch of patch.now }
     requires right { HoldsRight (set_of (state_of lent.now)) resolutions.old }
     ensures right { HoldsRight (set_of (state_of lent.now)) resolutions.new }
     ensures judged { MatchResult result
-        (λ new. Unrefused (RefusesPatched (state_of lent.now) id.now (patched_from 0 (operations_of patch.now.ops) (twin_value (twin_view twin.now))))
-        × (with_twin (twin_view new.twin) (state_of lent.now) ≡ with_patched (state_of lent.now) id.now (patched_from 0 (operations_of patch.now.ops) (twin_value (twin_view twin.now)))))
-        (FailsBy (RefusesPatched (state_of lent.now) id.now (patched_from 0 (operations_of patch.now.ops) (twin_value (twin_view twin.now))))) }
+        (λ new. Unrefused (RefusesPatched (state_of lent.now) id.now (patched_from 0 (operations_of patch.now.ops) (twin_value (twin_of held.now))))
+        × (with_twin (twin_view new.twin) (state_of lent.now) ≡ with_patched (state_of lent.now) id.now (patched_from 0 (operations_of patch.now.ops) (twin_value (twin_of held.now)))))
+        (FailsBy (RefusesPatched (state_of lent.now) id.now (patched_from 0 (operations_of patch.now.ops) (twin_value (twin_of held.now))))) }
     ensures id { IfOk result (λ new. new.twin.id ≡ id.now) }
     ensures held { IfOk result (λ new. IsHeldTwin (record { twin = new.twin; bytes = new.bytes })) }
 {
-    let before = twin_tree(lent.alloc(), twin)?;
+    let before = twin_tree(lent.alloc(), &held.twin)?;
     let after = patched(lent.alloc(), before, patch)?;
-    judged_new_body(lent, resolutions, Some(twin), id, &after)
+    judged_new_body(lent, resolutions, Some(held), id, &after)
 }
 
 /// The twin that an ask to patch one brings. Fails by the first reason why it is refused, or for want of memory. What is lent
@@ -116,9 +117,9 @@ pub fn judged_patch(
     ensures held { IfOk result (λ new. IsHeldTwin (record { twin = new.twin; bytes = new.bytes })) }
 {
     let there = unless_frozen(lent, id)?;
-    let Some(twin) = there else {
+    let Some(held) = there else {
         let refusal = twin_not_found(lent.alloc(), id)?;
         return Err(BodyFailure::Refused(refusal));
     };
-    judged_patched(lent, resolutions, id, twin, patch)
+    judged_patched(lent, resolutions, id, held, patch)
 }

@@ -1,16 +1,15 @@
 use Rattle.std.proofs.Common.{◌≡◌, ◌+◌, ◌∙◌, length, map, sym, ap, arith}
 use Rattle.std.specs.Option.{option_copied, option_map}
 use Rattle.std.proofs.lemmas.List.{length-map}
-use Rattle.graph_bodies.specs.Kept.{link_view}
 use Rattle.graph_held.specs.Held.{link_of, state_of}
 use Rattle.link_judges.proofs.Passed.{links_over, links_new}
 use Rattle.link_judges.proofs.limits.links_with.Goals as goal
 
 pub returns-in-Some : goal.returns-in-Some
-returns-in-Some c =
+returns-in-Some c = λ l at.
     c.len-links.ensures.len ∙ ap length c.links.ensures ∙ sym (length-map c.args.lent.now.links link_of)
-    ∙ links_over (state_of c.args.lent.now) c.requires.typed (link_view c.args.link.now) (link_of c.in-Some.field-0.now)
-    (sym c.link.ensures.at ∙ ap (λ o. option_map link_of (option_copied o)) c.in-Some.is)
+    ∙ links_over (state_of c.args.lent.now) c.requires.typed l (link_of c.in-Some.field-0.now)
+    (sym at ∙ ap (λ o. option_map link_of (option_copied o)) c.in-Some.is)
 
 pub overflow_add-result : goal.overflow_add-result
 overflow_add-result c =
@@ -19,7 +18,7 @@ overflow_add-result c =
     omega (arith, same, few)
 
 pub returns-in-None : goal.returns-in-None
-returns-in-None c =
+returns-in-None c = λ l at.
     ap (λ n. n + 1) (c.len-links.ensures.len ∙ ap length c.links.ensures ∙ sym (length-map c.args.lent.now.links link_of))
-    ∙ links_new (state_of c.args.lent.now) c.requires.typed (link_view c.args.link.now)
-    (sym c.link.ensures.at ∙ ap (λ o. option_map link_of (option_copied o)) c.in-None.is)
+    ∙ links_new (state_of c.args.lent.now) c.requires.typed l
+    (sym at ∙ ap (λ o. option_map link_of (option_copied o)) c.in-None.is)

@@ -1,9 +1,10 @@
-use Rattle.std.proofs.Common.{◌∙◌, IfSome, sym, ap, subst}
+use Rattle.std.proofs.Common.{◌≡◌, ◌∙◌, length, IfSome, sym, ap, subst}
 use Rattle.std.specs.Option.{option_map}
 use Rattle.graph_steps.specs.LinkAsks.{link_at}
+use Rattle.graph_steps.specs.States.{link_text}
 use Rattle.graph_bodies.specs.Kept.{IsKeptLink}
 use Rattle.graph_held.specs.Held.{holding, state_of, link_of}
-use Rattle.graph_held.proofs.Viewed.{link_seen, link_kept}
+use Rattle.graph_held.proofs.Viewed.{link_seen, link_kept, link_size}
 use Rattle.graph_held.proofs.lent.Lent.link.Goals as goal
 
 pub returns-clause-at : goal.returns-clause-at
@@ -14,3 +15,6 @@ returns-clause-at c =
 
 pub returns-clause-kept : goal.returns-clause-kept
 returns-clause-kept c = subst (λ o. IfSome o (λ e. IsKeptLink (link_of e))) (sym c.get.ensures) (link_kept c.args.source.now c.args.id.now c.self.inside.links.now c.self.invariant.links)
+
+pub returns-clause-size : goal.returns-clause-size
+returns-clause-size c = subst (λ o. IfSome o (λ e. e.payload.bytes ≡ length (link_text (link_of e)))) (sym c.get.ensures) (link_size c.args.source.now c.args.id.now c.self.inside.links.now c.self.invariant.links)
