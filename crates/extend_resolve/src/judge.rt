@@ -54,6 +54,7 @@ pub struct Scratch {
 }
 
 impl<'a> Judge<'a> {
+    /// New interfaces beside a set, which has none of their identifiers. Fails only for want of memory.
     pub fn new(
         alloc: Global,
         set: &'a ModelSet,

@@ -18,6 +18,7 @@ pub struct Names {
 }
 
 impl Names {
+    /// The names of the contents of these interfaces. Fails only for want of memory.
     pub fn new(alloc: Global, nodes: &[&Interface]) -> Result<Names, OutOfMemory>
         ensures { IfOk result (λ names. IsNaming (map (λ n. n.now) nodes.now) names.declared.items names.bound) }
     {

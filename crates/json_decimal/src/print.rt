@@ -107,7 +107,7 @@ fn push_pointed(text: &mut String, coefficient: u128, places: u32) -> Result<(),
     text.insert(end - places as usize, '.')
 }
 
-/// Writes the digits of a whole number; those of one of 64 bits are found several times as fast.
+/// Writes the digits of a whole number. One of 64 bits is divided as such, and not as one of 128.
 fn push_digits(text: &mut String, coefficient: u128) -> Result<(), AllocError>
     ensures { OnOk result (string_bytes text.new ≡ string_bytes text.old ++ decimal coefficient) }
 {

@@ -127,8 +127,8 @@ impl Twins {
 
     /// Puts a twin with its size at its place, and gives the one with its id that was there.
     ///
-    /// `Err` is want of memory, or that the number of the twins or the sum of the sizes, with that of the one whose place
-    /// would be taken, would pass 64 bits: it hands the twin back, and nothing changes.
+    /// `Err` is want of memory, or that there are 2⁶⁴ - 1 twins already, or that the sum of the sizes, with that of the one whose
+    /// place would be taken, would pass 64 bits: it hands the twin back, and nothing changes.
     pub fn put(&mut self, twin: Twin, bytes: u64) -> Result<Option<Twin>, PutEnd>
         ensures old { IfOk result (λ old. old ≡ twin_at twin.id self.old) }
         ensures ok { OnOk result (self.new ≡ with_held (record { twin = twin; bytes = bytes }) self.old) }
