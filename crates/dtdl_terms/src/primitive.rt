@@ -44,16 +44,17 @@ impl Primitive {
 pub fn primitive_named(text: &str) -> Option<Primitive>
     ensures { MatchOption result ((p : Primitive) → primitive_name p ≡ text.now → ⊥) (λ p. primitive_name p ≡ text.now) }
 {
+    // Those that models have most stand first.
     match text {
-        "boolean" => Some(Primitive::Boolean),
-        "date" => Some(Primitive::Date),
-        "dateTime" => Some(Primitive::DateTime),
         "double" => Some(Primitive::Double),
-        "duration" => Some(Primitive::Duration),
-        "float" => Some(Primitive::Float),
         "integer" => Some(Primitive::Integer),
-        "long" => Some(Primitive::Long),
         "string" => Some(Primitive::Str),
+        "boolean" => Some(Primitive::Boolean),
+        "dateTime" => Some(Primitive::DateTime),
+        "float" => Some(Primitive::Float),
+        "long" => Some(Primitive::Long),
+        "date" => Some(Primitive::Date),
+        "duration" => Some(Primitive::Duration),
         "time" => Some(Primitive::Time),
         _ => None,
     }

@@ -1,6 +1,6 @@
 //! The walk over the bytes of a name or a DTMI.
 
-ghost use Rattle.std.specs.Prelude.{◌≡◌, ◌≤◌, length, nat_le};
+ghost use Rattle.std.specs.Prelude.{◌≡◌, ◌≤◌, length, nat_le, IsTrue, Some};
 ghost use Rattle.dtmi_name.specs.Machinery.Walking.{when, inside, step, need, ends, version_of, within, Tells};
 
 /// Where a reader stands in a text, behind the bytes that it has read.
@@ -71,10 +71,24 @@ fn digit(number: u32, byte: u8) -> Option<State>
     }
 }
 
+/// Whether the byte is a letter or digit that leaves the state as it is. Most bytes are, and this is told without a look at
+/// each state.
+fn stays(state: State, byte: u8) -> bool
+    ensures { IsTrue result → step state byte ≡ Some state }
+{
+    match state {
+        State::NameWord | State::SegmentWord => byte.is_ascii_alphanumeric(),
+        _ => false,
+    }
+}
+
 /// The state behind one more byte, where a text may go on with it.
 fn step(state: State, byte: u8) -> Option<State>
     ensures { result ≡ step state byte }
 {
+    if stays(state, byte) {
+        return Some(state);
+    }
     match state {
         State::NameStart => when(byte.is_ascii_alphabetic(), State::NameWord),
         State::NameWord => inside(byte, State::NameWord, State::NameUnderscore),
