@@ -1,7 +1,7 @@
 //! The names of contents by numbers.
 
 ghost use Rattle.std.specs.Prelude.{◌≡◌, map, Some, IfOk, OnOk};
-ghost use Rattle.extend_resolve.specs.Machinery.Names.{IsNaming, named_at, AreApart, KeepsNumbers, AreNumbers};
+ghost use Rattle.extend_resolve.specs.Machinery.Names.{IsNaming, first_bytes, named_at, AreApart, KeepsNumbers, AreNumbers};
 
 use dt_base::{List, OutOfMemory};
 use dtdl_terms::Interface;
@@ -35,7 +35,7 @@ impl Names {
 /// The numbers of the names that an interface declares. New names get new numbers.
 fn numbers_of<'a>(
     alloc: Global,
-    known: &mut BTreeMap<&'a str, usize>,
+    known: &mut BTreeMap<(u64, &'a str), usize>,
     node: &'a Interface,
 ) -> Result<List<usize>, OutOfMemory>
     requires { AreApart known.old.entries }
@@ -51,12 +51,30 @@ fn numbers_of<'a>(
 }
 
 /// The number of a name, which is the next one where the name is new.
-fn number_of<'a>(known: &mut BTreeMap<&'a str, usize>, name: &'a str) -> Result<usize, OutOfMemory>
+///
+/// A name is kept behind its first bytes, which stand in the map itself: so a search seldom looks at the text of a name
+/// that is kept, which lies elsewhere.
+fn number_of<'a>(
+    known: &mut BTreeMap<(u64, &'a str), usize>,
+    name: &'a str,
+) -> Result<usize, OutOfMemory>
     requires { AreApart known.old.entries }
     ensures apart { OnOk result (AreApart known.new.entries) }
     ensures kept { OnOk result (KeepsNumbers known.old.entries known.new.entries) }
     ensures number { IfOk result (λ number. named_at name.now known.new.entries ≡ Some number) }
 {
     let next = known.len();
-    Ok(*known.entry(name)?.or_insert(next))
+    Ok(*known.entry((first_bytes(name), name))?.or_insert(next))
+}
+
+/// The first eight bytes of a name, or all where it is shorter, as one number.
+fn first_bytes(name: &str) -> u64
+    ensures { result ≡ first_bytes name.now }
+{
+    let bytes = name.as_bytes();
+    let mut number = 0;
+    'bytes: for byte in &bytes[..bytes.len().min(8)] {
+        number = (number << 8) | u64::from(*byte);
+    }
+    number
 }
