@@ -10,4 +10,5 @@ pub mod Wholes
 pub mod ToldTrees
 pub mod Own
 pub mod Sets
+pub mod Pieces
 pub mod Keys

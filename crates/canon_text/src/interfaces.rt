@@ -1,14 +1,14 @@
-//! Interfaces and sets of them, as trees and as texts.
+//! Interfaces, as trees and as texts.
 
 ghost use Rattle.std.specs.Prelude.{◌≡◌, map, IfOk};
 ghost use Rattle.json_tree.specs.View.{view, member_view};
-ghost use Rattle.canon_text.specs.Canonical.{interface_value, interface_pair, interface_text, set_value, set_text, parent_pair};
+ghost use Rattle.canon_text.specs.Canonical.{interface_value, interface_text, parent_pair};
 
 use crate::common::{id, localized, optional_text, text};
 use crate::contents::named_contents;
 use crate::parts::{object, put};
 use crate::schemas::named_schemas;
-use crate::sorting::{list_in_order, optional_list};
+use crate::sorting::optional_list;
 use dt_base::{List, OutOfMemory, Text};
 use dtdl_terms::Interface;
 use dtmi_name::Dtmi;
@@ -65,37 +65,5 @@ pub fn canon_interface(alloc: Global, interface: &Interface) -> Result<List<u8>,
 {
     let tree = canon_tree(alloc, interface)?;
     let text = print(alloc, &tree)?.into_string(alloc)?;
-    Ok(List::from_vec(text.into_bytes()))
-}
-
-/// Interfaces by their identifiers.
-fn named_interfaces(alloc: Global, items: &[Interface]) -> Result<Vec<Member>, OutOfMemory>
-    ensures { IfOk result (λ members. map member_view members.items ≡ map interface_pair items.now) }
-{
-    let mut members = Vec::with_capacity(alloc, items.len())?;
-    for item in items {
-        let key = Text::from_str(alloc, item.id.as_str())?;
-        let value = canon_tree(alloc, item)?;
-        members.push(Member { key, value })?;
-    }
-    Ok(members)
-}
-
-/// The canonical tree of a set of interfaces, of which `canon` gives the text: a list of their canonical trees in the order
-/// of their identifiers. Fails only for want of memory.
-pub fn canon_set_tree(alloc: Global, interfaces: &[Interface]) -> Result<Tree, OutOfMemory>
-    ensures { IfOk result (λ tree. view tree ≡ set_value interfaces.now) }
-{
-    let members = named_interfaces(alloc, interfaces)?;
-    list_in_order(alloc, members)
-}
-
-/// The canonical text of a set of interfaces: that of its canonical tree, and a newline. Fails only for want of memory.
-pub fn canon(alloc: Global, interfaces: &[Interface]) -> Result<List<u8>, OutOfMemory>
-    ensures { IfOk result (λ bytes. bytes ≡ set_text interfaces.now) }
-{
-    let tree = canon_set_tree(alloc, interfaces)?;
-    let mut text = print(alloc, &tree)?.into_string(alloc)?;
-    text.push_str("\n")?;
     Ok(List::from_vec(text.into_bytes()))
 }

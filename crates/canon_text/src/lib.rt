@@ -11,8 +11,10 @@ mod numbers;
 mod own_ids;
 mod parts;
 mod schemas;
+mod set_texts;
 mod sorting;
 
-pub use interfaces::{canon, canon_interface, canon_set_tree, canon_tree};
+pub use interfaces::{canon_interface, canon_tree};
 pub use laws::{one_set_tree, one_text, one_tree, same_set_text, same_text};
 pub use own_ids::{each_identified, identified};
+pub use set_texts::{canon, canon_set_tree};
