@@ -1,0 +1,4 @@
+mod Starts
+mod Frames
+mod Appended
+mod Batched

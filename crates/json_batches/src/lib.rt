@@ -1,0 +1,10 @@
+//! Texts of JSON arrays, cut between elements into batches, so that a long one can be read without a value of the whole.
+#![tactic(auto)]
+
+mod ends;
+mod laws;
+mod texts;
+
+pub use ends::{array_start, batch_end};
+pub use laws::joined;
+pub use texts::put_batch;
