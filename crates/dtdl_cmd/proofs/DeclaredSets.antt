@@ -15,7 +15,7 @@ use Rattle.model_read.proofs.Documents.{all_have_declarations, all_within}
 use Rattle.extend_resolve.specs.Breaches.{IsSound}
 use Rattle.extend_resolve.specs.declared.rule.SetRule.TheVariants as rules
 use Rattle.dtdl_terms.specs.declared.spot.Spot.TheVariants as spots
-use Rattle.dtdl_cmd.specs.FirstFaults.{AllUploaded, Declare, IsUnbroken}
+use Rattle.document_judge.specs.FirstFaults.{AllUploaded, Declare, IsUnbroken}
 use Rattle.dtdl_cmd.specs.Answers.{interfaces_of}
 use Rattle.canon_faults.proofs.NormalForms.{spelled_distinct}
 use Rattle.model_read.proofs.Pairs.{distinct_pairs, mapped_back}

@@ -1,5 +1,3 @@
-pub mod Breached
-pub mod Firsts
 pub mod Gathered
 pub mod Ordinals
 pub mod OneCut
@@ -7,7 +5,6 @@ pub mod OneAnswer
 pub mod OneInput
 pub mod Ended
 pub mod Names
-pub mod Judged
 pub mod DeclaredSets
 pub mod PrintsItself
 pub mod Rooms

@@ -13,7 +13,7 @@ use Rattle.local_rules.specs.Members.{list_of, value_at}
 use Rattle.model_read.specs.Declarations.{AreEntriesOf, HasContents, HasEach, HasParents}
 use Rattle.model_read.specs.Uploads.{AreUploaded, HasOrdinal, IsUploaded, IsUploadedAt}
 use Rattle.extend_resolve.specs.Breaches.{HasOrdinals}
-use Rattle.dtdl_cmd.specs.FirstFaults.{AllUploaded}
+use Rattle.document_judge.specs.FirstFaults.{AllUploaded}
 
 -- the two keys differ in their first letters
 other_keys : codes "extends" ≡ codes "contents" → ⊥

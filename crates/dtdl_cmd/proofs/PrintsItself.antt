@@ -17,15 +17,15 @@ use Rattle.canon_faults.proofs.Uploads.{all_soundly, declared_once}
 use Rattle.canon_text.proofs.Told.{all_with}
 use Rattle.dtdl_cmd.specs.Words.{IsCommand}
 use Rattle.dtdl_cmd.specs.Documents.{MAX_BYTES}
-use Rattle.dtdl_cmd.specs.Lines.{IsBreachLine, IsJsonFaultLine}
-use Rattle.dtdl_cmd.specs.FirstFaults.{AllUploaded, Declare, HasFirstFault, HasLocalFault, HasSetFault, IsJson, IsUnbroken}
+use Rattle.document_judge.specs.Lines.{IsBreachLine, IsJsonFaultLine}
+use Rattle.document_judge.specs.FirstFaults.{AllUploaded, Declare, HasFirstFault, HasLocalFault, HasSetFault, IsJson, IsUnbroken}
 use Rattle.dtdl_cmd.specs.Answers.{Answers, AnswersDocuments, AnswersFound, Prints, interfaces_of}
 use Rattle.dtdl_cmd.specs.declared.command.Command.{Command}
 use Rattle.dtdl_cmd.specs.declared.command.Command.TheVariants as commands
 use Rattle.dtdl_cmd.specs.declared.status.Status.{Status}
 use Rattle.dtdl_cmd.specs.declared.status.Status.TheVariants as status
 use Rattle.dtdl_cmd.proofs.DeclaredSets.{texts_apart, without_places}
-use Rattle.dtdl_cmd.proofs.Firsts.{none_first}
+use Rattle.document_judge.proofs.Firsts.{none_first}
 use Rattle.dtdl_cmd.proofs.OneAnswer.{breached, faulty, one_values, same_command}
 use Rattle.dtdl_cmd.proofs.OneCut.{long_or_there, missing_or_there, one_there}
 use Rattle.dtdl_cmd.proofs.Ordinals.{all_append}

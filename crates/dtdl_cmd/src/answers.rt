@@ -8,12 +8,12 @@ ghost use Rattle.dtdl_cmd.specs.declared.status.Status.{Status};
 
 use crate::command::Command;
 use crate::documents::MAX_BYTES;
-use crate::judgement::declared_by;
-use crate::refusal::Refusal;
 use crate::status::Status;
+use document_judge::{Refusal, declared_by};
 use dt_base::{List, OutOfMemory};
 use dtdl_terms::{Interface, Uploaded};
 use std::alloc::Global;
+use std::mem::forget;
 
 /// A status, and the line or text that is written with it.
 #[derive(Debug, Drop)]
@@ -59,10 +59,12 @@ fn without_places(alloc: Global, uploads: Vec<Uploaded>) -> Result<Vec<Interface
     Ok(interfaces)
 }
 
-/// `check`: how many interfaces there are.
-fn accepted(alloc: Global, count: usize) -> Result<Answer, OutOfMemory>
-    ensures { IfOk result (λ answer. (answer.status ≡ Status.Ok) × (answer.line ≡ accepted_line count)) }
+/// `check`: how many interfaces there are. They are left to the system, as the program ends soon.
+fn accepted(alloc: Global, uploads: Vec<Uploaded>) -> Result<Answer, OutOfMemory>
+    ensures { IfOk result (λ answer. (answer.status ≡ Status.Ok) × (answer.line ≡ accepted_line (length uploads.items))) }
 {
+    let count = uploads.len();
+    forget(uploads);
     Ok(answer_with(Status::Ok, format!(in alloc; "accepted {count}\n")?))
 }
 
@@ -72,6 +74,7 @@ fn canonical(alloc: Global, uploads: Vec<Uploaded>) -> Result<Answer, OutOfMemor
 {
     let interfaces = without_places(alloc, uploads)?;
     let line = canon_text::canon(alloc, &interfaces)?;
+    forget(interfaces);
     if line.len() > MAX_BYTES {
         return Ok(answer_with(
             Status::TooLong,
@@ -93,7 +96,7 @@ pub fn answer_to_documents(
     requires few { length documents ≤ 4096 }
     ensures { IfOk result (λ answer. AnswersDocuments command documents answer.status answer.line) }
 {
-    let uploads = match declared_by(alloc, command, documents) {
+    let uploads = match declared_by(alloc, documents) {
         Ok(uploads) => uploads,
         Err(Refusal::Line(line)) => {
             return Ok(Answer {
@@ -104,7 +107,7 @@ pub fn answer_to_documents(
         Err(Refusal::OutOfMemory) => return Err(OutOfMemory),
     };
     match command {
-        Command::Check => accepted(alloc, uploads.len()),
+        Command::Check => accepted(alloc, uploads),
         Command::Canon => canonical(alloc, uploads),
     }
 }

@@ -11,7 +11,7 @@ ghost use Rattle.canon_text.specs.Canonical.{set_text};
 ghost use Rattle.canon_laws.specs.Typed.{IsTyped};
 ghost use Rattle.dtdl_cmd.specs.Words.{IsCommand};
 ghost use Rattle.dtdl_cmd.specs.Documents.{AreFound, MAX_BYTES, ShelfChange, StreamChange, documents_of};
-ghost use Rattle.dtdl_cmd.specs.FirstFaults.{Declare};
+ghost use Rattle.document_judge.specs.FirstFaults.{Declare};
 ghost use Rattle.dtdl_cmd.specs.Answers.{Answers, interfaces_of};
 ghost use Rattle.dtdl_cmd.specs.declared.command.Command.TheVariants as commands;
 ghost use Rattle.dtdl_cmd.specs.Runs.{Ends, EndsMake, IsDecided};

@@ -4,11 +4,8 @@
 mod answers;
 mod command;
 mod documents;
-mod judgement;
 mod laws;
-mod lines;
 mod makes;
-mod refusal;
 mod replays;
 mod run;
 mod status;

@@ -1,7 +1,9 @@
-//! Worked rows and outside vectors of numbers, of records that are read and of the commands, through the public calls of
-//! `json_decimal`, `model_read` and `dtdl_cmd`. They stand here, since a crate with tests of its own is proved twice.
+//! Worked rows and outside vectors of numbers, of records that are read, of documents in batches and of the commands, through the
+//! public calls of `json_decimal`, `model_read`, `model_batches` and `dtdl_cmd`. They stand here, since a crate with tests of its own is proved twice.
 #![tactic(auto)]
 
+#[cfg(test)]
+mod batches;
 #[cfg(test)]
 mod commands;
 #[cfg(test)]

@@ -1,0 +1,3 @@
+pub mod Breached
+pub mod Firsts
+pub mod Judged

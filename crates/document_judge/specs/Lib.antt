@@ -1,0 +1,4 @@
+-- What public contracts cite.
+pub mod Lines
+pub mod FirstFaults
+pub mod Refusing
