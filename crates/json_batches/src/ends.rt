@@ -8,7 +8,7 @@ ghost use Rattle.json_batches.specs.Batches.{rest_text};
 use memchr::memchr2;
 
 /// How many bytes a batch has at least, unless it is the last one: the values of so many lie in the caches of a processor.
-const LEAST: usize = 4096;
+pub(crate) const LEAST: usize = 4096;
 
 /// White space between the tokens of a text (RFC 8259, section 2).
 fn is_space(byte: u8) -> bool

@@ -3,8 +3,10 @@
 
 mod ends;
 mod laws;
+mod likely;
 mod texts;
 
 pub use ends::{array_start, batch_end};
 pub use laws::joined;
+pub use likely::likely_end;
 pub use texts::put_batch;

@@ -6,11 +6,11 @@ ghost use Rattle.json_tree.specs.Values.{Json};
 ghost use Rattle.json_batches.specs.Batches.{rest_text};
 ghost use Rattle.model_batches.specs.Faultless.{IsFaultless};
 
-use crate::batches::add_batch;
+use crate::batches::{add_batch, next_batch};
 use crate::parts::{uploads_of, value_of};
 use dt_base::{List, OutOfMemory};
 use dtdl_terms::Uploaded;
-use json_batches::{array_start, batch_end, joined, put_batch};
+use json_batches::{array_start, joined};
 use std::alloc::Global;
 
 /// The interfaces of a document that is read as one value.
@@ -40,14 +40,14 @@ fn interfaces_by_batches(
 {
     joined();
     let mut uploads = Vec::new(alloc);
-    let mut room = Vec::new(alloc);
+    let mut guesses = true;
     let mut at = start;
     'batches: while at < bytes.len() {
-        let end = batch_end(bytes, at);
-        put_batch(&mut room, bytes, at, end)?;
-        if !add_batch(alloc, &room, document, &mut uploads)? {
+        let Some(batch) = next_batch(alloc, bytes, document, at, &mut guesses)? else {
             return Ok(None);
-        }
+        };
+        let end = batch.end;
+        add_batch(alloc, &mut uploads, batch.uploads)?;
         if end == bytes.len() {
             return Ok(Some(List::from_vec(uploads)));
         }

@@ -1,5 +1,5 @@
 -- The interfaces of the elements of an array of which more may follow.
-use Rattle.std.specs.Prelude.{◌≡◌, ◌≢◌, ℕ, ◌+◌, List, [], ◌∷◌, ◌++◌, Some, decimal}
+use Rattle.std.specs.Prelude.{◌≡◌, ◌≢◌, ℕ, ◌+◌, ◌<◌, ◌≤◌, List, [], ◌∷◌, ◌++◌, Some, decimal, length, slice_index}
 use Rattle.std.specs.List.{AllByRecursion, AllZip, enumerate_from}
 use Rattle.json_decimal.specs.Number.{Number}
 use Rattle.json_tree.specs.Values.{Json, array, Elements, elements_of}
@@ -9,7 +9,7 @@ use Rattle.local_rules.specs.Breaches.{IsBreach, IsBroken}
 use Rattle.local_rules.specs.declared.rule.LocalRule.{LocalRule}
 use Rattle.dtdl_terms.specs.declared.uploaded.Uploaded.{Uploaded}
 use Rattle.model_read.specs.Uploads.{AreUploaded, IsUploadedAt}
-use Rattle.json_batches.specs.Batches.{rest_text}
+use Rattle.json_batches.specs.Batches.{batch_text, rest_text}
 
 -- The interface as that at this position of its document, which is a list.
 abbrev pub standing_at : ℕ → Uploaded → Uploaded
@@ -47,6 +47,13 @@ pub record IsBatch (bytes : List ℕ) (nth : ℕ) (vs : List Json) (uploads : Li
   pub spelled : Spells bytes (array (elements_of vs))
   pub unbroken : (place : List ℕ) (broken : LocalRule) → IsBreach (array (elements_of vs)) place broken → ⊥
   pub declares : AreUploaded (array (elements_of vs)) nth uploads
+
+-- The text between two positions, of which the later one is that of a comma or the end, is such a text of an array.
+pub record IsNext (bytes : List ℕ) (nth at end : ℕ) (uploads : List Uploaded) : Type 0 where
+  pub forward : at ≤ end
+  pub within : end ≤ length bytes
+  pub comma : end < length bytes → slice_index bytes end ≡ 44
+  pub read : (vs : List Json) × IsBatch (batch_text bytes at end) nth vs uploads
 
 -- These elements, the first ones of a document, break no rule and declare these interfaces.
 pub record AreRead (nth : ℕ) (vs : List Json) (uploads : List Uploaded) : Type 0 where
