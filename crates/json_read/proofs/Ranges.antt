@@ -87,6 +87,11 @@ range_added old new n v a None (Some up) h g =
     (range_up new n v (reverse up) a.last g.0, adds_before old new n v a h (reverse up) g)
 range_added old new n v a None None h g = adds_none old new n v a h g
 
+-- a part without one changes nothing
+pub way_kept : (before : Option (List ℕ)) (n : ℕ) → before ≡ first_way before None n
+way_kept None n = refl
+way_kept (Some up) n = refl
+
 pub adds_element : (vs : List Raw) (v : Raw) → Adds (array (elements_of vs)) (array (elements_of (vs ++ v ∷ []))) (length vs) v
 adds_element vs v = record {
   kept = λ i part e. element_old vs v i part e;

@@ -70,6 +70,36 @@ plain_more bytes at stop forward within b p =
     (all_append (slice_range bytes at stop) (slice_range bytes stop (stop + 1)) p
     (subst (AllByRecursion IsPlainByte) (sym one) (b, tt)))
 
+pub plain_join : (bytes : List ℕ) (from at stop : ℕ) → from ≤ at → at ≤ stop → AllByRecursion IsPlainByte (slice_range bytes from at)
+    → AllByRecursion IsPlainByte (slice_range bytes at stop) → AllByRecursion IsPlainByte (slice_range bytes from stop)
+plain_join bytes from at stop forward more p q =
+    subst (AllByRecursion IsPlainByte) (sym (slice_join bytes from at stop forward more))
+    (all_append (slice_range bytes from at) (slice_range bytes at stop) p q)
+
+-- up to four more, where so many are left
+pub plain_two : (bytes : List ℕ) (at stop : ℕ) → at ≤ stop → stop + 4 ≤ length bytes → IsPlainByte (get_or bytes stop 0)
+    → IsPlainByte (get_or bytes (stop + 1) 0) → AllByRecursion IsPlainByte (slice_range bytes at stop) → AllByRecursion IsPlainByte (slice_range bytes at (stop + 2))
+plain_two bytes at stop forward within b c p =
+    let place : stop + 1 + 1 ≡ stop + 2 = omega arith in
+    subst (λ (n : ℕ). AllByRecursion IsPlainByte (slice_range bytes at n)) place
+    (plain_more bytes at (stop + 1) (omega arith) (omega arith) c (plain_more bytes at stop forward (omega arith) b p))
+
+pub plain_three : (bytes : List ℕ) (at stop : ℕ) → at ≤ stop → stop + 4 ≤ length bytes → IsPlainByte (get_or bytes stop 0)
+    → IsPlainByte (get_or bytes (stop + 1) 0) → IsPlainByte (get_or bytes (stop + 2) 0) → AllByRecursion IsPlainByte (slice_range bytes at stop)
+    → AllByRecursion IsPlainByte (slice_range bytes at (stop + 3))
+plain_three bytes at stop forward within b c d p =
+    let place : stop + 2 + 1 ≡ stop + 3 = omega arith in
+    subst (λ (n : ℕ). AllByRecursion IsPlainByte (slice_range bytes at n)) place
+    (plain_more bytes at (stop + 2) (omega arith) (omega arith) d (plain_two bytes at stop forward within b c p))
+
+pub plain_four : (bytes : List ℕ) (at stop : ℕ) → at ≤ stop → stop + 4 ≤ length bytes → IsPlainByte (get_or bytes stop 0)
+    → IsPlainByte (get_or bytes (stop + 1) 0) → IsPlainByte (get_or bytes (stop + 2) 0) → IsPlainByte (get_or bytes (stop + 3) 0)
+    → AllByRecursion IsPlainByte (slice_range bytes at stop) → AllByRecursion IsPlainByte (slice_range bytes at (stop + 4))
+plain_four bytes at stop forward within b c d e p =
+    let place : stop + 3 + 1 ≡ stop + 4 = omega arith in
+    subst (λ (n : ℕ). AllByRecursion IsPlainByte (slice_range bytes at n)) place
+    (plain_more bytes at (stop + 3) (omega arith) (omega arith) e (plain_three bytes at stop forward within b c d p))
+
 pub plain_none : (bytes : List ℕ) (at : ℕ) → AllByRecursion IsPlainByte (slice_range bytes at at)
 plain_none bytes at = subst (AllByRecursion IsPlainByte) (sym (slice_none bytes at)) tt
 

@@ -17,6 +17,7 @@ const FEW_MEMBERS: usize = 8;
 /// The way up from the first value, in preorder, of a member with a key that an earlier one has: its position in the
 /// object, then that one's in what it stands in, and so on.
 #[cycle(keys)]
+#[inline(always)]
 pub fn first_duplicate(alloc: Global, tree: &Tree) -> Result<Option<Vec<u64>>, OutOfMemory>
     ensures { IfOk result (λ up. IsFirstDuplicate (view tree.now) (option_map (λ v. v.items) up)) }
 {

@@ -1,6 +1,6 @@
 //! Reading a JSON text, by recursive descent.
 
-ghost use Rattle.std.specs.Prelude.{◌≡◌, ◌≤◌, ◌⊎◌, ℕ, suc, List, [], ◌∷◌, length, None, IfOk, slice_index};
+ghost use Rattle.std.specs.Prelude.{◌≡◌, ◌≤◌, ◌⊎◌, ℕ, suc, List, [], ◌∷◌, length, Some, None, IfOk, slice_index};
 ghost use Rattle.std.specs.Option.{option_map};
 ghost use Rattle.json_tree.specs.Values.{Raw};
 ghost use Rattle.json_tree.specs.View.{view};
@@ -49,6 +49,7 @@ fn found_at(tree: Tree, at: usize) -> Found
 
 /// The value behind white space, in which arrays and objects nest at most `depth` deep.
 #[cycle(value)]
+#[inline(always)]
 fn value_of(alloc: Global, bytes: &[u8], depth: usize, at: usize) -> Result<Found, JsonFault>
     requires { at ≤ length bytes.now }
     ensures forward { IfOk result (λ r. at ≤ r.at) }
@@ -111,6 +112,7 @@ fn number_of(alloc: Global, bytes: &[u8], at: usize) -> Result<Found, JsonFault>
 }
 
 /// The way up from a number, with one more step, unless there is one already.
+#[inline(always)]
 fn first_range(
     before: Option<Vec<u64>>,
     inner: Option<Vec<u64>>,
@@ -119,16 +121,27 @@ fn first_range(
     ensures { IfOk result (λ up. option_map (λ v. v.items) up
         ≡ first_way (option_map (λ v. v.items) before) (option_map (λ v. v.items) inner) position) }
 {
+    match inner {
+        Some(steps) => first_step(before, steps, position),
+        None => Ok(before),
+    }
+}
+
+/// The same where there is a way within the part.
+fn first_step(
+    before: Option<Vec<u64>>,
+    inner: Vec<u64>,
+    position: usize,
+) -> Result<Option<Vec<u64>>, OutOfMemory>
+    ensures { IfOk result (λ up. option_map (λ v. v.items) up
+        ≡ first_way (option_map (λ v. v.items) before) (Some inner.items) position) }
+{
     if before.is_some() {
         return Ok(before);
     }
-    match inner {
-        Some(mut steps) => {
-            steps.push(position as u64)?;
-            Ok(Some(steps))
-        }
-        None => Ok(None),
-    }
+    let mut steps = inner;
+    steps.push(position as u64)?;
+    Ok(Some(steps))
 }
 
 /// The array behind its opening bracket, with values that nest at most `depth` deep.

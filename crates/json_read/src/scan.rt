@@ -41,7 +41,8 @@ pub fn byte_at(bytes: &[u8], at: usize) -> u8
 fn is_space(byte: u8) -> bool
     ensures { IsTrue result ↔ IsSpace byte }
 {
-    byte == b' ' || byte == b'\t' || byte == b'\n' || byte == b'\r'
+    // Most bytes take the first test alone.
+    byte <= b' ' && (byte == b' ' || byte == b'\t' || byte == b'\n' || byte == b'\r')
 }
 
 /// Behind white space.

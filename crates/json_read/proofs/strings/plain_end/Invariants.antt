@@ -3,12 +3,12 @@ use Rattle.std.specs.List.{slice_range, AllByRecursion}
 use Rattle.json_tree.specs.Grammar.{IsPlainByte}
 use Rattle.json_read.proofs.strings.plain_end.Given as goal
 
-abbrev pub invariant-plain : goal.invariant-plain
-invariant-plain l = record {
+abbrev pub invariant-fours : goal.invariant-fours
+invariant-fours l = record {
   forward : l.initial.at ≤ l.at;
   within : l.at ≤ length l.bytes;
   plain : AllByRecursion IsPlainByte (slice_range l.bytes l.initial.at l.at);
 }
 
-abbrev pub decreases-plain : goal.decreases-plain
-decreases-plain l = length l.bytes - l.at
+abbrev pub decreases-fours : goal.decreases-fours
+decreases-fours l = length l.bytes - l.at

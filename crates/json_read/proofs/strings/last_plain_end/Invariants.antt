@@ -1,0 +1,14 @@
+use Rattle.std.proofs.Common.{length, ◌-◌, ◌≤◌}
+use Rattle.std.specs.List.{slice_range, AllByRecursion}
+use Rattle.json_tree.specs.Grammar.{IsPlainByte}
+use Rattle.json_read.proofs.strings.last_plain_end.Given as goal
+
+abbrev pub invariant-plain : goal.invariant-plain
+invariant-plain l = record {
+  forward : l.initial.at ≤ l.at;
+  within : l.at ≤ length l.bytes;
+  plain : AllByRecursion IsPlainByte (slice_range l.bytes l.initial.at l.at);
+}
+
+abbrev pub decreases-plain : goal.decreases-plain
+decreases-plain l = length l.bytes - l.at
