@@ -1,6 +1,7 @@
 -- What the walk answers, by the arms and exits of its functions.
 use Rattle.std.proofs.Common.{◌≡◌, ℕ, ◌+◌, ◌⊎◌, inl, inr, Bool, List, [], ◌∷◌, ◌++◌, Option, Some, None, Result, refl, sym, ap, subst, ◌∙◌}
 use Rattle.std.specs.Result.{IfOk}
+use Rattle.std.specs.Global.{Vec}
 use Rattle.std.specs.Borrow.{Bor}
 use Rattle.std.specs.BTreeSet.{BTreeSet}
 use Rattle.json_decimal.specs.Number.{Number}
@@ -16,8 +17,7 @@ use Rattle.json_tree.specs.Places.{IsPart}
 use Rattle.local_rules.specs.Machinery.Marks.{part_marked}
 use Rattle.local_rules.specs.declared.rule.LocalRule.{LocalRule}
 use Rattle.local_rules.specs.declared.marks.MarkedRole.{MarkedRole}
-use Rattle.local_faults.specs.declared.walk.Found.{Found}
-use Rattle.local_faults.specs.Machinery.Walks.{IsBrokenFrom, IsFirstBroken, IsNoted, Walks, WalksPart, WalksClear, IsWalkedTo, IsClearHere, Judges}
+use Rattle.local_faults.specs.Machinery.Walks.{IsBrokenFrom, IsFirstBroken, IsNoted, Walks, WalksPart, WalksClear, IsWalkedTo, IsClearHere, Judges, found_by}
 use Rattle.local_faults.proofs.IdSets.{if_ok}
 use Rattle.local_faults.proofs.Walked.{IsNoText, here_after, walks_after, walked_leaf, judged, part_found, part_walked}
 
@@ -35,10 +35,11 @@ clear_after : (ms : Members Number) (before now : Ids) (r : MarkedRole) (v w : J
 clear_after ms before now r v w found j none e no_text = here_after ms before now r w (none_judged ms before now r v w found j none e) no_text
 
 pub ended_after : {E : Type 0} (ms : Members Number) (before now after : Ids) (r : MarkedRole) (v w : Json) (found : Option LocalRule) → Judges ms before now r v found → found ≡ None → v ≡ w
-    → IsNoText w → (result : Result (Option Found) E) → IfOk result (WalksClear ms now after r w) → IfOk result (Walks ms before after r v)
-ended_after ms before now after r v w found j none e no_text result ok =
-    if_ok result (WalksClear ms now after r w) (Walks ms before after r v)
-    (λ f walks. subst (λ (x : Json). Walks ms before after r x f) (sym e) (walks_after ms before now after r w f (none_judged ms before now r v w found j none e) no_text (walks (clear_after ms before now r v w found j none e no_text)))) ok
+    → IsNoText w → (steps : Vec ℕ) (result : Result (Option LocalRule) E) → IfOk result (λ rule. WalksClear ms now after r w (found_by steps rule))
+    → IfOk result (λ rule. Walks ms before after r v (found_by steps rule))
+ended_after ms before now after r v w found j none e no_text steps result ok =
+    if_ok result (λ rule. WalksClear ms now after r w (found_by steps rule)) (λ rule. Walks ms before after r v (found_by steps rule))
+    (λ rule walks. subst (λ (x : Json). Walks ms before after r x (found_by steps rule)) (sym e) (walks_after ms before now after r w (found_by steps rule) (none_judged ms before now r v w found j none e) no_text (walks (clear_after ms before now r v w found j none e no_text)))) ok
 
 -- it breaks none, and is a leaf
 pub leaf_after : (ms : Members Number) (before after : Ids) (r : MarkedRole) (v w : Json) (found : Option LocalRule) → Judges ms before after r v found → found ≡ None → v ≡ w
@@ -47,29 +48,35 @@ leaf_after ms before after r v w found j none e leaf =
     subst (λ (x : Json). Walks ms before after r x None) (sym e) (walked_leaf ms before after r w (none_judged ms before after r v w found j none e) leaf)
 
 -- it breaks one
-pub judged_so : (ms : Members Number) (before after end : Ids) (r : MarkedRole) (v : Json) (found : Found) (rule : Option LocalRule) → Judges ms before after r v rule
-    → rule ≡ Some found.rule → found.steps.items ≡ [] → Walks ms before end r v (Some found)
-judged_so ms before after end r v found rule j some empty =
-    judged ms before after end r v found found.rule (subst (λ (o : Option LocalRule). Judges ms before after r v o) some j) empty refl
+pub judged_so : (ms : Members Number) (before after end : Ids) (r : MarkedRole) (v : Json) (steps : Vec ℕ) (rule : LocalRule) (found : Option LocalRule) → Judges ms before after r v found
+    → found ≡ Some rule → steps.items ≡ [] → Walks ms before end r v (found_by steps (Some rule))
+judged_so ms before after end r v steps rule found j some empty =
+    judged ms before after end r v (record { steps = steps; rule = rule }) rule (subst (λ (o : Option LocalRule). Judges ms before after r v o) some j) empty refl
 
 -- ---- in the loops
-pub found_in_part : (ms : Members Number) (before now after end : Ids) (r : MarkedRole) (v : Json) (at : ℕ) (s : Option MarkedRole) (part : Json) (inner up : Found) (found : Option Found)
-    → IsWalkedTo ms before now r v at → IsClearHere ms before r v → IsPart v at part → part_marked r v at ≡ s
-    → WalksPart ms now after s part found → found ≡ Some inner
-    → (up.steps.items ≡ inner.steps.items ++ at ∷ []) × (up.rule ≡ inner.rule) → Walks ms before end r v (Some up)
-found_in_part ms before now after end r v at s part inner up found walked here p pr w some e =
-    let f = part_found ms before now after r v at s part inner walked here p pr (subst (λ (o : Option Found). WalksPart ms now after s part o) some w) in
-    record {
-      first = subst (λ (steps : List ℕ). IsFirstBroken (IsBrokenFrom ms (IsNoted before) r v) steps up.rule) (sym e.0)
-          (subst (λ (rule : LocalRule). IsFirstBroken (IsBrokenFrom ms (IsNoted before) r v) (inner.steps.items ++ at ∷ []) rule) (sym e.1) f);
+found_above : (ms : Members Number) (before now after end : Ids) (r : MarkedRole) (v : Json) (at : ℕ) (s : Option MarkedRole) (part : Json) (inner up : Vec ℕ) (rule : LocalRule) (found answer : Option LocalRule)
+    → IsWalkedTo ms before now r v at → IsPart v at part → part_marked r v at ≡ s → WalksPart ms now after s part (found_by inner found) → found ≡ Some rule
+    → (answer ≡ Some rule) × (up.items ≡ inner.items ++ at ∷ []) → WalksClear ms before end r v (found_by up answer)
+found_above ms before now after end r v at s part inner up rule found answer walked p pr w some e = λ here.
+    let f = part_found ms before now after r v at s part (record { steps = inner; rule = rule }) walked here p pr (subst (λ (o : Option LocalRule). WalksPart ms now after s part (found_by inner o)) some w) in
+    subst (λ (o : Option LocalRule). Walks ms before end r v (found_by up o)) (sym e.0) (record {
+      first = subst (λ (steps : List ℕ). IsFirstBroken (IsBrokenFrom ms (IsNoted before) r v) steps rule) (sym e.1) f;
       ids = λ none. absurd cc;
-    }
+    })
 
-pub none_in_part : (ms : Members Number) (before now after : Ids) (r : MarkedRole) (v : Json) (at : ℕ) (s : Option MarkedRole) (part : Json) (found : Option Found)
+pub found_in_part : {E : Type 0} (ms : Members Number) (before now after end : Ids) (r : MarkedRole) (v : Json) (at : ℕ) (s : Option MarkedRole) (part : Json) (inner up : Vec ℕ) (rule : LocalRule) (found : Option LocalRule)
+    → IsWalkedTo ms before now r v at → IsPart v at part → part_marked r v at ≡ s → WalksPart ms now after s part (found_by inner found) → found ≡ Some rule
+    → (result : Result (Option LocalRule) E) → IfOk result (λ answer. (answer ≡ Some rule) × (up.items ≡ inner.items ++ at ∷ []))
+    → IfOk result (λ answer. WalksClear ms before end r v (found_by up answer))
+found_in_part ms before now after end r v at s part inner up rule found walked p pr w some result ok =
+    if_ok result (λ answer. (answer ≡ Some rule) × (up.items ≡ inner.items ++ at ∷ [])) (λ answer. WalksClear ms before end r v (found_by up answer))
+    (λ answer e. found_above ms before now after end r v at s part inner up rule found answer walked p pr w some e) ok
+
+pub none_in_part : (ms : Members Number) (before now after : Ids) (r : MarkedRole) (v : Json) (at : ℕ) (s : Option MarkedRole) (part : Json) (steps : Vec ℕ) (found : Option LocalRule)
     → IsWalkedTo ms before now r v at → IsPart v at part → part_marked r v at ≡ s
-    → WalksPart ms now after s part found → found ≡ None → IsWalkedTo ms before after r v (at + 1)
-none_in_part ms before now after r v at s part found walked p pr w none =
-    part_walked ms before now after r v at s part walked p pr (subst (λ (o : Option Found). WalksPart ms now after s part o) none w)
+    → WalksPart ms now after s part (found_by steps found) → found ≡ None → IsWalkedTo ms before after r v (at + 1)
+none_in_part ms before now after r v at s part steps found walked p pr w none =
+    part_walked ms before now after r v at s part walked p pr (subst (λ (o : Option LocalRule). WalksPart ms now after s part (found_by steps o)) none w)
 
 -- where a leaf was one of several
 pub leaf_any : (tree : Tree) → (tree ≡ variants.Null) ⊎ ((b : Bool) × (tree ≡ variants.Bool b)) ⊎ ((d : Decimal) × (tree ≡ variants.Number d)) ⊎ ((t : List ℕ) × (tree ≡ variants.Text t))

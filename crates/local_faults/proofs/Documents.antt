@@ -20,7 +20,6 @@ use Rattle.local_faults.specs.declared.walk.Found.{Found}
 use Rattle.local_faults.specs.Machinery.Walks.{BreaksMarked, IsNoted, HasIdBefore, IsBrokenFrom, FindsFirst, Walks}
 use Rattle.local_faults.proofs.Rules.{id_along}
 use Rattle.local_faults.proofs.Marked.{role_of_marked, marked_of_role, mark_breaks, place_breaks}
-use Rattle.local_faults.proofs.IdSets.{if_ok}
 use Rattle.local_faults.proofs.Walked.{first_along, comes_before}
 
 abbrev Ids : Type 0
@@ -80,10 +79,11 @@ broken_whole ms ids empty v e place broken = (
       }),
 )
 
-pub whole : {E : Type 0} (ms : Members Number) (before after : Ids) → IsEmpty before → (v : Json) → ms ≡ members_in v → (result : Result (Option Found) E)
-    → IfOk result (Walks ms before after interface_role v) → IfOk result (FindsFirst (IsBroken v))
-whole ms before after empty v e result ok =
-    if_ok result (Walks ms before after interface_role v) (FindsFirst (IsBroken v)) (λ found w. first_along _ _ (broken_whole ms before empty v e) found w.first) ok
+pub whole : (ms : Members Number) (before after : Ids) → IsEmpty before → (v : Json) → ms ≡ members_in v → (r : MarkedRole) → r ≡ interface_role → (found : Option Found)
+    → Walks ms before after r v found → FindsFirst (IsBroken v) found
+whole ms before after empty v e r same found w =
+    let walked = subst (λ (s : MarkedRole). Walks ms before after s v found) same w in
+    first_along _ _ (broken_whole ms before empty v e) found walked.first
 
 -- ---- a list of interfaces
 pub record IsClearTo (vs : Elements Number) (at : ℕ) : Type 0 where

@@ -71,7 +71,18 @@ fn first_in_interface(alloc: Global, tree: &Tree) -> Result<Option<Found>, OutOf
 {
     let schemas = NamedSchemas::of(alloc, members_in(tree))?;
     let mut ids = BTreeSet::new(alloc);
-    first_in(tree, alloc, &schemas, MarkedRole::of_interface(), &mut ids)
+    let mut steps = Vec::new(alloc);
+    match first_in(
+        tree,
+        alloc,
+        &schemas,
+        &mut steps,
+        MarkedRole::of_interface(),
+        &mut ids,
+    )? {
+        Some(rule) => Ok(Some(Found { steps, rule })),
+        None => Ok(None),
+    }
 }
 
 /// The same in a list of interfaces.

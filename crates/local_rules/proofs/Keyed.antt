@@ -1,11 +1,19 @@
 -- Where the value under a key stands among the members.
-use Rattle.std.proofs.Common.{◌≡◌, ℕ, suc, List, Bool, true, false, cond, Some, refl}
+use Rattle.std.proofs.Common.{◌≡◌, ◌≢◌, ℕ, suc, List, Bool, true, false, cond, length, Some, refl, ap}
 use Rattle.std.specs.Prelude.{bytes_eq}
 use Rattle.std.proofs.lemmas.Slice.Eq.{bytes_eq-Decides}
 use Rattle.json_decimal.specs.Number.{Number}
 use Rattle.json_tree.specs.Values.{Json, Members, no_members, member}
 use Rattle.json_tree.specs.Places.{member_at}
 use Rattle.local_rules.specs.Members.{value_at}
+
+-- texts of two lengths are two
+other : (a b : List ℕ) (same : Bool) → (same ≡ true → a ≡ b) → length a ≢ length b → same ≡ false
+other a b true is not = absurd (not (ap length (is refl)))
+other a b false is not = refl
+
+pub other_lengths : (a b : List ℕ) → length a ≢ length b → bytes_eq a b ≡ false
+other_lengths a b not = other a b (bytes_eq a b) (bytes_eq-Decides a b).0 not
 
 first_or_later : (key k : List ℕ) (w : Json) (ms : Members Number) (v : Json) → ((u : Json) → value_at key ms ≡ Some u → (i : ℕ) × (member_at ms i ≡ Some (key, u)))
     → (same : Bool) → (same ≡ true → k ≡ key) → cond same (Some w) (value_at key ms) ≡ Some v → (i : ℕ) × (member_at (member k w ms) i ≡ Some (key, v))

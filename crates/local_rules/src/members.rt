@@ -1,6 +1,6 @@
 //! Looking into JSON values.
 
-ghost use Rattle.std.specs.Prelude.{◌≡◌, map, option_and_then};
+ghost use Rattle.std.specs.Prelude.{◌≡◌, bytes_eq, map, option_and_then};
 ghost use Rattle.std.specs.Option.{option_map};
 ghost use Rattle.json_tree.specs.View.{view, members_view};
 ghost use Rattle.local_rules.specs.Members.{entries_in, members_in, text_in, value_at, value_in};
@@ -40,12 +40,23 @@ pub fn entries_in(tree: &Tree) -> &[Tree]
     }
 }
 
+/// Whether two texts are the same. Their lengths tell most of them apart.
+#[tactic(auto, using(crate::proofs::Keyed::other_lengths))]
+pub(crate) fn is_same(one: &str, other: &str) -> bool
+    ensures { result ≡ bytes_eq one.now other.now }
+{
+    if one.len() != other.len() {
+        return false;
+    }
+    one == other
+}
+
 /// The value of the first member with this key.
 pub fn value_at<'a>(members: &'a [Member], key: &str) -> Option<&'a Tree>
     ensures { option_map (λ t. view t.now) result ≡ value_at key.now (members_view members.now) }
 {
     for member in members {
-        if member.key.as_str() == key {
+        if is_same(member.key.as_str(), key) {
             return Some(&member.value);
         }
     }

@@ -2,10 +2,11 @@
 //! members).
 
 ghost use Rattle.std.specs.Prelude.{◌≡◌, List, find, bytes_eq};
-ghost use Rattle.local_rules.specs.Tables.{key_text, optional, required, type_text, types_of};
+ghost use Rattle.local_rules.specs.Tables.{key_text, optional, required, type_text};
 ghost use Rattle.local_rules.specs.Roles.{element_named, key_of};
 
 use crate::key::Key;
+use crate::members::is_same;
 use crate::role::{Element, Position};
 
 /// The keys that an element must have.
@@ -96,7 +97,7 @@ fn key_among(keys: &[Key], text: &str) -> Option<Key>
     ensures { result ≡ find (λ k. bytes_eq (key_text k) text.now) keys.now }
 {
     for key in keys {
-        if key.text() == text {
+        if is_same(key.text(), text) {
             return Some(*key);
         }
     }
@@ -111,30 +112,6 @@ pub fn key_of(element: Element, text: &str) -> Option<Key>
     match key_among(required(element), text) {
         Some(key) => Some(key),
         None => key_among(optional(element), text),
-    }
-}
-
-/// The types that `@type` may name in a position.
-fn types_of(position: Position) -> &'static [Element]
-    ensures { result.now ≡ types_of position }
-{
-    match position {
-        Position::Interface => &[Element::Interface],
-        Position::Content => &[
-            Element::Telemetry,
-            Element::Property,
-            Element::Command,
-            Element::Relationship,
-            Element::Component,
-        ],
-        Position::Property => &[Element::Property],
-        Position::Schema => &[
-            Element::Array,
-            Element::Enumeration,
-            Element::Map,
-            Element::Object,
-        ],
-        Position::Free => &[],
     }
 }
 
@@ -160,14 +137,50 @@ impl Element {
     }
 }
 
+/// The type of an entry of `contents` that this text names.
+fn content_named(text: &str) -> Option<Element>
+    ensures { result ≡ element_named Position.Content text.now }
+{
+    if is_same("Telemetry", text) {
+        return Some(Element::Telemetry);
+    }
+    if is_same("Property", text) {
+        return Some(Element::Property);
+    }
+    if is_same("Command", text) {
+        return Some(Element::Command);
+    }
+    if is_same("Relationship", text) {
+        return Some(Element::Relationship);
+    }
+    is_same("Component", text).then_some(Element::Component)
+}
+
+/// The type of a schema that this text names.
+fn schema_named(text: &str) -> Option<Element>
+    ensures { result ≡ element_named Position.Schema text.now }
+{
+    if is_same("Array", text) {
+        return Some(Element::Array);
+    }
+    if is_same("Enum", text) {
+        return Some(Element::Enumeration);
+    }
+    if is_same("Map", text) {
+        return Some(Element::Map);
+    }
+    is_same("Object", text).then_some(Element::Object)
+}
+
 /// The type of a position that this text names.
 pub fn element_named(position: Position, text: &str) -> Option<Element>
     ensures { result ≡ element_named position text.now }
 {
-    for element in types_of(position) {
-        if element.text() == text {
-            return Some(*element);
-        }
+    match position {
+        Position::Interface => is_same("Interface", text).then_some(Element::Interface),
+        Position::Content => content_named(text),
+        Position::Property => is_same("Property", text).then_some(Element::Property),
+        Position::Schema => schema_named(text),
+        Position::Free => None,
     }
-    None
 }

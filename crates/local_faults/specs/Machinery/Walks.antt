@@ -1,5 +1,7 @@
 -- What the walk over an interface answers. Its values stand in marked roles.
 use Rattle.std.specs.Prelude.{◌≡◌, ℕ, ◌<◌, ◌⊎◌, ◌↔◌, List, ◌∷◌, reverse, Option, Some, None, true}
+use Rattle.std.specs.Option.{option_map}
+use Rattle.std.specs.Global.{Vec}
 use Rattle.std.specs.Borrow.{Bor}
 use Rattle.std.specs.Ordering.{nat_cmp}
 use Rattle.std.specs.Cmp.Lexicographic.{slice_cmp}
@@ -65,6 +67,10 @@ pub record IsFirstBroken (Broken : List ℕ → LocalRule → Type 0) (up : List
 abbrev pub FindsFirst : (List ℕ → LocalRule → Type 0) → Option Found → Type 0
 FindsFirst Broken None = (place : List ℕ) (broken : LocalRule) → Broken place broken → ⊥
 FindsFirst Broken (Some found) = IsFirstBroken Broken found.steps.items found.rule
+
+-- The breach with this way up from it and this rule; None where there is none.
+abbrev pub found_by : Vec ℕ → Option LocalRule → Option Found
+found_by steps rule = option_map (λ broken. record { steps = steps; rule = broken }) rule
 
 -- The set has this text.
 pub record IsNoted (ids : BTreeSet (Bor (List ℕ))) (bytes : List ℕ) : Type 0 where
