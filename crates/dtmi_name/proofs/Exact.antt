@@ -29,10 +29,6 @@ module _ (Text : List ℕ → Type 0) where
       elim (cases_order a b)
       [ inl e ↦ e | inr o ↦ elim o [ inl h ↦ absurd (wrong_before bytes a b v w h) | inr h ↦ absurd (wrong_before bytes b a w v h) ] ]
 
-name_some : (bytes : List ℕ) → NameText bytes → 0 < length bytes
-name_some [] t = absurd (false≢true t.segment.first)
-name_some (c ∷ cs) t = omega arith
-
 name_viable_short : (bytes : List ℕ) → IsViable NameText bytes → length bytes ≤ 64
 name_viable_short bytes v = omega (arith, v.1.short, length-append bytes v.0)
 
@@ -44,15 +40,6 @@ dtmi_some [] t = let e = t.1.form.spelled in cc
 dtmi_some (c ∷ cs) t = omega arith
 
 -- ---- a text that is read is refused by want of memory alone
-pub name_refused : (bytes : List ℕ) (f : NameFault) → NameText bytes → RefusesName bytes f → f ≡ OutOfMemory
-name_refused bytes Empty t r = absurd (omega (arith, name_some bytes t, ap length r))
-name_refused bytes TooLong t r = absurd (omega (arith, t.short))
-name_refused bytes (BadByte at) t r = absurd (wrong_viable NameText bytes at r.1 (viable-from_text NameText bytes t))
-name_refused bytes Ends t r = absurd (r.1.none t)
-name_refused bytes BadVersion t r = absurd r
-name_refused bytes Reserved t r = absurd r
-name_refused bytes OutOfMemory t r = refl
-
 pub dtmi_refused : (bytes : List ℕ) (i : Identifier) (f : NameFault) → OwnDtmiText bytes i → RefusesDtmi bytes f → f ≡ OutOfMemory
 dtmi_refused bytes i Empty t r = absurd (omega (arith, dtmi_some bytes (i, t.text), ap length r))
 dtmi_refused bytes i TooLong t r = absurd (omega (arith, t.text.short))

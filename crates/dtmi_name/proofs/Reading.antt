@@ -208,21 +208,6 @@ reads_names = record {
   walked = λ bytes x. (NameWord, run-name bytes x.segment, refl, x.short);
 }
 
-pub name_whole : (text bytes : List ℕ) (p : State) (r : Bool) → bytes ≡ text → Tells NameStart 64 bytes (outcome.Whole p) → r ≡ ends p → IsTrue r ↔ NameText text
-name_whole text bytes p r same t e = (
-  λ h. subst NameText same (text_at_end NameText NameStart 64 reads_names bytes p t (eqb-true (need p) 0 (sym e ∙ h))),
-  λ x.
-      let w = reads_names.walked bytes (subst NameText (sym same) x) in
-      let q : w.0 ≡ p = let is = w.1 in cc in
-      e ∙ eq-eqb (need p) 0 (ap need (sym q) ∙ w.2),
-)
-
-pub name_wrong : (text bytes : List ℕ) (at : ℕ) (p : State) → bytes ≡ text → Tells NameStart 64 bytes (outcome.Wrong at p) → IsTrue false ↔ NameText text
-name_wrong text bytes at p same t = (
-  λ e. absurd (false≢true e),
-  λ x. absurd (not_wrong NameText NameStart 64 reads_names bytes at p (subst NameText (sym same) x) t),
-)
-
 -- ---- DTMIs
 dtmi_end : (p : State) → of_name p ≡ false → need p ≡ 0 → (v : ℕ) × (p ≡ Version v)
 dtmi_end NameStart k z = cc

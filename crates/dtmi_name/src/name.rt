@@ -1,12 +1,14 @@
 //! Names, as contents, fields and enumeration entries have them.
 
 ghost use Rattle.std.specs.Prelude.{◌≡◌, ◌↔◌, ◌<◌, length, IfOk, IsTrue, MatchResult};
-ghost use Rattle.dtmi_name.specs.Grammar.{NameText};
+ghost use Rattle.std.specs.List.{AllPass};
+ghost use Rattle.dtmi_name.specs.Grammar.{IsSegment, NameText, is_name_byte};
 ghost use Rattle.dtmi_name.specs.Faults.{RefusesName};
 ghost use Rattle.dtmi_name.specs.Machinery.Walking.{Tells};
 
 use crate::fault::NameFault;
 use crate::walk::{Outcome, State, ends, walk};
+use dt_base::Text;
 use std::alloc::{AllocError, Global};
 use std::marker::Model;
 
@@ -19,22 +21,21 @@ const MOST_BYTES: usize = 64;
 /// Contracts see its bytes.
 #[derive(Debug, Drop)]
 pub struct Name {
-    text: String,
+    text: Text,
 }
 
 impl Model for Name {
     ghost use Rattle.std.specs.Prelude.{List, ℕ};
     ghost use Rattle.std.specs.Coded.{coded_list, coded_ℕ};
-    ghost use Rattle.std.specs.String.{string_bytes};
     ghost use Rattle.dtmi_name.specs.Grammar.{NameText};
 
     ghost Value = { List ℕ };
 
     ghost coded = { coded_list coded_ℕ };
 
-    ghost view = { λ n. string_bytes n.text };
+    ghost view = { λ n. n.text };
 
-    ghost invariant = { λ n. NameText (string_bytes n.text) };
+    ghost invariant = { λ n. NameText n.text };
 }
 
 impl Name {
@@ -44,9 +45,20 @@ impl Name {
         ensures { MatchResult result (λ name. (name ≡ text.now) × NameText text.now) (RefusesName text.now) }
     {
         check(text.as_bytes())?;
-        match String::from_str(alloc, text) {
-            Ok(text) => Ok(Name { text }),
+        match Name::of(alloc, text) {
+            Ok(name) => Ok(name),
             Err(_) => Err(NameFault::OutOfMemory),
+        }
+    }
+
+    /// The name with these bytes, which are one, so that they are not read again. It fails where there is no memory.
+    pub fn of(alloc: Global, text: &str) -> Result<Name, AllocError>
+        requires { NameText text.now }
+        ensures { IfOk result (λ name. name ≡ text.now) }
+    {
+        match Text::from_str(alloc, text) {
+            Ok(text) => Ok(Name { text }),
+            Err(_) => Err(AllocError),
         }
     }
 
@@ -62,8 +74,7 @@ impl Name {
     pub fn copy(&self, alloc: Global) -> Result<Name, AllocError>
         ensures { IfOk result (λ name. name ≡ self.now) }
     {
-        let text = String::from_str(alloc, self.text.as_str())?;
-        Ok(Name { text })
+        Name::of(alloc, self.as_str())
     }
 }
 
@@ -71,13 +82,38 @@ impl Name {
 pub fn is_name(text: &str) -> bool
     ensures { IsTrue result ↔ NameText text.now }
 {
-    if text.len() > MOST_BYTES {
-        return false;
+    text.len() <= MOST_BYTES && is_segment(text.as_bytes())
+}
+
+/// Whether bytes are a letter, then letters, digits and underscores, of which the last is no underscore.
+fn is_segment(bytes: &[u8]) -> bool
+    ensures { IsTrue result ↔ IsSegment bytes.now }
+{
+    match (bytes.first(), bytes.last()) {
+        (Some(first), Some(last)) => {
+            first.is_ascii_alphabetic() && last.is_ascii_alphanumeric() && are_name_bytes(bytes)
+        }
+        _ => false,
     }
-    match walk(State::NameStart, MOST_BYTES, text.as_bytes()) {
-        Outcome::Whole(state) => ends(state),
-        Outcome::Wrong { .. } => false,
+}
+
+/// Whether each byte is a letter, a digit or an underscore.
+fn are_name_bytes(bytes: &[u8]) -> bool
+    ensures { IsTrue result ↔ AllPass is_name_byte bytes.now }
+{
+    for byte in bytes {
+        if !is_name_byte(*byte) {
+            return false;
+        }
     }
+    true
+}
+
+/// Whether a byte is a letter, a digit or an underscore.
+fn is_name_byte(byte: u8) -> bool
+    ensures { result ≡ is_name_byte byte }
+{
+    byte.is_ascii_alphanumeric() || byte == b'_'
 }
 
 /// Refuses what is no name.

@@ -1,10 +1,12 @@
 -- What a value that can be of a grammar is read as.
-use Rattle.std.proofs.Common.{◌≡◌, ℕ, ◌<◌, List, length, map, get_or, refl, sym, subst, ◌∙◌, arith}
-use Rattle.std.specs.Prelude.{ℤ, pos, negsuc, ◌≤ℤ◌}
+use Rattle.std.proofs.Common.{◌≡◌, ℕ, ◌-◌, ◌<◌, Bool, true, false, nat_le, List, length, map, get_or, refl, sym, subst, ◌∙◌, arith}
+use Rattle.std.specs.Prelude.{ℤ, pos, negsuc, ◌≤ℤ◌, slice_index}
+use Rattle.std.specs.Char.{is_ascii_alphabetic, is_ascii_alphanumeric}
+use Rattle.std.proofs.lemmas.Bool.{leb-true, le-leb}
 use Rattle.std.proofs.lemmas.Int.{ints}
-use Rattle.dtmi_name.specs.Faults.{RefusesName, RefusesDtmi}
-use Rattle.dtmi_name.specs.Grammar.{NameText, OwnDtmiText, dtmi_text}
-use Rattle.dtmi_name.proofs.Exact.{name_refused, dtmi_refused}
+use Rattle.dtmi_name.specs.Faults.{RefusesDtmi}
+use Rattle.dtmi_name.specs.Grammar.{NameText, OwnDtmiText, dtmi_text, is_name_byte}
+use Rattle.dtmi_name.proofs.Exact.{dtmi_refused}
 use Rattle.dtmi_name.specs.declared.fault.NameFault.{NameFault}
 use Rattle.dtmi_name.specs.declared.fault.NameFault.TheVariants as fault
 use Rattle.json_decimal.specs.Number.{Number}
@@ -45,10 +47,23 @@ is_memory fault.Ends can = absurd (can (λ e. cc))
 is_memory fault.BadVersion can = absurd (can (λ e. cc))
 is_memory fault.Reserved can = absurd (can (λ e. cc))
 
-pub name_wants_memory : (bytes : List ℕ) (f : NameFault) → CanBeName (text bytes) → RefusesName bytes f → f ≡ fault.OutOfMemory
-name_wants_memory bytes f can refused = is_memory f (λ other. can (λ is.
-    let same : bytes ≡ is.0 = (let e = is.1 in cc) in
-    other (name_refused bytes f (subst NameText (sym same) is.2) refused)))
+stable : (b : Bool) → CanBe (b ≡ true) → b ≡ true
+stable true can = refl
+stable false can = absurd (can (λ e. cc))
+
+-- a text that can be a name is one
+pub name_text : (bytes : List ℕ) → CanBeName (text bytes) → NameText bytes
+name_text bytes can = record {
+  segment = record {
+    first = stable (is_ascii_alphabetic (slice_index bytes 0)) (λ none. is_one (λ n. none n.segment.first));
+    each = λ i d within. stable (is_name_byte (get_or bytes i d)) (λ none. is_one (λ n. none (n.segment.each i d within)));
+    last = stable (is_ascii_alphanumeric (slice_index bytes (length bytes - 1))) (λ none. is_one (λ n. none n.segment.last));
+  };
+  short = leb-true (length bytes) 64 (stable (nat_le (length bytes) 64) (λ none. is_one (λ n. none (le-leb (length bytes) 64 n.short))));
+}
+  where
+    is_one : CanBe (NameText bytes)
+    is_one none = can (λ is. none (let same : bytes ≡ is.0 = (let e = is.1 in cc) in subst NameText (sym same) is.2))
 
 pub id_wants_memory : (bytes : List ℕ) (f : NameFault) → CanBeId (text bytes) → RefusesDtmi bytes f → f ≡ fault.OutOfMemory
 id_wants_memory bytes f can refused = is_memory f (λ other. can (λ is.

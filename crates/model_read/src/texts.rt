@@ -53,10 +53,7 @@ fn name_in(alloc: Global, bytes: &str) -> Result<Name, OutOfMemory>
     requires { CanBeName (text bytes.now) }
     ensures { IfOk result (λ name. name ≡ bytes.now) }
 {
-    match Name::read(alloc, bytes) {
-        Ok(name) => Ok(name),
-        Err(fault) => Err(want_of_memory(fault)),
-    }
+    Ok(Name::of(alloc, bytes)?)
 }
 
 /// The name that a value is.
