@@ -17,7 +17,8 @@ use Rattle.model_read.proofs.Within.{interface_within}
 use Rattle.canon_laws.specs.Typed.{IsTyped}
 use Rattle.canon_laws.proofs.Documents.{interface_typed}
 use Rattle.canon_faults.specs.Normal.{HasNormalNumbers}
-use Rattle.canon_faults.specs.Declared.{BreaksNoLocalRule, IsSoundlyDeclared}
+use Rattle.local_rules.specs.Breaches.{BreaksNoLocalRule}
+use Rattle.canon_faults.specs.Declared.{IsSoundlyDeclared}
 use Rattle.canon_faults.proofs.NormalForms.{element_normal, spelled_distinct, spelled_normal}
 
 abbrev IsRead : Json → Type 0

@@ -3,7 +3,7 @@ use Rattle.std.specs.Prelude.{ℕ, List}
 use Rattle.json_decimal.specs.Number.{Number}
 use Rattle.json_tree.specs.Values.{Json, object, Members, HasDistinctKeys}
 use Rattle.dtdl_terms.specs.declared.interface.Interface.{Interface}
-use Rattle.local_rules.specs.Breaches.{IsBreach, IsBroken}
+use Rattle.local_rules.specs.Breaches.{IsBroken}
 use Rattle.local_rules.specs.declared.rule.LocalRule.{LocalRule}
 use Rattle.model_read.specs.Declarations.{DeclaresInterface}
 use Rattle.canon_faults.specs.Normal.{HasNormalNumbers}
@@ -16,7 +16,3 @@ pub record IsSoundlyDeclared (i : Interface) : Type 0 where
   pub numbers : HasNormalNumbers (object members)
   pub unbroken : (place : List ℕ) (broken : LocalRule) → IsBroken (object members) place broken → ⊥
   pub declares : DeclaresInterface members i
-
--- No local rule is broken at any place of the document.
-abbrev pub BreaksNoLocalRule : Json → Type 0
-BreaksNoLocalRule v = (place : List ℕ) (broken : LocalRule) → IsBreach v place broken → ⊥

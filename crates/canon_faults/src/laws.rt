@@ -12,7 +12,8 @@ ghost use Rattle.model_read.specs.Uploads.{AreUploaded};
 ghost use Rattle.canon_text.specs.Canonical.{set_value};
 ghost use Rattle.canon_laws.specs.Typed.{IsTyped};
 ghost use Rattle.canon_faults.specs.Normal.{HasNormalNumbers};
-ghost use Rattle.canon_faults.specs.Declared.{BreaksNoLocalRule, IsSoundlyDeclared};
+ghost use Rattle.local_rules.specs.Breaches.{BreaksNoLocalRule};
+ghost use Rattle.canon_faults.specs.Declared.{IsSoundlyDeclared};
 
 /// Read as a document, the canonical tree of interfaces that documents without breach declare breaks no local rule: each
 /// of the 34 holds at each of its places.

@@ -5,7 +5,8 @@ ghost use Rattle.std.specs.List.{AllByRecursion};
 ghost use Rattle.json_tree.specs.Values.{Json};
 ghost use Rattle.json_tree.specs.Grammar.{Spells};
 ghost use Rattle.canon_text.specs.Canonical.{set_value, set_text};
-ghost use Rattle.canon_faults.specs.Declared.{BreaksNoLocalRule, IsSoundlyDeclared};
+ghost use Rattle.local_rules.specs.Breaches.{BreaksNoLocalRule};
+ghost use Rattle.canon_faults.specs.Declared.{IsSoundlyDeclared};
 
 use crate::laws::{break_nothing, soundly_declared};
 use canon_laws::reads_back;

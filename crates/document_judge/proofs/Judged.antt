@@ -3,6 +3,7 @@ use Rattle.std.proofs.Common.{◌≡◌, ℕ, suc, ◌+◌, ◌<◌, ◌≤◌, 
 use Rattle.std.proofs.lemmas.List.{take_more, map-append, length-take-le, length-map}
 use Rattle.std.proofs.lemmas.Slice.Zip.{AllZip-long, all_zipped_more}
 use Rattle.std.specs.List.{AllByRecursion, AllZip}
+use Rattle.local_rules.specs.Breaches.{BreaksNoLocalRule}
 use Rattle.json_tree.specs.Values.{Json}
 use Rattle.json_tree.specs.View.{view}
 use Rattle.json_tree.specs.Grammar.{Spells}
@@ -16,7 +17,8 @@ use Rattle.extend_resolve.specs.declared.end.SetEnd.{SetEnd}
 use Rattle.extend_resolve.specs.declared.end.SetEnd.TheVariants as ends
 use Rattle.extend_resolve.specs.declared.rule.SetRule.{SetRule}
 use Rattle.document_judge.specs.Lines.{IsBreachLine, IsJsonFaultLine}
-use Rattle.document_judge.specs.FirstFaults.{AllUploaded, AreFaultless, Declare, HasJsonFault, HasLocalFault, IsJson, IsUnbroken}
+use Rattle.document_judge.specs.FirstFaults.{AllUploaded, Declare, HasJsonFault, HasLocalFault, IsJson}
+use Rattle.document_judge.specs.Machinery.Documents.{AreFaultless}
 use Rattle.model_batches.specs.Faultless.{IsFaultless}
 use Rattle.document_judge.specs.Refusing.{IsRefusal}
 use Rattle.document_judge.specs.declared.refusal.Refusal.{Refusal}
@@ -58,12 +60,12 @@ viewed_front (t ∷ ts) zero = refl
 viewed_front (t ∷ ts) (suc k) = ap (λ (vs : List Json). view t ∷ vs) (viewed_front ts k)
 
 pub local_fault : (trees : List Tree) (k : ℕ) (tree : Tree) (r : Refusal) → k < length trees → tree ≡ get_or trees k tree
-    → AllByRecursion IsUnbroken (map view (take k trees)) → IsRefusal (IsBreachLine (k + 1) (view tree)) r → IsRefusal (HasLocalFault (map view trees)) r
+    → AllByRecursion BreaksNoLocalRule (map view (take k trees)) → IsRefusal (IsBreachLine (k + 1) (view tree)) r → IsRefusal (HasLocalFault (map view trees)) r
 local_fault trees k tree r within is all h =
     let less : k < length (map view trees) = let same = length-map trees view in omega (arith, within, same) in
-    let front : AllByRecursion IsUnbroken (take k (map view trees)) = subst (AllByRecursion IsUnbroken) (viewed_front trees k) all in
+    let front : AllByRecursion BreaksNoLocalRule (take k (map view trees)) = subst (AllByRecursion BreaksNoLocalRule) (viewed_front trees k) all in
     weaker (IsBreachLine (k + 1) (view tree)) (HasLocalFault (map view trees))
-    (λ line f. first_at IsUnbroken IsBreachLine (map view trees) 1 k (view tree) line less (viewed_at trees k tree within is) front
+    (λ line f. first_at BreaksNoLocalRule IsBreachLine (map view trees) 1 k (view tree) line less (viewed_at trees k tree within is) front
     (subst (λ (n : ℕ). IsBreachLine n (view tree) line) (turned k) f)) r h
 
 one_more : (trees : List Tree) (k : ℕ) (tree : Tree) → k < length trees → tree ≡ get_or trees k tree → map view (take (k + 1) trees) ≡ map view (take k trees) ++ view tree ∷ []
@@ -71,9 +73,9 @@ one_more trees k tree within is =
     ap (map view) (take_more trees k tree within ∙ ap (λ (t : Tree). take k trees ++ t ∷ []) (sym is)) ∙ map-append view (take k trees) (tree ∷ [])
 
 pub unbroken_more : (trees : List Tree) (k : ℕ) (tree : Tree) → k < length trees → tree ≡ get_or trees k tree
-    → AllByRecursion IsUnbroken (map view (take k trees)) → IsUnbroken (view tree) → AllByRecursion IsUnbroken (map view (take (k + 1) trees))
+    → AllByRecursion BreaksNoLocalRule (map view (take k trees)) → BreaksNoLocalRule (view tree) → AllByRecursion BreaksNoLocalRule (map view (take (k + 1) trees))
 unbroken_more trees k tree within is all one =
-    subst (AllByRecursion IsUnbroken) (sym (one_more trees k tree within is)) (all_more IsUnbroken (map view (take k trees)) (view tree) all one)
+    subst (AllByRecursion BreaksNoLocalRule) (sym (one_more trees k tree within is)) (all_more BreaksNoLocalRule (map view (take k trees)) (view tree) all one)
 
 pub uploads_more : (trees : List Tree) (k : ℕ) (tree : Tree) (uploads more : List Uploaded) → k < length trees → tree ≡ get_or trees k tree
     → AllUploaded 1 (map view (take k trees)) uploads → AreUploaded (view tree) (k + 1) more → AllUploaded 1 (map view (take (k + 1) trees)) (uploads ++ more)
@@ -103,7 +105,7 @@ faultless_more documents k bytes uploads more within is (values, all, unbroken, 
     subst (λ (ds : List (List ℕ)). AreFaultless 1 ds (uploads ++ more)) (sym front) (
       values ++ v ∷ [],
       all_zipped_more Spells (take k documents) values bytes v all one,
-      all_more IsUnbroken values v unbroken sound,
+      all_more BreaksNoLocalRule values v unbroken sound,
       uploaded_more 1 values v uploads more uploaded (subst (λ (n : ℕ). AreUploaded v n more) number declares),
     )
 

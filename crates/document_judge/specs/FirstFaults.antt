@@ -3,8 +3,7 @@ use Rattle.std.specs.Prelude.{◌≡◌, ℕ, ◌+◌, ◌⊎◌, List, [], ◌�
 use Rattle.std.specs.List.{AllByRecursion, AllZip}
 use Rattle.json_tree.specs.Values.{Json}
 use Rattle.json_tree.specs.Grammar.{Spells}
-use Rattle.local_rules.specs.Breaches.{IsBreach}
-use Rattle.local_rules.specs.declared.rule.LocalRule.{LocalRule}
+use Rattle.local_rules.specs.Breaches.{BreaksNoLocalRule}
 use Rattle.dtdl_terms.specs.declared.uploaded.Uploaded.{Uploaded}
 use Rattle.model_read.specs.Uploads.{AreUploaded}
 use Rattle.extend_resolve.specs.Breaches.{IsSound}
@@ -13,10 +12,6 @@ use Rattle.document_judge.specs.Lines.{IsBreachLine, IsJsonFaultLine, IsSetBreac
 -- The bytes are a JSON text.
 abbrev pub IsJson : List ℕ → Type 0
 IsJson bytes = (v : Json) × Spells bytes v
-
--- No local rule is broken at any place of the document.
-abbrev pub IsUnbroken : Json → Type 0
-IsUnbroken v = (place : List ℕ) (broken : LocalRule) → IsBreach v place broken → ⊥
 
 -- The line is that of the first of the documents that has one; those before it pass. The first of them has this number.
 abbrev pub FirstOf : {A : Type 0} → (A → Type 0) → (ℕ → A → List ℕ → Type 0) → ℕ → List A → List ℕ → Type 0
@@ -29,12 +24,6 @@ AllUploaded number [] uploads = uploads ≡ []
 AllUploaded number (v ∷ vs) uploads = (first rest : List Uploaded) × AreUploaded v number first × AllUploaded (number + 1) vs rest
     × (uploads ≡ first ++ rest)
 
--- The documents, of which the first has this number, have no fault but perhaps one of the rules on sets, and these are their
--- interfaces in order.
-abbrev pub AreFaultless : ℕ → List (List ℕ) → List Uploaded → Type 0
-AreFaultless number documents uploads = (values : List Json) × AllZip Spells documents values × AllByRecursion IsUnbroken values
-    × AllUploaded number values uploads
-
 -- ---- the first fault, by phase, document, place and rule
 -- The documents before are JSON texts, and this one is none.
 abbrev pub HasJsonFault : List (List ℕ) → List ℕ → Type 0
@@ -42,16 +31,11 @@ HasJsonFault documents line = FirstOf IsJson IsJsonFaultLine 1 documents line
 
 -- The documents before break no local rule, and this one does.
 abbrev pub HasLocalFault : List Json → List ℕ → Type 0
-HasLocalFault values line = FirstOf IsUnbroken IsBreachLine 1 values line
+HasLocalFault values line = FirstOf BreaksNoLocalRule IsBreachLine 1 values line
 
 -- No document breaks a local rule, and the interfaces of all together break a rule on sets.
 abbrev pub HasSetFault : List Json → List ℕ → Type 0
-HasSetFault values line = (uploads : List Uploaded) × AllByRecursion IsUnbroken values × AllUploaded 1 values uploads × IsSetBreachLine uploads line
-
--- The first of these two: a document is no JSON text, or one breaks a local rule.
-abbrev pub HasDocumentFault : List (List ℕ) → List ℕ → Type 0
-HasDocumentFault documents line = HasJsonFault documents line
-    ⊎ ((values : List Json) × AllZip Spells documents values × HasLocalFault values line)
+HasSetFault values line = (uploads : List Uploaded) × AllByRecursion BreaksNoLocalRule values × AllUploaded 1 values uploads × IsSetBreachLine uploads line
 
 -- The line names the first fault of the documents: the faults of JSON texts come first, then the local rules, then the
 -- rules on sets.
@@ -63,6 +47,6 @@ HasFirstFault documents line = HasJsonFault documents line
 pub record Declare (documents : List (List ℕ)) (uploads : List Uploaded) : Type 0 where
   pub values : List Json
   pub spelled : AllZip Spells documents values
-  pub unbroken : AllByRecursion IsUnbroken values
+  pub unbroken : AllByRecursion BreaksNoLocalRule values
   pub uploaded : AllUploaded 1 values uploads
   pub sound : IsSound [] uploads

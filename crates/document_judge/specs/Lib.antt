@@ -2,3 +2,4 @@
 pub mod Lines
 pub mod FirstFaults
 pub mod Refusing
+pub mod Machinery

@@ -2,6 +2,7 @@
 
 ghost use Rattle.std.specs.Prelude.{◌≡◌, ◌<◌, ◌≤◌, ◌++◌, [], length, map, slice_get, IfOk, IfSome, MatchResult, Some};
 ghost use Rattle.std.specs.List.{AllByRecursion, AllZip};
+ghost use Rattle.local_rules.specs.Breaches.{BreaksNoLocalRule};
 ghost use Rattle.json_tree.specs.View.{view};
 ghost use Rattle.json_tree.specs.Grammar.{Spells};
 ghost use Rattle.model_read.specs.Uploads.{AreUploaded};
@@ -9,7 +10,8 @@ ghost use Rattle.dtdl_terms.specs.Spots.{spot_text};
 ghost use Rattle.dtdl_terms.specs.declared.uploaded.Uploaded.{Uploaded};
 ghost use Rattle.extend_resolve.specs.Breaches.{IsSound, rule_code as set_rule_code};
 ghost use Rattle.document_judge.specs.Lines.{IsBreachLine, IsJsonFaultLine, IsSetBreachLine, pointer_line};
-ghost use Rattle.document_judge.specs.FirstFaults.{AllUploaded, AreFaultless, Declare, HasDocumentFault, HasFirstFault, HasJsonFault, HasLocalFault, IsUnbroken};
+ghost use Rattle.document_judge.specs.FirstFaults.{AllUploaded, Declare, HasFirstFault, HasJsonFault, HasLocalFault};
+ghost use Rattle.document_judge.specs.Machinery.Documents.{AreFaultless, HasDocumentFault};
 ghost use Rattle.document_judge.specs.Refusing.{IsRefusal};
 
 use crate::lines::{breach_line, fault_line, set_line};
@@ -45,7 +47,7 @@ fn trees_of(alloc: Global, documents: &[List<u8>]) -> Result<List<Tree>, Refusal
 
 /// The interfaces that a document declares.
 fn uploads_in(alloc: Global, number: u32, tree: &Tree) -> Result<List<Uploaded>, Refusal>
-    ensures { MatchResult result (λ uploads. IsUnbroken (view tree.now) × AreUploaded (view tree.now) number uploads) (IsRefusal (IsBreachLine number (view tree.now))) }
+    ensures { MatchResult result (λ uploads. BreaksNoLocalRule (view tree.now) × AreUploaded (view tree.now) number uploads) (IsRefusal (IsBreachLine number (view tree.now))) }
 {
     match read_interfaces(alloc, tree, number) {
         Ok(uploads) => Ok(uploads),
@@ -64,7 +66,7 @@ fn uploads_in(alloc: Global, number: u32, tree: &Tree) -> Result<List<Uploaded>,
 fn uploads_of(alloc: Global, trees: &[Tree]) -> Result<Vec<Uploaded>, Refusal>
     requires few { length trees.now ≤ 4096 }
     ensures { MatchResult result
-        (λ uploads. AllByRecursion IsUnbroken (map view trees.now) × AllUploaded 1 (map view trees.now) uploads.items)
+        (λ uploads. AllByRecursion BreaksNoLocalRule (map view trees.now) × AllUploaded 1 (map view trees.now) uploads.items)
         (IsRefusal (HasLocalFault (map view trees.now))) }
 {
     let mut uploads = Vec::new(alloc);

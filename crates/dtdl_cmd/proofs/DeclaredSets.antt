@@ -2,6 +2,7 @@
 use Rattle.std.proofs.Common.{◌≡◌, ◌≢◌, ℕ, zero, suc, ◌+◌, ◌<◌, List, [], ◌∷◌, Some, take, map, refl, sym, ap, subst, ◌∙◌, arith}
 use Rattle.std.specs.Prelude.{Contains, slice_get}
 use Rattle.std.specs.List.{AllByRecursion, AllZip}
+use Rattle.local_rules.specs.Breaches.{BreaksNoLocalRule}
 use Rattle.json_tree.specs.Values.{HasDistinctKeys, Json}
 use Rattle.json_tree.specs.Grammar.{Spells}
 use Rattle.dtmi_name.specs.Grammar.{Identifier, dtmi_text}
@@ -15,7 +16,7 @@ use Rattle.model_read.proofs.Documents.{all_have_declarations, all_within}
 use Rattle.extend_resolve.specs.Breaches.{IsSound}
 use Rattle.extend_resolve.specs.declared.rule.SetRule.TheVariants as rules
 use Rattle.dtdl_terms.specs.declared.spot.Spot.TheVariants as spots
-use Rattle.document_judge.specs.FirstFaults.{AllUploaded, Declare, IsUnbroken}
+use Rattle.document_judge.specs.FirstFaults.{AllUploaded, Declare}
 use Rattle.dtdl_cmd.specs.Answers.{interfaces_of}
 use Rattle.canon_faults.proofs.NormalForms.{spelled_distinct}
 use Rattle.model_read.proofs.Pairs.{distinct_pairs, mapped_back}
@@ -28,14 +29,14 @@ distinct_keys [] (v ∷ vs) all = absurd all
 distinct_keys (d ∷ ds) [] all = absurd all
 distinct_keys (d ∷ ds) (v ∷ vs) all = (spelled_distinct d v all.0, distinct_keys ds vs all.1)
 
-declarations : (n : ℕ) (vs : List Json) (us : List Uploaded) → AllByRecursion HasDistinctKeys vs → AllByRecursion IsUnbroken vs → AllUploaded n vs us
+declarations : (n : ℕ) (vs : List Json) (us : List Uploaded) → AllByRecursion HasDistinctKeys vs → AllByRecursion BreaksNoLocalRule vs → AllUploaded n vs us
     → AllByRecursion (λ u. HasDeclaration u.interface) us
 declarations n [] us keys unbroken none = subst (AllByRecursion (λ u. HasDeclaration u.interface)) (sym none) tt
 declarations n (v ∷ vs) us keys unbroken (first, rest, h, t, e) =
     subst (AllByRecursion (λ u. HasDeclaration u.interface)) (sym e)
     (all_append (λ u. HasDeclaration u.interface) first rest (all_have_declarations v n first keys.0 unbroken.0 h) (declarations (n + 1) vs rest keys.1 unbroken.1 t))
 
-limits : (n : ℕ) (vs : List Json) (us : List Uploaded) → AllByRecursion IsUnbroken vs → AllUploaded n vs us → AllByRecursion (λ u. IsWithinLimits u.interface) us
+limits : (n : ℕ) (vs : List Json) (us : List Uploaded) → AllByRecursion BreaksNoLocalRule vs → AllUploaded n vs us → AllByRecursion (λ u. IsWithinLimits u.interface) us
 limits n [] us unbroken none = subst (AllByRecursion (λ u. IsWithinLimits u.interface)) (sym none) tt
 limits n (v ∷ vs) us unbroken (first, rest, h, t, e) =
     subst (AllByRecursion (λ u. IsWithinLimits u.interface)) (sym e)

@@ -3,6 +3,7 @@ use Rattle.std.proofs.Common.{◌≡◌, ◌⊎◌, ℕ, ◌+◌, List, [], ◌�
 use Rattle.std.specs.Prelude.{codes, slice_get}
 use Rattle.std.specs.List.{AllByRecursion, AllZip}
 use Rattle.std.specs.declared.alloc.Global.{Global}
+use Rattle.local_rules.specs.Breaches.{BreaksNoLocalRule}
 use Rattle.json_tree.specs.Values.{Json, Raw}
 use Rattle.json_tree.specs.Grammar.{Spells}
 use Rattle.json_tree.specs.Pointers.{IsPointerOf}
@@ -25,7 +26,7 @@ use Rattle.extend_resolve.proofs.FirstBreaches.{one_first}
 use Rattle.dtdl_cmd.specs.Words.{command_word}
 use Rattle.document_judge.specs.Lines.{IsBreachLine, IsFaultLine, IsJsonFaultLine, IsPlaceLine, IsSetBreachLine, pointer_line}
 use Rattle.dtdl_cmd.specs.Lines.{missing_line, too_long_line}
-use Rattle.document_judge.specs.FirstFaults.{AllUploaded, Declare, HasFirstFault, HasLocalFault, HasSetFault, IsJson, IsUnbroken}
+use Rattle.document_judge.specs.FirstFaults.{AllUploaded, Declare, HasFirstFault, HasLocalFault, HasSetFault, IsJson}
 use Rattle.dtdl_cmd.specs.Answers.{Answers, AnswersDocuments, AnswersFound, Prints, interfaces_of}
 use Rattle.dtdl_cmd.specs.declared.command.Command.{Command}
 use Rattle.dtdl_cmd.specs.declared.command.Command.TheVariants as commands
@@ -69,7 +70,7 @@ one_breach_line n v line text (place, broken, pointer, first, is, x) (other, ano
     let pointers : pointer ≡ points = one_pointer v place pointer points is (subst (λ (p : List ℕ). IsPointerOf v p points) (sym same.0) leads) in
     x ∙ ap₂ (λ (p : List ℕ) (b : LocalRule). pointer_line n p (rule_code b)) pointers same.1 ∙ sym y
 
-pub breached : (n : ℕ) (v : Json) (line : List ℕ) → IsBreachLine n v line → IsUnbroken v → ⊥
+pub breached : (n : ℕ) (v : Json) (line : List ℕ) → IsBreachLine n v line → BreaksNoLocalRule v → ⊥
 breached n v line h unbroken = unbroken h.0 h.1 h.3.breach
 
 -- ---- interfaces
@@ -98,9 +99,9 @@ one_values number (d ∷ ds) (v ∷ vs) (w ∷ ws) h g =
     ap₂ (λ (x : Json) (xs : List Json). x ∷ xs) (one_spelled number d v w h.0 g.0) (one_values number ds vs ws h.1 g.1)
 
 one_fault_of : (values : List Json) (line text : List ℕ) → HasLocalFault values line ⊎ HasSetFault values line → HasLocalFault values text ⊎ HasSetFault values text → line ≡ text
-one_fault_of values line text (inl h) (inl g) = one_line IsUnbroken IsBreachLine one_breach_line breached values 1 line text h g
-one_fault_of values line text (inl h) (inr (us, unbroken, are, g)) = absurd (none_first IsUnbroken IsBreachLine breached values 1 line unbroken h)
-one_fault_of values line text (inr (us, unbroken, are, h)) (inl g) = absurd (none_first IsUnbroken IsBreachLine breached values 1 text unbroken g)
+one_fault_of values line text (inl h) (inl g) = one_line BreaksNoLocalRule IsBreachLine one_breach_line breached values 1 line text h g
+one_fault_of values line text (inl h) (inr (us, unbroken, are, g)) = absurd (none_first BreaksNoLocalRule IsBreachLine breached values 1 line unbroken h)
+one_fault_of values line text (inr (us, unbroken, are, h)) (inl g) = absurd (none_first BreaksNoLocalRule IsBreachLine breached values 1 text unbroken g)
 one_fault_of values line text (inr (us, unbroken, are, h)) (inr (ws, sound, have, g)) =
     let same : us ≡ ws = one_uploaded 1 values us ws are have in
     one_set_line ws line text (in_documents 1 values ws have) (subst (λ (xs : List Uploaded). IsSetBreachLine xs line) same h) g
@@ -116,9 +117,9 @@ one_first_fault number documents line text (inr (vs, spelled, h)) (inr (ws, spel
     one_fault_of ws line text (subst (λ (xs : List Json). HasLocalFault xs line ⊎ HasSetFault xs line) same h) g
 
 -- documents with a fault declare nothing
-no_fault_of : (values : List Json) (line : List ℕ) (us : List Uploaded) → AllByRecursion IsUnbroken values → AllUploaded 1 values us → ((b : Breach) → IsBreach [] us b → ⊥)
+no_fault_of : (values : List Json) (line : List ℕ) (us : List Uploaded) → AllByRecursion BreaksNoLocalRule values → AllUploaded 1 values us → ((b : Breach) → IsBreach [] us b → ⊥)
     → HasLocalFault values line ⊎ HasSetFault values line → ⊥
-no_fault_of values line us unbroken are sound (inl h) = none_first IsUnbroken IsBreachLine breached values 1 line unbroken h
+no_fault_of values line us unbroken are sound (inl h) = none_first BreaksNoLocalRule IsBreachLine breached values 1 line unbroken h
 no_fault_of values line us unbroken are sound (inr (ws, also, have, h)) =
     let same : ws ≡ us = one_uploaded 1 values ws us have are in
     let g : IsSetBreachLine us line = subst (λ (xs : List Uploaded). IsSetBreachLine xs line) same h in

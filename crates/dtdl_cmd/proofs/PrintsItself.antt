@@ -10,7 +10,8 @@ use Rattle.dtdl_terms.specs.declared.uploaded.Uploaded.{Uploaded}
 use Rattle.model_read.specs.Uploads.{AreUploaded}
 use Rattle.extend_resolve.specs.Breaches.{IsSound}
 use Rattle.canon_text.specs.Canonical.{set_text, set_value}
-use Rattle.canon_faults.specs.Declared.{BreaksNoLocalRule, IsSoundlyDeclared}
+use Rattle.local_rules.specs.Breaches.{BreaksNoLocalRule}
+use Rattle.canon_faults.specs.Declared.{IsSoundlyDeclared}
 use Rattle.canon_faults.proofs.Judged.{sound_alike}
 use Rattle.canon_faults.proofs.DeclaredAgain.{apart_set, declared_set as has_declarations, same_set}
 use Rattle.canon_faults.proofs.Uploads.{all_soundly, declared_once}
@@ -18,7 +19,7 @@ use Rattle.canon_text.proofs.Told.{all_with}
 use Rattle.dtdl_cmd.specs.Words.{IsCommand}
 use Rattle.dtdl_cmd.specs.Documents.{MAX_BYTES}
 use Rattle.document_judge.specs.Lines.{IsBreachLine, IsJsonFaultLine}
-use Rattle.document_judge.specs.FirstFaults.{AllUploaded, Declare, HasFirstFault, HasLocalFault, HasSetFault, IsJson, IsUnbroken}
+use Rattle.document_judge.specs.FirstFaults.{AllUploaded, Declare, HasFirstFault, HasLocalFault, HasSetFault, IsJson}
 use Rattle.dtdl_cmd.specs.Answers.{Answers, AnswersDocuments, AnswersFound, Prints, interfaces_of}
 use Rattle.dtdl_cmd.specs.declared.command.Command.{Command}
 use Rattle.dtdl_cmd.specs.declared.command.Command.TheVariants as commands
@@ -31,7 +32,7 @@ use Rattle.dtdl_cmd.proofs.OneCut.{long_or_there, missing_or_there, one_there}
 use Rattle.dtdl_cmd.proofs.Ordinals.{all_append}
 
 -- ---- what documents without faults declare
-soundly : (n : ℕ) (ds : List (List ℕ)) (vs : List Json) (us : List Uploaded) → AllZip Spells ds vs → AllByRecursion IsUnbroken vs → AllUploaded n vs us
+soundly : (n : ℕ) (ds : List (List ℕ)) (vs : List Json) (us : List Uploaded) → AllZip Spells ds vs → AllByRecursion BreaksNoLocalRule vs → AllUploaded n vs us
     → AllByRecursion (λ u. IsSoundlyDeclared u.interface) us
 soundly n [] [] us spelled unbroken none = subst (AllByRecursion (λ u. IsSoundlyDeclared u.interface)) (sym none) tt
 soundly n [] (v ∷ vs) us spelled unbroken h = absurd spelled
@@ -73,7 +74,7 @@ module _ (number : OneNumber) (documents : List (List ℕ)) (us : List Uploaded)
   no_fault line (inr (vs, spells, h)) = by vs (one_values number (bytes ∷ []) vs (value ∷ []) spells (spelled, tt)) h
     where
       by : (vs : List Json) → vs ≡ value ∷ [] → HasLocalFault vs line ⊎ HasSetFault vs line → ⊥
-      by vs same (inl local) = none_first IsUnbroken IsBreachLine breached (value ∷ []) 1 line (unbroken, tt) (subst (λ (xs : List Json). HasLocalFault xs line) same local)
+      by vs same (inl local) = none_first BreaksNoLocalRule IsBreachLine breached (value ∷ []) 1 line (unbroken, tt) (subst (λ (xs : List Json). HasLocalFault xs line) same local)
       by vs same (inr (ws, also, are, breaks)) =
           sound_again 1 ws (one_document ws (subst (λ (xs : List Json). AllUploaded 1 xs ws) same are)) breaks.0 breaks.2.breach
 

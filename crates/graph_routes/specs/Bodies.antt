@@ -7,7 +7,7 @@ use Rattle.json_tree.specs.declared.places.Place.{Place}
 use Rattle.json_read.specs.Faults.{IsFault}
 use Rattle.json_read.specs.declared.fault.JsonFault.{JsonFault}
 use Rattle.json_read.specs.declared.fault.JsonFault.TheVariants as faults
-use Rattle.local_rules.specs.Breaches.{IsBreach, IsFirstBreach}
+use Rattle.local_rules.specs.Breaches.{BreaksNoLocalRule, IsFirstBreach}
 use Rattle.local_rules.specs.Codes.{rule_code}
 use Rattle.local_rules.specs.Members.{list_of}
 use Rattle.local_rules.specs.declared.rule.LocalRule.{LocalRule}
@@ -55,10 +55,6 @@ IsTooMany (text bytes) = ⊥
 IsTooMany (array vs) = most_models < length (list_of vs)
 IsTooMany (object ms) = ⊥
 
--- No local rule is broken at any place of the document.
-abbrev pub IsUnbroken : Json → Type 0
-IsUnbroken v = (place : List ℕ) (broken : LocalRule) → IsBreach v place broken → ⊥
-
 -- The refusal of a document that breaks a local rule: it names the first breach.
 abbrev pub RefusesModels : Json → Refusal → Type 0
 RefusesModels v refusal = (place : List ℕ) × (broken : LocalRule) × (pointer : List ℕ) × IsFirstBreach v place broken × IsPointerOf v place pointer
@@ -67,7 +63,7 @@ RefusesModels v refusal = (place : List ℕ) × (broken : LocalRule) × (pointer
 -- The value is an interface or a list of interfaces without a breach, and these are what it declares. They count as those
 -- of the document 1.
 abbrev pub DeclaresModels : Json → List Uploaded → Type 0
-DeclaresModels v models = IsUnbroken v × AreUploaded v 1 models
+DeclaresModels v models = BreaksNoLocalRule v × AreUploaded v 1 models
 
 -- ---- patches
 -- The refusal of a value that is no patch of this kind.

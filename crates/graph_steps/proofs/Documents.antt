@@ -8,9 +8,8 @@ use Rattle.std.proofs.lemmas.Cmp.{nat_cmp_total}
 use Rattle.json_tree.specs.Values.{HasDistinctKeys, Json, null, truth, number, text, array, object}
 use Rattle.dtdl_terms.specs.Distinct.{HasDeclaration}
 use Rattle.dtdl_terms.specs.declared.uploaded.Uploaded.{Uploaded}
-use Rattle.local_rules.specs.Breaches.{IsBreach}
+use Rattle.local_rules.specs.Breaches.{BreaksNoLocalRule}
 use Rattle.local_rules.specs.Members.{list_of}
-use Rattle.local_rules.specs.declared.rule.LocalRule.{LocalRule}
 use Rattle.model_read.specs.Limits.{IsWithinLimits}
 use Rattle.model_read.specs.Uploads.{AreUploaded, IsUploadedAt}
 use Rattle.extend_resolve.specs.Breaches.{HasOrdinals}
@@ -75,7 +74,7 @@ in_order (text bytes) nth us h = absurd h
 in_order (array vs) nth us h = ascending (array vs) nth 0 (list_of vs) us h
 in_order (object ms) nth us (u, one, h) = subst (λ (vs : List Uploaded). IsStrictlySortedBy (slice_cmp nat_cmp) (map upload_place vs)) (sym one) (alone u)
 
-pub documents_are_sound : (whole : Json) (nth : ℕ) (us : List Uploaded) → HasDistinctKeys whole → ((place : List ℕ) (broken : LocalRule) → IsBreach whole place broken → ⊥) → AreUploaded whole nth us → AreSoundUploads us
+pub documents_are_sound : (whole : Json) (nth : ℕ) (us : List Uploaded) → HasDistinctKeys whole → BreaksNoLocalRule whole → AreUploaded whole nth us → AreSoundUploads us
 documents_are_sound whole nth us distinct free h = record {
   each = all_sound us (all_have_declarations whole nth us distinct free h) (all_within whole nth us free h) (all_typed whole nth us h) (in_document whole nth us h);
   order = in_order whole nth us h;

@@ -3,8 +3,7 @@
 ghost use Rattle.std.specs.Prelude.{◌≡◌, ℕ, List};
 ghost use Rattle.json_tree.specs.Values.{HasDistinctKeys, Json};
 ghost use Rattle.dtdl_terms.specs.declared.uploaded.Uploaded.{Uploaded};
-ghost use Rattle.local_rules.specs.Breaches.{IsBreach};
-ghost use Rattle.local_rules.specs.declared.rule.LocalRule.{LocalRule};
+ghost use Rattle.local_rules.specs.Breaches.{BreaksNoLocalRule};
 ghost use Rattle.model_read.specs.Uploads.{AreUploaded};
 ghost use Rattle.graph_asks.specs.Answers.{Answer};
 ghost use Rattle.graph_asks.specs.declared.ask.Ask.{Ask};
@@ -28,7 +27,7 @@ pub fn one_answer()
 /// The interfaces of a document without breach may be asked for together, in their order, where no object in the document
 /// has two members of one key, as in each document that was read from a text.
 pub fn documents_are_sound()
-    ensures { (whole : Json) (nth : ℕ) (us : List Uploaded) → HasDistinctKeys whole → ((place : List ℕ) (broken : LocalRule) → IsBreach whole place broken → ⊥) → AreUploaded whole nth us → AreSoundUploads us }
+    ensures { (whole : Json) (nth : ℕ) (us : List Uploaded) → HasDistinctKeys whole → BreaksNoLocalRule whole → AreUploaded whole nth us → AreSoundUploads us }
 {}
 
 /// An ask on models that neither brings a model nor lets one go leads from a well-typed state to one, whatever it is

@@ -102,6 +102,10 @@ IsBreach (array vs) [] broken = ⊥
 IsBreach (array vs) (i ∷ place) broken = (interface : Json) × (element_at vs i ≡ Some interface) × IsBroken interface place broken
 IsBreach (object ms) place broken = IsBroken (object ms) place broken
 
+-- No local rule is broken at any place of the document.
+abbrev pub BreaksNoLocalRule : Json → Type 0
+BreaksNoLocalRule v = (place : List ℕ) (broken : LocalRule) → IsBreach v place broken → ⊥
+
 -- The first in the order of places, and at one place in the order of rules.
 abbrev pub ComesBefore : List ℕ → LocalRule → List ℕ → LocalRule → Type 0
 ComesBefore place broken other another = IsBefore place other ⊎ ((place ≡ other) × (rule_number broken < rule_number another))

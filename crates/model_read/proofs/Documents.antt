@@ -1,6 +1,7 @@
 -- What holds of each interface that a document without breach declares.
 use Rattle.std.proofs.Common.{◌≡◌, ℕ, zero, suc, ◌+◌, List, [], ◌∷◌, Some, refl, sym, subst}
 use Rattle.std.specs.List.{AllByRecursion, AllZip, enumerate_from}
+use Rattle.local_rules.specs.Breaches.{BreaksNoLocalRule}
 use Rattle.json_decimal.specs.Number.{Number}
 use Rattle.json_tree.specs.Values.{Json, null, truth, number, text, array, object, Elements, no_elements, element, Members, HasDistinctKeys}
 use Rattle.json_tree.specs.Places.{element_at}
@@ -12,7 +13,6 @@ use Rattle.model_read.specs.Declarations.{DeclaresInterface}
 use Rattle.model_read.specs.Limits.{IsWithinLimits}
 use Rattle.model_read.specs.Uploads.{IsUploadedAt, AreUploaded}
 use Rattle.model_read.proofs.Standing.{BreaksNowhere}
-use Rattle.model_read.proofs.Whole.{BreaksNothing}
 use Rattle.model_read.proofs.Within.{interface_within}
 use Rattle.model_read.proofs.Apart.{element_distinct, interface_apart}
 
@@ -31,7 +31,7 @@ module _ (Q : Json → Type 0) (P : Interface → Type 0)
       )
 
   pub each_is : (whole : Json) (nth : ℕ) (us : List Uploaded) → Q whole
-      → ((vs : Elements Number) (i : ℕ) (v : Json) → whole ≡ array vs → element_at vs i ≡ Some v → Q v) → BreaksNothing whole → AreUploaded whole nth us
+      → ((vs : Elements Number) (i : ℕ) (v : Json) → whole ≡ array vs → element_at vs i ≡ Some v → Q v) → BreaksNoLocalRule whole → AreUploaded whole nth us
       → AllByRecursion (λ u. P u.interface) us
   each_is (array vs) nth us q inner none g = uploads_are (array vs) nth 0 vs us
       (λ i v at. (inner vs i v refl at, λ place broken breaks. none (i ∷ place) broken (v, at, breaks))) g
@@ -42,12 +42,12 @@ module _ (Q : Json → Type 0) (P : Interface → Type 0)
   each_is (number n) nth us q inner none g = absurd g
   each_is (text bytes) nth us q inner none g = absurd g
 
-pub all_within : (whole : Json) (nth : ℕ) (us : List Uploaded) → BreaksNothing whole → AreUploaded whole nth us
+pub all_within : (whole : Json) (nth : ℕ) (us : List Uploaded) → BreaksNoLocalRule whole → AreUploaded whole nth us
     → AllByRecursion (λ u. IsWithinLimits u.interface) us
 all_within whole nth us none g = each_is (λ v. Unit {0}) IsWithinLimits (λ v ms i is q free declares. interface_within v free ms i is declares) whole nth us tt
     (λ vs i v is at. tt) none g
 
-pub all_have_declarations : (whole : Json) (nth : ℕ) (us : List Uploaded) → HasDistinctKeys whole → BreaksNothing whole → AreUploaded whole nth us
+pub all_have_declarations : (whole : Json) (nth : ℕ) (us : List Uploaded) → HasDistinctKeys whole → BreaksNoLocalRule whole → AreUploaded whole nth us
     → AllByRecursion (λ u. HasDeclaration u.interface) us
 all_have_declarations whole nth us keys none g =
     each_is HasDistinctKeys HasDeclaration (λ v ms i is inside free declares. interface_apart v free ms i is inside declares) whole nth us keys

@@ -9,8 +9,7 @@ use Rattle.local_rules.specs.Roles.{HasRole, element_member, id_role, key_of, me
 use Rattle.local_rules.specs.Kinds.{LacksKeyOf, needed_keys}
 use Rattle.local_rules.specs.Identifiers.{OfText}
 use Rattle.local_rules.specs.Levels.{IsPrimitive, has_id, schema_named}
-use Rattle.local_rules.specs.Breaches.{BreaksAlone}
-use Rattle.local_rules.specs.Breaches.{IsBroken, IsBreach}
+use Rattle.local_rules.specs.Breaches.{BreaksAlone, BreaksNoLocalRule, IsBreach, IsBroken}
 use Rattle.local_rules.specs.declared.key.Key.TheVariants as key
 use Rattle.local_rules.specs.declared.rule.LocalRule.{LocalRule}
 use Rattle.local_rules.specs.declared.rule.LocalRule.TheVariants as rule
@@ -119,26 +118,22 @@ interface v none = record { alone = alone; named = named }
         none place rule.UnknownSchema (q, w, there, inr (inr (inl (part, is, subst (OfText Unknown) (sym same) (other, lacks))))) in
         subst CanBeId (sym same) (named_can_be v bytes (schema_named (members_in v) bytes) refl known alone)
 
--- no rule is broken in a document
-abbrev pub BreaksNothing : Json → Type 0
-BreaksNothing v = (place : List ℕ) (broken : LocalRule) → IsBreach v place broken → ⊥
-
 -- which is an interface
-pub one_interface : (t : Tree) (ms slice : List Member) → t ≡ variants.Members ms → slice ≡ ms → BreaksNothing (view t) → IsValidInterface (object (members_view slice))
+pub one_interface : (t : Tree) (ms slice : List Member) → t ≡ variants.Members ms → slice ≡ ms → BreaksNoLocalRule (view t) → IsValidInterface (object (members_view slice))
 one_interface t ms slice is same none =
-    interface (object (members_view slice)) (subst BreaksNothing (seen_members t ms slice is same) none)
+    interface (object (members_view slice)) (subst BreaksNoLocalRule (seen_members t ms slice is same) none)
 
 -- or a list of interfaces
-pub each_interface : (t : Tree) (ts slice : List Tree) → t ≡ variants.List ts → slice ≡ ts → BreaksNothing (view t) → EachIs IsValidInterface (elements_view slice)
+pub each_interface : (t : Tree) (ts slice : List Tree) → t ≡ variants.List ts → slice ≡ ts → BreaksNoLocalRule (view t) → EachIs IsValidInterface (elements_view slice)
 each_interface t ts slice is same none = λ i v at.
-    interface v (λ place broken breaks. subst BreaksNothing (seen_list t ts slice is same) none (i ∷ place) broken (v, at, breaks))
+    interface v (λ place broken breaks. subst BreaksNoLocalRule (seen_list t ts slice is same) none (i ∷ place) broken (v, at, breaks))
 
 -- and nothing else
-wrong_kind : (t : Tree) (v : Json) → view t ≡ v → IsBreach v [] rule.WrongKind → BreaksNothing (view t) → ⊥
-wrong_kind t v is breaks none = subst BreaksNothing is none [] rule.WrongKind breaks
+wrong_kind : (t : Tree) (v : Json) → view t ≡ v → IsBreach v [] rule.WrongKind → BreaksNoLocalRule (view t) → ⊥
+wrong_kind t v is breaks none = subst BreaksNoLocalRule is none [] rule.WrongKind breaks
 
 pub no_document : (t : Tree) → (t ≡ variants.Null) ⊎ ((b : Bool) × (t ≡ variants.Bool b)) ⊎ ((d : Decimal) × (t ≡ variants.Number d)) ⊎ ((bytes : List ℕ) × (t ≡ variants.Text bytes))
-    → BreaksNothing (view t) → ⊥
+    → BreaksNoLocalRule (view t) → ⊥
 no_document t (inl e) none = wrong_kind t null (ap view e ∙ view-Null) (refl, refl) none
 no_document t (inr (inl (b, e))) none = wrong_kind t (truth b) (ap view e ∙ view-Bool b) (refl, refl) none
 no_document t (inr (inr (inl (d, e)))) none = wrong_kind t (number (number_of d)) (ap view e ∙ view-Number d) (refl, refl) none

@@ -5,8 +5,7 @@ ghost use Rattle.std.specs.List.{AllByRecursion};
 ghost use Rattle.json_tree.specs.Values.{HasDistinctKeys, Json};
 ghost use Rattle.dtdl_terms.specs.Distinct.{HasDeclaration};
 ghost use Rattle.dtdl_terms.specs.declared.uploaded.Uploaded.{Uploaded};
-ghost use Rattle.local_rules.specs.Breaches.{IsBreach};
-ghost use Rattle.local_rules.specs.declared.rule.LocalRule.{LocalRule};
+ghost use Rattle.local_rules.specs.Breaches.{BreaksNoLocalRule};
 ghost use Rattle.model_read.specs.Limits.{IsWithinLimits};
 ghost use Rattle.model_read.specs.Uploads.{AreUploaded};
 
@@ -17,11 +16,11 @@ pub fn one_declaration()
 
 /// What a document without breach declares is within the limits.
 pub fn within_limits()
-    ensures { (whole : Json) (nth : ℕ) (us : List Uploaded) → ((place : List ℕ) (broken : LocalRule) → IsBreach whole place broken → ⊥) → AreUploaded whole nth us → AllByRecursion (λ u. IsWithinLimits u.interface) us }
+    ensures { (whole : Json) (nth : ℕ) (us : List Uploaded) → BreaksNoLocalRule whole → AreUploaded whole nth us → AllByRecursion (λ u. IsWithinLimits u.interface) us }
 {}
 
 /// What a document without breach declares has a declaration, where no object in the document has two members of one
 /// key, as in each document that was read from a text.
 pub fn have_declarations()
-    ensures { (whole : Json) (nth : ℕ) (us : List Uploaded) → HasDistinctKeys whole → ((place : List ℕ) (broken : LocalRule) → IsBreach whole place broken → ⊥) → AreUploaded whole nth us → AllByRecursion (λ u. HasDeclaration u.interface) us }
+    ensures { (whole : Json) (nth : ℕ) (us : List Uploaded) → HasDistinctKeys whole → BreaksNoLocalRule whole → AreUploaded whole nth us → AllByRecursion (λ u. HasDeclaration u.interface) us }
 {}

@@ -5,7 +5,7 @@ use Rattle.json_decimal.specs.Number.{Number}
 use Rattle.json_tree.specs.Values.{Json, array, Elements, elements_of}
 use Rattle.json_tree.specs.Places.{element_at}
 use Rattle.json_tree.specs.Grammar.{Spells}
-use Rattle.local_rules.specs.Breaches.{IsBreach, IsBroken}
+use Rattle.local_rules.specs.Breaches.{BreaksNoLocalRule, IsBroken}
 use Rattle.local_rules.specs.declared.rule.LocalRule.{LocalRule}
 use Rattle.dtdl_terms.specs.declared.uploaded.Uploaded.{Uploaded}
 use Rattle.model_read.specs.Uploads.{AreUploaded, IsUploadedAt}
@@ -39,13 +39,13 @@ IsPlaced nth e u = (whole : Elements Number) → element_at whole e.0 ≡ Some e
 
 -- The value breaks no local rule, and declares these interfaces as the nth document.
 abbrev pub Declares : Json → ℕ → List Uploaded → Type 0
-Declares v nth uploads = ((place : List ℕ) (broken : LocalRule) → IsBreach v place broken → ⊥) × AreUploaded v nth uploads
+Declares v nth uploads = BreaksNoLocalRule v × AreUploaded v nth uploads
 
 -- The bytes are the text of an array that has these elements, some, and no fault, and that declares these interfaces.
 pub record IsBatch (bytes : List ℕ) (nth : ℕ) (vs : List Json) (uploads : List Uploaded) : Type 0 where
   pub some : vs ≢ []
   pub spelled : Spells bytes (array (elements_of vs))
-  pub unbroken : (place : List ℕ) (broken : LocalRule) → IsBreach (array (elements_of vs)) place broken → ⊥
+  pub unbroken : BreaksNoLocalRule (array (elements_of vs))
   pub declares : AreUploaded (array (elements_of vs)) nth uploads
 
 -- The text between two positions, of which the later one is that of a comma or the end, is such a text of an array.

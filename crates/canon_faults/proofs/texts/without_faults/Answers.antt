@@ -4,7 +4,8 @@ use Rattle.model_read.specs.Limits.{IsWithinLimits}
 use Rattle.canon_text.specs.Canonical.{set_value, set_text}
 use Rattle.canon_text.proofs.Told.{all_with}
 use Rattle.canon_laws.specs.Typed.{IsTyped}
-use Rattle.canon_faults.specs.Declared.{BreaksNoLocalRule, IsSoundlyDeclared}
+use Rattle.local_rules.specs.Breaches.{BreaksNoLocalRule}
+use Rattle.canon_faults.specs.Declared.{IsSoundlyDeclared}
 use Rattle.canon_faults.proofs.texts.without_faults.Goals as goal
 
 pub returns-clause-spelled : goal.returns-clause-spelled

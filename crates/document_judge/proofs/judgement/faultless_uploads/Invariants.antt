@@ -1,5 +1,5 @@
 use Rattle.std.proofs.Common.{take}
-use Rattle.document_judge.specs.FirstFaults.{AreFaultless}
+use Rattle.document_judge.specs.Machinery.Documents.{AreFaultless}
 use Rattle.document_judge.proofs.judgement.faultless_uploads.Given as goal
 
 -- the interfaces of the documents so far
