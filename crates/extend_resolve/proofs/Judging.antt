@@ -1,7 +1,7 @@
 -- What is known of a judge, and which rules can be broken at which place.
-use Rattle.std.proofs.Common.{◌≡◌, ◌≢◌, ◌↔◌, ℕ, ◌+◌, ◌<◌, ◌≤◌, ◌⊎◌, inl, inr, List, [], ◌∷◌, Bool, true, false, cond, ◌&&◌, length, map, take, get_or, set, get_or-set_same, get_or-set_other, nat_eq, not, Ordering, Less, Equal, Greater, Option, Some, None, Bor, refl, sym, ap, ◌∙◌, subst, true≢false, arith}
+use Rattle.std.proofs.Common.{◌≡◌, ◌≢◌, ◌↔◌, ℕ, ◌+◌, ◌<◌, ◌≤◌, ◌⊎◌, inl, inr, List, [], ◌∷◌, Bool, true, false, cond, length, map, take, get_or, set, get_or-set_same, get_or-set_other, nat_eq, Ordering, Less, Equal, Greater, Option, Some, None, Bor, refl, sym, ap, ◌∙◌, subst, true≢false, arith}
 use Rattle.std.specs.Prelude.{slice_get, nat_lt, min}
-use Rattle.std.specs.List.{AllByRecursion, list_any}
+use Rattle.std.specs.List.{AllByRecursion, list_any, filter_map}
 use Rattle.std.specs.Option.{unwrap_or}
 use Rattle.std.specs.Ordering.{nat_cmp, ordering_then, is_gt}
 use Rattle.std.specs.Cmp.Lexicographic.{slice_cmp}
@@ -24,17 +24,17 @@ use Rattle.extend_resolve.specs.declared.owners.Owner.{Owner}
 use Rattle.extend_resolve.specs.declared.rule.SetRule.{SetRule}
 use Rattle.extend_resolve.specs.declared.rule.SetRule.TheVariants as rules
 use Rattle.extend_resolve.specs.Breaches.{rule_number, Breaks, BreaksAt, place_of, Breach, breach_cmp, IsBreach, IsFirstBreach}
-use Rattle.extend_resolve.specs.SetRules.{together, NamesParent, NamesComponent, LacksParent, LacksComponent, IsInCycle, HasNameClash, HasComponentInComponent}
+use Rattle.extend_resolve.specs.SetRules.{together, NamesParent, NamesComponent, LacksParent, LacksComponent, IsInCycle, HasNameClash}
 use Rattle.extend_resolve.specs.Machinery.Firsts.{found_if, earlier_of, IsLeast, AtSpot}
-use Rattle.extend_resolve.specs.Machinery.Links.{IsIn, links_at, Arrives, AreWithin, AreClear}
+use Rattle.extend_resolve.specs.Machinery.Links.{IsIn, links_at, Arrives, AreClear}
 use Rattle.extend_resolve.specs.Machinery.Gathering.{id_of_kind, component_id}
 use Rattle.extend_resolve.specs.Machinery.Numbers.{kept_at}
-use Rattle.extend_resolve.specs.Machinery.Owners.{any_reached, add_reached, add_names, Knows, AreFresh}
-use Rattle.extend_resolve.specs.Machinery.Judges.{nodes_in, set_of, IsJudge, IsJudging, Broken, AreBehind, counted, is_rest_of, is_other_than, is_one_of, is_over_most, is_long_at, OfParents, OfContents, IsReached, LeadsTo, Owns, KnowsOwners, ReachesComponent, AreComposed, IsReady}
-use Rattle.extend_resolve.proofs.Members.{any_found, any_given, all_at, read_placed, all_of, placed_within, mapped_at, read_at, contained_at}
-use Rattle.extend_resolve.proofs.Firsts.{at, below_or, least_at, none_at, least_if, least_weaker, earlier_least, contents_more, contents_less}
+use Rattle.extend_resolve.specs.Machinery.Owners.{any_reached, add_reached, add_names, AreFresh}
+use Rattle.extend_resolve.specs.Machinery.Judges.{nodes_in, set_of, IsJudge, IsJudging, Broken, AreBehind, counted, is_other_than, is_one_of, is_long_at, OfParents, OfContents, IsReached, Owns, KnowsOwners, ReachesComponent, AreComposed, IsReady}
+use Rattle.extend_resolve.proofs.Members.{any_found, any_given, all_at, read_placed, all_of, contains_placed, placed_within, mapped_at, read_at}
+use Rattle.extend_resolve.proofs.Firsts.{at, below_or, least_at, least_if, least_weaker, earlier_least, contents_more, contents_less}
 use Rattle.extend_resolve.proofs.Owning.{AreNamesBelow, any_reached_tells, knows_weaker, knows_reached, knows_names, knows_none}
-use Rattle.extend_resolve.proofs.Worlds.{same_length, world_within, arrives_ancestor}
+use Rattle.extend_resolve.proofs.Worlds.{same_length, arrives_ancestor}
 use Rattle.extend_resolve.proofs.Judged.{own_number, parent_absent, parent_there, cycle_tells, component_absent, component_there, component_tells, long_tells, in_declares, clash_tells, repeated_tells}
 use Rattle.extend_resolve.proofs.Crowds.{crowd_tells}
 
@@ -219,6 +219,12 @@ module _ (j : Judge) (index : ℕ) (u : Uploaded) (g : IsJudging j index u) wher
   pub declared_below : index < length j.names.declared.items
   declared_below = subst (λ n. index < n) (sym (declared_nodes j g.judge)) index_below
 
+  -- its links are the numbers of its parents that are there
+  pub own_links : links_at j.world.links.items index ≡ filter_map (λ p. kept_at p j.world.numbers.entries) u.interface.parents
+  own_links =
+      let numbers_of : Interface → List ℕ = λ i. filter_map (λ p. kept_at p j.world.numbers.entries) i.parents in
+      ap (λ ls. links_at ls index) g.judge.world.linked ∙ read_at (map numbers_of (nodes_in j)) (numbers_of u.interface) [] index (mapped_at numbers_of (nodes_in j) index u.interface here)
+
   pub own_kept : (n : ℕ) (o : Option ℕ) → o ≡ kept_at u.interface.id j.world.numbers.entries → n ≡ unwrap_or o index → kept_at u.interface.id j.world.numbers.entries ≡ Some n
   own_kept n o is given = own.1 ∙ ap Some (sym (given ∙ ap (λ p. unwrap_or p index) (is ∙ own.1)))
 
@@ -346,6 +352,12 @@ module _ (j : Judge) (index : ℕ) (u : Uploaded) (g : IsJudging j index u) wher
   -- another content breaks no rule
   pub no_component : (k : ℕ) → ((p : Identifier) → NamesComponent u.interface k p → ⊥) → (r : SetRule) (s : Spot) → AtSpot P (spots.ContentSchema k) r s → ⊥
   no_component k never r s h = let c = content_named (set_of j) earlier u.interface k r (subst (P r) h.0 h.1) in never c.0 c.1
+
+  -- where it declares no component, no content breaks a rule
+  pub contents_none : get_or j.world.composed.items index false ≡ false → IsLeast u (OfContents P (length u.interface.contents)) None
+  contents_none none r s (k, low, h) =
+      let c = content_named (set_of j) earlier u.interface k r (subst (P r) h.0 h.1) in
+      true≢false (sym ((g.judge.world.composes index u.interface here).1 (c.1.0, c.0, contains_placed u.interface.contents c.1.0 k c.1.1, c.1.2)) ∙ none)
 
   -- another content than a component adds no place
   pub contents_skip : (k : ℕ) (o : Option Found) → ((p : Identifier) → NamesComponent u.interface k p → ⊥) → IsLeast u (OfContents P k) o → IsLeast u (OfContents P (k + 1)) o

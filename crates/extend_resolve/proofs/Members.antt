@@ -1,7 +1,7 @@
 -- Elements of lists, by position, by their own tests and by the list's.
-use Rattle.std.proofs.Common.{◌≡◌, ◌≢◌, ℕ, zero, suc, ◌+◌, ◌<◌, ◌⊎◌, inl, inr, List, [], ◌∷◌, ◌++◌, Bool, true, false, ◌||◌, length, map, take, get_or, slice_index_or, nat_eq, Option, Some, None, refl, sym, ap, ◌∙◌, subst, true≢false, arith}
+use Rattle.std.proofs.Common.{◌≡◌, ◌≢◌, ℕ, zero, suc, ◌+◌, ◌<◌, ◌≤◌, ◌⊎◌, inl, inr, List, [], ◌∷◌, Bool, true, false, ◌||◌, length, map, take, get_or, slice_index_or, nat_eq, Option, Some, None, refl, sym, ap, ◌∙◌, subst, true≢false, arith}
 use Rattle.std.specs.Prelude.{slice_get, Contains, IsSome}
-use Rattle.std.specs.List.{AllByRecursion, AllZip, list_any, filter_map, cons_option}
+use Rattle.std.specs.List.{AllByRecursion, list_any, filter_map, cons_option}
 use Rattle.std.proofs.lemmas.Bool.Decides.{nat_tests}
 use Rattle.std.proofs.lemmas.Option.{same_Some, none-some}
 use Rattle.extend_resolve.specs.Machinery.Links.{IsIn}
@@ -144,6 +144,26 @@ module _ {X : Type 0} where
         | inr t ↦ let more = kept_from f zs y t in (suc more.0, more.1, more.2, more.3)
       ]
 
+  at_most : (f : X → Option ℕ) (xs : List X) → length (filter_map f xs) ≤ length xs
+  at_most f [] = omega arith
+  at_most f (x ∷ xs) =
+      let more = at_most f xs in
+      elim (f x) as (λ o. length (cons_option o (filter_map f xs)) ≤ suc (length xs)) [ None ↦ omega (arith, more) | Some y ↦ omega (arith, more) ]
+
+  -- where it leaves out none, what it gives stands at the element's position
+  pub kept_in_place : (f : X → Option ℕ) (xs : List X) (k : ℕ) (x : X) → length (filter_map f xs) ≡ length xs → slice_get xs k ≡ Some x → Some (get_or (filter_map f xs) k 0) ≡ f x
+  kept_in_place f [] k x same h = absurd (none-some x h)
+  kept_in_place f (z ∷ zs) zero x same h =
+      elim (f z) as (λ o. f z ≡ o → length (cons_option o (filter_map f zs)) ≡ suc (length zs) → Some (get_or (cons_option o (filter_map f zs)) 0 0) ≡ f x) [
+        | None ↦ λ e long. let most = at_most f zs in absurd (omega (arith, most, long))
+        | Some y ↦ λ e long. sym e ∙ ap f (same_Some z x h)
+      ] refl same
+  kept_in_place f (z ∷ zs) (suc k) x same h =
+      elim (f z) as (λ o. length (cons_option o (filter_map f zs)) ≡ suc (length zs) → Some (get_or (cons_option o (filter_map f zs)) (suc k) 0) ≡ f x) [
+        | None ↦ λ long. let most = at_most f zs in absurd (omega (arith, most, long))
+        | Some y ↦ λ long. kept_in_place f zs k x (omega (arith, long)) h
+      ] same
+
 -- what is read from a list at a position that is there
 pub read_named : {X : Type 0} (xs ys : List X) (k : ℕ) (x : X) → k < length xs → ys ≡ xs → x ≡ get_or ys k x → slice_get xs k ≡ Some x
 read_named xs ys k x low same is =
@@ -171,23 +191,6 @@ module _ {X : Type 0} (P Q : X → Type 0) (weaker : (x : X) → P x → Q x) wh
   pub all_weaker : (xs : List X) → AllByRecursion P xs → AllByRecursion Q xs
   all_weaker [] all = tt
   all_weaker (x ∷ xs) all = (weaker x all.0, all_weaker xs all.1)
-
-module _ {X Y : Type 0} (P Q : X → Y → Type 0) (weaker : (x : X) (y : Y) → P x y → Q x y) where
-  pub zip_weaker : (xs : List X) (ys : List Y) → AllZip P xs ys → AllZip Q xs ys
-  zip_weaker [] [] all = tt
-  zip_weaker [] (y ∷ ys) all = absurd all
-  zip_weaker (x ∷ xs) [] all = absurd all
-  zip_weaker (x ∷ xs) (y ∷ ys) all = (weaker x y all.0, zip_weaker xs ys all.1)
-
-  zip_taken : (xs : List X) (ys : List Y) (k : ℕ) (x : X) (y : Y) → slice_get xs k ≡ Some x → AllZip P (take k xs) ys → Q x y → AllZip Q (take (suc k) xs) (ys ++ y ∷ [])
-  zip_taken [] ys k x y h all q = absurd (none-some x h)
-  zip_taken (z ∷ xs) [] zero x y h all q = (subst (λ v. Q v y) (sym (same_Some z x h)) q, tt)
-  zip_taken (z ∷ xs) (w ∷ ys) zero x y h all q = absurd all
-  zip_taken (z ∷ xs) [] (suc k) x y h all q = absurd all
-  zip_taken (z ∷ xs) (w ∷ ys) (suc k) x y h all q = (weaker z w all.0, zip_taken xs ys k x y h all.1 q)
-
-  pub zip_take_more : (xs : List X) (ys : List Y) (k : ℕ) (x : X) (y : Y) → slice_get xs k ≡ Some x → AllZip P (take k xs) ys → Q x y → AllZip Q (take (k + 1) xs) (ys ++ y ∷ [])
-  zip_take_more xs ys k x y h all q = let e : suc k ≡ k + 1 = omega arith in subst (λ n. AllZip Q (take n xs) (ys ++ y ∷ [])) e (zip_taken xs ys k x y h all q)
 
 pub read_option : {X : Type 0} (xs : List (Option X)) (k : ℕ) (x : Option X) → k < length xs → x ≡ get_or xs k x → x ≡ get_or xs k None
 read_option xs k x low is = is ∙ sym (read_at xs (get_or xs k x) None k (read_placed xs k x low))

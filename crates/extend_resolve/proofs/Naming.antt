@@ -1,79 +1,344 @@
--- The numbers of names, as they are given one by one.
-use Rattle.std.proofs.Common.{◌≡◌, ℕ, ◌+◌, ◌<◌, ◌⊎◌, inl, inr, List, [], ◌∷◌, true, false, cond, length, map, Option, Some, None, Bool, Bor, refl, sym, ap, ◌∙◌, subst, is_eq, arith, unwrap_or}
-use Rattle.std.specs.Prelude.{if◌then◌else◌, IsSome}
+-- The numbers of names, as sorted entries give them.
+use Rattle.std.proofs.Common.{◌≡◌, ◌≢◌, ◌↔◌, ℕ, zero, suc, ◌+◌, ◌-◌, ◌<◌, ◌⊎◌, inl, inr, List, [], ◌∷◌, ◌++◌, true, false, cond, length, map, take, drop, get_or, set, nat_eq, Option, Some, Bool, Bor, refl, sym, ap, ◌∙◌, subst, is_eq, rules, arith, true≢false, Ordering, Less, Equal, Greater}
+use Rattle.std.specs.Prelude.{IsSome, slice_get}
 use Rattle.std.specs.List.{AllByRecursion, AllZip, filter_map, cons_option}
+use Rattle.std.specs.List.Sorted.{IsPermutation, IsSorted, IsSortedBy}
+use Rattle.std.specs.Bool.{IsTrue}
 use Rattle.std.specs.Option.{is_some}
-use Rattle.std.specs.Ordering.{nat_cmp, ordering_then}
-use Rattle.std.specs.Cmp.Lexicographic.{slice_cmp}
-use Rattle.std.proofs.lemmas.Option.{same_Some}
+use Rattle.std.specs.Ordering.{is_lt, nat_cmp, ordering_then, ordering_reverse}
+use Rattle.std.specs.Cmp.{IsTotalOrder}
+use Rattle.std.specs.Cmp.Rules.{comparing}
+use Rattle.std.specs.Cmp.Lexicographic.{slice_cmp, same_text, other_text}
+use lib.Pointwise.{pointwise}
+use Rattle.std.proofs.lemmas.Cmp.{tied_itself, nat_list_cmp_total}
+use Rattle.std.proofs.lemmas.List.MinMax.{ranks_by}
+use Rattle.std.proofs.lemmas.List.Sorted.{sorted_far, Contains-permutation, IsPermutation-sym, length_permutation}
+use Rattle.std.proofs.lemmas.Option.{same_Some, none-some, slice_get_within}
 use Rattle.std.proofs.lemmas.Map.Lookups.{exact_bytes, exact_unsigned, exact_pairs}
 use Rattle.dtdl_terms.specs.declared.content.Content.{Content}
 use Rattle.dtdl_terms.specs.declared.interface.Interface.{Interface}
-use Rattle.extend_resolve.specs.Machinery.Names.{first_bytes, kept_under, named_at, AreApart, KeepsNumbers}
+use Rattle.extend_resolve.specs.Machinery.Names.{first_bytes, contents_of, Entry, Tells, AreEntries, AreOrdered, entry_cmp, number_in, AreNumbered, Repeats, rows_of, IsNaming}
 use Rattle.extend_resolve.proofs.Judged.{equal_order}
+use Rattle.extend_resolve.proofs.Members.{contains_placed, placed_from_contained, placed_within, read_at, read_placed}
 
--- the number `w` of `name` is put: its own, or the next one where it has none
-module _ (name : List ℕ) (first w : ℕ) (es fs : List ((ℕ × Bor (List ℕ)) × ℕ)) (from : first ≡ first_bytes name)
-    (put : (q : List ℕ) → named_at q fs ≡ cond (is_eq (ordering_then (nat_cmp first (first_bytes q)) (slice_cmp nat_cmp name q))) (Some w) (named_at q es))
-    (next : w ≡ unwrap_or (kept_under first name es) (length es)) where
-  -- whether a name has the same key
-  has_key : List ℕ → Bool
-  has_key q = is_eq (ordering_then (nat_cmp (first_bytes name) (first_bytes q)) (slice_cmp nat_cmp name q))
+-- ---- entries are added
+module _ {X : Type 0} where
+  pub got_before : (xs ys : List X) (k : ℕ) (x : X) → slice_get xs k ≡ Some x → slice_get (xs ++ ys) k ≡ Some x
+  got_before [] ys k x h = absurd (none-some x h)
+  got_before (z ∷ xs) ys zero x h = h
+  got_before (z ∷ xs) ys (suc k) x h = got_before xs ys k x h
 
-  told : (q : List ℕ) → named_at q fs ≡ cond (has_key q) (Some w) (named_at q es)
-  unfolding has_key
-  told q = subst (λ n. named_at q fs ≡ cond (is_eq (ordering_then (nat_cmp n (first_bytes q)) (slice_cmp nat_cmp name q))) (Some w) (named_at q es)) from (put q)
+  pub got_last : (xs : List X) (x : X) → slice_get (xs ++ x ∷ []) (length xs) ≡ Some x
+  got_last [] x = refl
+  got_last (z ∷ xs) x = got_last xs x
 
-  is : w ≡ unwrap_or (named_at name es) (length es)
-  is = next ∙ ap (λ n. unwrap_or (kept_under n name es) (length es)) from
+  -- what is read of a list with one more element is read of the list, or that element
+  pub got_of_pushed : (xs : List X) (y : X) (k : ℕ) (x : X) → slice_get (xs ++ y ∷ []) k ≡ Some x → (slice_get xs k ≡ Some x) ⊎ ((k ≡ length xs) × (y ≡ x))
+  got_of_pushed [] y zero x h = inr (refl, same_Some y x h)
+  got_of_pushed [] y (suc k) x h = absurd (none-some x h)
+  got_of_pushed (z ∷ xs) y zero x h = inl h
+  got_of_pushed (z ∷ xs) y (suc k) x h = elim (got_of_pushed xs y k x h) [ inl old ↦ inl old | inr new ↦ inr (ap suc new.0, new.1) ]
 
-  same : (q : List ℕ) → has_key q ≡ true → name ≡ q
-  unfolding has_key
-  same q e =
-      ap (λ k. k.1) (exact_pairs nat_cmp (slice_cmp nat_cmp) exact_unsigned exact_bytes (first_bytes name, name) (first_bytes q, q)
-      (equal_order (ordering_then (nat_cmp (first_bytes name) (first_bytes q)) (slice_cmp nat_cmp name q)) e))
+  pub length_pushed : (xs : List X) (y : X) → length (xs ++ y ∷ []) ≡ suc (length xs)
+  length_pushed [] y = refl
+  length_pushed (z ∷ xs) y = ap suc (length_pushed xs y)
 
-  pub still_numbered : KeepsNumbers es fs
-  still_numbered q x h =
-      told q ∙ elim (has_key q) as (λ b. has_key q ≡ b → cond b (Some w) (named_at q es) ≡ Some x) [
-        | true ↦ λ e. ap Some (is ∙ ap (λ o. unwrap_or o (length es)) (ap (λ p. named_at p es) (same q e) ∙ h))
-        | false ↦ λ e. h
-      ] refl
+  take_next : (xs : List X) (k : ℕ) (x : X) → slice_get xs k ≡ Some x → take (suc k) xs ≡ take k xs ++ x ∷ []
+  take_next [] k x h = absurd (none-some x h)
+  take_next (z ∷ xs) zero x h = ap (λ y. y ∷ []) (same_Some z x h)
+  take_next (z ∷ xs) (suc k) x h = ap (λ ys. z ∷ ys) (take_next xs k x h)
 
-  -- a number is an old one, or the next one, which the new name alone has
-  one : (q : List ℕ) (x : ℕ) → named_at q fs ≡ Some x → (named_at q es ≡ Some x) ⊎ ((name ≡ q) × (x ≡ length es) × (named_at name es ≡ None))
-  one q x h =
-      elim (has_key q) as (λ b. has_key q ≡ b → cond b (Some w) (named_at q es) ≡ Some x → (named_at q es ≡ Some x) ⊎ ((name ≡ q) × (x ≡ length es) × (named_at name es ≡ None))) [
-        | true ↦ λ e g. elim (named_at name es) as (λ o. named_at name es ≡ o → unwrap_or o (length es) ≡ x → (named_at q es ≡ Some x) ⊎ ((name ≡ q) × (x ≡ length es) × (named_at name es ≡ None))) [
-          | Some n ↦ λ there f. inl (ap (λ p. named_at p es) (sym (same q e)) ∙ there ∙ ap Some f)
-          | None ↦ λ none f. inr (same q e, sym f, none)
-        ] refl (sym is ∙ same_Some w x g)
-        | false ↦ λ e g. inl g
-      ] refl (sym (told q) ∙ h)
+  pub take_one_more : (xs : List X) (k : ℕ) (x : X) → slice_get xs k ≡ Some x → take (k + 1) xs ≡ take k xs ++ x ∷ []
+  take_one_more xs k x h = let e : k + 1 ≡ suc k = omega arith in ap (λ n. take n xs) e ∙ take_next xs k x h
 
-  pub still_apart : length fs ≡ length es + (if is_some (kept_under first name es) then 0 else 1) → AreApart es → AreApart fs
-  still_apart grown a =
-      let size = grown ∙ ap (λ n. length es + (if is_some (kept_under n name es) then 0 else 1)) from in
-      record {
-        apart = λ p q x h g. elim (one p x h) [
-          | inl old ↦ elim (one q x g) [
-            | inl both ↦ a.apart p q x old both
-            | inr other ↦ let low = a.below p x old in absurd (omega (arith, low, other.1))
-          ]
-          | inr new ↦ elim (one q x g) [
-            | inl old ↦ let low = a.below q x old in absurd (omega (arith, low, new.1))
-            | inr other ↦ sym new.0 ∙ other.0
-          ]
-        ];
-        below = λ p x h. elim (one p x h) [
-          | inl old ↦ longer (named_at name es) size x (a.below p x old)
-          | inr new ↦ let more = size ∙ ap (λ o. length es + (if is_some o then 0 else 1)) new.2 in omega (arith, new.1, more)
-        ];
-      }
-    where
-      longer : (o : Option ℕ) → length fs ≡ length es + (if is_some o then 0 else 1) → (x : ℕ) → x < length es → x < length fs
-      longer None more x low = omega (arith, more, low)
-      longer (Some n) more x low = omega (arith, more, low)
+  -- what a whole slice was written back as
+  pub written_back : (new more : List X) (n : ℕ) → n ≡ length new → take n (new ++ more) ≡ new
+  written_back [] more n e = ap (λ k. take k more) e
+  written_back (x ∷ new) more n e = ap (λ k. take k (x ∷ (new ++ more))) e ∙ ap (λ ys. x ∷ ys) (written_back new more (length new) refl)
+
+still_tells : (cs more : List Content) (e : Entry) → Tells cs e → Tells (cs ++ more) e
+still_tells cs more e t = record { content = t.content; placed = got_before cs more e.2 t.content t.placed; name = t.name; first = t.first }
+
+pub entry_added : (cs : List Content) (es : List Entry) (c : Content) (e : Entry) → AreEntries cs es
+    → e.0 ≡ first_bytes c.name → e.1.now ≡ c.name → e.2 ≡ length es → AreEntries (cs ++ c ∷ []) (es ++ e ∷ [])
+entry_added cs es c e are first name place = record {
+  size = length_pushed es e ∙ ap suc are.size ∙ sym (length_pushed cs c);
+  each = λ k f h. elim (got_of_pushed es e k f h) [
+    | inl old ↦ still_tells cs (c ∷ []) f (are.each k f old)
+    | inr new ↦ subst (Tells (cs ++ c ∷ [])) new.1 (record {
+      content = c;
+      placed = ap (slice_get (cs ++ c ∷ [])) (place ∙ are.size) ∙ got_last cs c;
+      name = name;
+      first = first;
+    })
+  ];
+  places = λ k f h. elim (got_of_pushed es e k f h) [
+    | inl old ↦ are.places k f old
+    | inr new ↦ ap (λ (d : Entry). d.2) (sym new.1) ∙ place ∙ sym new.0
+  ];
+}
+
+-- ---- the order of entries
+abbrev key_of : Entry → ℕ × List ℕ
+key_of e = (e.0, e.1.now)
+
+abbrev key_cmp : ℕ × List ℕ → ℕ × List ℕ → Ordering
+key_cmp a b = ordering_then (nat_cmp a.0 b.0) (slice_cmp nat_cmp a.1 b.1)
+
+key_total : IsTotalOrder key_cmp
+key_total = search (rules, comparing)
+
+abbrev is_before : Entry → Entry → Bool
+is_before d e = is_lt (key_cmp (key_of d) (key_of e))
+
+not_less : (o p : Ordering) → is_lt (ordering_then o p) ≡ false → is_lt o ≡ false
+not_less Less p h = h
+not_less Equal p h = refl
+not_less Greater p h = h
+
+by_keys : (es : List Entry) → IsSorted entry_cmp es → IsSortedBy is_before es
+by_keys es up k d low more =
+    let e = get_or es (k + 1) d in
+    let f = get_or es k d in
+    not_less (key_cmp (key_of e) (key_of f)) (nat_cmp e.2 f.2) (up k d low more)
+
+neither : (o p : Ordering) → o ≡ ordering_reverse p → is_lt o ≡ false → is_lt p ≡ false → o ≡ Equal
+neither Less p e h g = absurd (true≢false h)
+neither Equal p e h g = refl
+neither Greater Less e h g = absurd (true≢false g)
+neither Greater Equal e h g = e
+neither Greater Greater e h g = cc
+
+-- keys of which neither is before the other are one key
+same_key : (a b : ℕ × List ℕ) → is_lt (key_cmp a b) ≡ false → is_lt (key_cmp b a) ≡ false → a ≡ b
+same_key a b h g = exact_pairs nat_cmp (slice_cmp nat_cmp) exact_unsigned exact_bytes a b (neither (key_cmp a b) (key_cmp b a) (key_total.antisymm a b) h g)
+
+-- ---- what the entries tell
+module _ (contents : List Content) where
+  told_first : (e : Entry) → Tells contents e → e.0 ≡ first_bytes e.1.now
+  told_first e t = t.first ∙ ap first_bytes (sym t.name)
+
+  -- entries with one name have one key
+  told_key : (d e : Entry) → Tells contents d → Tells contents e → d.1.now ≡ e.1.now → key_of d ≡ key_of e
+  told_key d e t u same =
+      let first : d.0 ≡ e.0 = told_first d t ∙ ap first_bytes same ∙ sym (told_first e u) in
+      cc
+
+  -- entries with one place have one name
+  told_name : (d e : Entry) → Tells contents d → Tells contents e → d.2 ≡ e.2 → d.1.now ≡ e.1.now
+  told_name d e t u same =
+      let content = same_Some t.content u.content (sym t.placed ∙ ap (slice_get contents) same ∙ u.placed) in
+      t.name ∙ ap (λ (c : Content). c.name) content ∙ sym u.name
+
+-- where a name is not that of the entry before, no entry before has it
+no_earlier : (es : List Entry) (size : ℕ) → AreOrdered es size → (i j : ℕ) (d p e : Entry)
+    → j < i → slice_get es j ≡ Some d → slice_get es (i - 1) ≡ Some p → slice_get es i ≡ Some e → d.1.now ≡ e.1.now → p.1.now ≡ e.1.now
+no_earlier es size o i j d p e low at_d at_p at_e same =
+    let inside : i < length es = slice_get_within es i e at_e in
+    let far = sorted_far is_before (ranks_by key_total key_of) es (by_keys es o.sorted) in
+    let key = told_key o.contents d e (o.each j d at_d) (o.each i e at_e) same in
+    let one : is_before p d ≡ false =
+    subst (λ (x : Entry). is_before p x ≡ false) (read_at es d p j at_d)
+    (subst (λ (x : Entry). is_before x (get_or es j p) ≡ false) (read_at es p p (i - 1) at_p) (far j (i - 1) p (omega arith) (omega arith))) in
+    let two : is_before e p ≡ false =
+    subst (λ (x : Entry). is_before e x ≡ false) (read_at es p p (i - 1) at_p)
+    (subst (λ (x : Entry). is_before x (get_or es (i - 1) p) ≡ false) (read_at es e p i at_e) (far (i - 1) i p (omega arith) inside)) in
+    ap (λ (k : ℕ × List ℕ). k.1) (same_key (key_of p) (key_of e) (subst (λ k. is_lt (key_cmp (key_of p) k) ≡ false) key one) two)
+
+-- the place that an entry tells is there
+pub place_within : (es : List Entry) (size k : ℕ) (e : Entry) → AreOrdered es size → slice_get es k ≡ Some e → e.2 < size
+place_within es size k e o at =
+    let t = o.each k e at in
+    let low = slice_get_within o.contents e.2 t.content t.placed in
+    omega (arith, low, o.count)
+
+-- ---- the number of a name
+texts_tied : (a : List ℕ) → is_eq (slice_cmp nat_cmp a a) ≡ true
+texts_tied a = ap is_eq (tied_itself nat_list_cmp_total a)
+
+first_found : (es : List Entry) (k : ℕ) (e : Entry) → slice_get es k ≡ Some e
+    → ((j : ℕ) (d : Entry) → j < k → slice_get es j ≡ Some d → is_eq (slice_cmp nat_cmp d.1.now e.1.now) ≡ false) → number_in es e.1.now ≡ Some e.2
+first_found [] k e h none = absurd (none-some e h)
+first_found (d ∷ es) zero e h none =
+    ap (λ (f : Entry). cond (is_eq (slice_cmp nat_cmp f.1.now e.1.now)) (Some f.2) (number_in es e.1.now)) (same_Some d e h)
+    ∙ ap (λ b. cond b (Some e.2) (number_in es e.1.now)) (texts_tied e.1.now)
+first_found (d ∷ es) (suc k) e h none =
+    ap (λ b. cond b (Some d.2) (number_in es e.1.now)) (none zero d (omega arith) refl)
+    ∙ first_found es k e h (λ j f low at. none (suc j) f (omega (arith, low)) at)
+
+-- a number is the place of an entry with the name
+found_number : (es : List Entry) (name : List ℕ) (x : ℕ) → number_in es name ≡ Some x → (k : ℕ) × (e : Entry) × (slice_get es k ≡ Some e) × (e.1.now ≡ name) × (e.2 ≡ x)
+found_number [] name x h = absurd (none-some x h)
+found_number (e ∷ es) name x h =
+    elim (is_eq (slice_cmp nat_cmp e.1.now name)) as (λ b. is_eq (slice_cmp nat_cmp e.1.now name) ≡ b → cond b (Some e.2) (number_in es name) ≡ Some x
+    → (k : ℕ) × (f : Entry) × (slice_get (e ∷ es) k ≡ Some f) × (f.1.now ≡ name) × (f.2 ≡ x)) [
+      | true ↦ λ is g. (zero, e, refl, exact_bytes e.1.now name (equal_order (slice_cmp nat_cmp e.1.now name) is), same_Some e.2 x g)
+      | false ↦ λ is g. let more = found_number es name x g in (suc more.0, more.1, more.2, more.3, more.4)
+    ] refl h
+
+-- two texts are one, or the test tells them apart
+one_or_other : (a b : List ℕ) → (a ≡ b) ⊎ (is_eq (slice_cmp nat_cmp a b) ≡ false)
+one_or_other a b =
+    elim (is_eq (slice_cmp nat_cmp a b)) as (λ t. is_eq (slice_cmp nat_cmp a b) ≡ t → (a ≡ b) ⊎ (is_eq (slice_cmp nat_cmp a b) ≡ false)) [
+      | true ↦ λ e. inl (exact_bytes a b (equal_order (slice_cmp nat_cmp a b) e))
+      | false ↦ λ e. inr e
+    ] refl
+
+-- the number of a name that the entry before has not is the place of its entry
+pub fresh_number : (es : List Entry) (size : ℕ) → AreOrdered es size → (i : ℕ) (e : Entry) → slice_get es i ≡ Some e → (Repeats es i → ⊥) → number_in es e.1.now ≡ Some e.2
+fresh_number es size o i e at other =
+    first_found es i e at (λ j d low there. elim (one_or_other d.1.now e.1.now) [
+      | inr apart ↦ apart
+      | inl same ↦
+          let inside : i < length es = slice_get_within es i e at in
+          let found = placed_within es (i - 1) (omega arith) in
+          let p = found.0 in
+          let key = told_key o.contents p e (o.each (i - 1) p found.1) (o.each i e at) (no_earlier es size o i j d p e low there found.1 at same) in
+          absurd (other (record {
+            behind = omega arith;
+            same = λ f g at_f at_g.
+                let one = same_Some p f (sym found.1 ∙ at_f) in
+                let two = same_Some e g (sym at ∙ at_g) in
+                let keys = ap key_of (sym one) ∙ key ∙ ap key_of two in
+                (ap (λ (k : ℕ × List ℕ). k.0) keys, ap (λ (k : ℕ × List ℕ). k.1) keys);
+          }))
+    ])
+
+-- the number of a name that the entry before has is that of the entry before
+pub same_number_again : (es : List Entry) (i x : ℕ) (e : Entry) → slice_get es i ≡ Some e → Repeats es i
+    → ((d : Entry) → 0 < i → slice_get es (i - 1) ≡ Some d → number_in es d.1.now ≡ Some x) → number_in es e.1.now ≡ Some x
+same_number_again es i x e at again before =
+    let inside : i < length es = slice_get_within es i e at in
+    let low : i - 1 < length es = omega arith in
+    let found = placed_within es (i - 1) low in
+    subst (λ q. number_in es q ≡ Some x) (again.same found.0 e found.1 at).1 (before found.0 again.behind found.1)
+
+pub numbers_apart : (es : List Entry) (size : ℕ) → AreOrdered es size → (a b : List ℕ) (x : ℕ) → number_in es a ≡ Some x → number_in es b ≡ Some x → a ≡ b
+numbers_apart es size o a b x h g =
+    let one = found_number es a x h in
+    let two = found_number es b x g in
+    sym one.3 ∙ told_name o.contents one.1 two.1 (o.each one.0 one.1 one.2) (o.each two.0 two.1 two.2) (one.4 ∙ sym two.4) ∙ two.3
+
+pub numbers_below : (es : List Entry) (size : ℕ) → AreOrdered es size → (a : List ℕ) (x : ℕ) → number_in es a ≡ Some x → x < size
+numbers_below es size o a x h =
+    let one = found_number es a x h in
+    subst (λ y. y < size) one.4 (place_within es size one.0 one.1 o one.2)
+
+-- ---- the walk over the entries
+-- what a read past the end of entries gives
+abbrev pub nothing : Entry
+nothing = (0, record { ref_ptr = (0, 0); now = [] }, 0)
+
+pub repeats_where : (es : List Entry) (i : ℕ) (d : Entry) (r : Bool) → i < length es → (i ≡ 0 → ⊥) → (get_or es (i - 1) d).0 ≡ (get_or es i d).0
+    → r ≡ pointwise nat_eq (get_or es (i - 1) d).1.now (get_or es i d).1.now → IsTrue r ↔ Repeats es i
+repeats_where es i d r low some first test = (
+  λ yes. record {
+    behind = omega (arith, some);
+    same = λ f g at_f at_g.
+        let one : get_or es (i - 1) d ≡ f = read_at es f d (i - 1) at_f in
+        let two : get_or es i d ≡ g = read_at es g d i at_g in
+        let same = same_text (get_or es (i - 1) d).1.now (get_or es i d).1.now (sym yes ∙ test) in
+        (ap (λ (e : Entry). e.0) (sym one) ∙ first ∙ ap (λ (e : Entry). e.0) two, ap (λ (e : Entry). e.1.now) (sym one) ∙ same ∙ ap (λ (e : Entry). e.1.now) two);
+  },
+  λ again.
+      let same = (again.same (get_or es (i - 1) d) (get_or es i d) (read_placed es (i - 1) d (omega arith)) (read_placed es i d low)).1 in
+      told r test same,
+)
+  where
+    told : (b : Bool) → b ≡ pointwise nat_eq (get_or es (i - 1) d).1.now (get_or es i d).1.now → (get_or es (i - 1) d).1.now ≡ (get_or es i d).1.now → IsTrue b
+    told true e same = refl
+    told false e same = absurd (other_text (get_or es (i - 1) d).1.now (get_or es i d).1.now e same)
+
+pub repeats_nowhere : (es : List Entry) (i : ℕ) (d : Entry) → i < length es → ((get_or es (i - 1) d).0 ≡ (get_or es i d).0 → ⊥) → Repeats es i → ⊥
+repeats_nowhere es i d low other again =
+    let behind : 0 < i = again.behind in
+    let before : i - 1 < length es = omega arith in
+    other (again.same (get_or es (i - 1) d) (get_or es i d) (read_placed es (i - 1) d before) (read_placed es i d low)).0
+
+module _ {X : Type 0} where
+  got_of_set : (xs : List X) (i k : ℕ) (y x : X) → slice_get (set xs i y) k ≡ Some x → ((k ≡ i) × (y ≡ x)) ⊎ ((k ≢ i) × (slice_get xs k ≡ Some x))
+  got_of_set [] i k y x h = absurd (none-some x h)
+  got_of_set (z ∷ xs) zero zero y x h = inl (refl, same_Some y x h)
+  got_of_set (z ∷ xs) zero (suc k) y x h = inr (λ e. omega (arith, e), h)
+  got_of_set (z ∷ xs) (suc i) zero y x h = inr (λ e. omega (arith, e), h)
+  got_of_set (z ∷ xs) (suc i) (suc k) y x h =
+      elim (got_of_set xs i k y x h) [ inl new ↦ inl (ap suc new.0, new.1) | inr old ↦ inr (λ e. let less : k ≡ i = omega (arith, e) in old.0 less, old.1) ]
+
+below_or_at : (k i : ℕ) → k < i + 1 → (k < i) ⊎ (k ≡ i)
+below_or_at zero zero low = inr refl
+below_or_at zero (suc i) low = inl (omega arith)
+below_or_at (suc k) zero low = absurd (omega (arith, low))
+below_or_at (suc k) (suc i) low = elim (below_or_at k i (omega (arith, low))) [ inl less ↦ inl (omega (arith, less)) | inr same ↦ inr (ap suc same) ]
+
+-- one more entry's number is written
+pub numbered_more : (es : List Entry) (size i number : ℕ) (numbers : List ℕ) (e : Entry) → AreOrdered es size → slice_get es i ≡ Some e → number_in es e.1.now ≡ Some number
+    → AreNumbered es i numbers → AreNumbered es (i + 1) (set numbers e.2 number)
+numbered_more es size i number numbers e o at is written k x f low there got =
+    elim (got_of_set numbers e.2 f.2 number x got) [
+      | inl new ↦ ap (number_in es) (told_name o.contents f e (o.each k f there) (o.each i e at) new.0) ∙ is ∙ ap Some new.1
+      | inr old ↦ elim (below_or_at k i low) [
+        | inl earlier ↦ written k x f earlier there old.1
+        | inr here ↦
+            let same = same_Some f e (sym there ∙ ap (slice_get es) here ∙ at) in
+            absurd (old.0 (ap (λ (d : Entry). d.2) same))
+      ]
+    ]
+
+-- ---- the entries of contents, sorted
+pub sorted_entries : (cs : List Content) (old new : List Entry) → AreEntries cs old → IsPermutation old new → IsSorted entry_cmp new → AreOrdered new (length new)
+sorted_entries cs old new are moved sorted = record {
+  contents = cs;
+  count = sym (length_permutation old new moved ∙ are.size);
+  each = λ k e at.
+      let back = Contains-permutation new old e (IsPermutation-sym old new moved) (contains_placed new e k at) in
+      are.each back.0 e (placed_from_contained old e back.0 back.1 back.2);
+  sorted = sorted;
+}
+
+-- each place is that of an entry
+entry_at : (cs : List Content) (old new : List Entry) → AreEntries cs old → IsPermutation old new → (p : ℕ) → p < length cs → (k : ℕ) × (e : Entry) × (slice_get new k ≡ Some e) × (e.2 ≡ p)
+entry_at cs old new are moved p low =
+    let there = placed_within old p (omega (arith, low, are.size)) in
+    let e = there.0 in
+    let found = Contains-permutation old new e moved (contains_placed old e p there.1) in
+    (found.0, e, placed_from_contained new e found.0 found.1 found.2, are.places p e there.1)
+
+zip_placed : {X Y : Type 0} (P : X → Y → Type 0) (xs : List X) (ys : List Y) → length ys ≡ length xs
+    → ((k : ℕ) (x : X) (y : Y) → slice_get xs k ≡ Some x → slice_get ys k ≡ Some y → P x y) → AllZip P xs ys
+zip_placed P [] [] long at = tt
+zip_placed P [] (y ∷ ys) long at = absurd (omega (arith, long))
+zip_placed P (x ∷ xs) [] long at = absurd (omega (arith, long))
+zip_placed P (x ∷ xs) (y ∷ ys) long at = (at zero x y refl refl, zip_placed P xs ys (omega (arith, long)) (λ k v w h g. at (suc k) v w h g))
+
+-- the numbers that were written are those of the contents' names
+pub all_numbered : (cs : List Content) (old new : List Entry) (numbers : List ℕ) → AreEntries cs old → IsPermutation old new → length numbers ≡ length new → AreNumbered new (length new) numbers
+    → AllZip (λ c x. number_in new c.name ≡ Some x) cs numbers
+all_numbered cs old new numbers are moved long written =
+    zip_placed (λ (c : Content) x. number_in new c.name ≡ Some x) cs numbers (long ∙ length_permutation old new moved ∙ are.size) (λ k c x at there.
+    let found = entry_at cs old new are moved k (slice_get_within cs k c at) in
+    let e = found.1 in
+    let back = Contains-permutation new old e (IsPermutation-sym old new moved) (contains_placed new e found.0 found.2) in
+    let t = are.each back.0 e (placed_from_contained old e back.0 back.1 back.2) in
+    let content = same_Some t.content c (sym t.placed ∙ ap (slice_get cs) found.3 ∙ at) in
+    let name : e.1.now ≡ c.name = t.name ∙ ap (λ (d : Content). d.name) content in
+    subst (λ q. number_in new q ≡ Some x) name (written found.0 x e (slice_get_within new found.0 e found.2) found.2 (ap (slice_get numbers) found.3 ∙ there)))
+
+-- ---- rows
+module _ {X Y : Type 0} (P : X → Y → Type 0) where
+  zip_front : (us vs : List X) (ys : List Y) → AllZip P (us ++ vs) ys → AllZip P us (take (length us) ys)
+  zip_front [] vs ys all = tt
+  zip_front (u ∷ us) vs [] all = absurd all
+  zip_front (u ∷ us) vs (y ∷ ys) all = (all.0, zip_front us vs ys all.1)
+
+  zip_back : (us vs : List X) (ys : List Y) → AllZip P (us ++ vs) ys → AllZip P vs (drop (length us) ys)
+  zip_back [] vs ys all = all
+  zip_back (u ∷ us) vs [] all = absurd all
+  zip_back (u ∷ us) vs (y ∷ ys) all = zip_back us vs ys all.1
+
+pub rows_told : (P : Content → ℕ → Type 0) (ns : List (Bor Interface)) (xs : List ℕ) → AllZip P (contents_of ns) xs → AllZip (λ n ys. AllZip P n.now.contents ys) ns (rows_of ns xs)
+rows_told P [] xs all = tt
+rows_told P (n ∷ ns) xs all =
+    (zip_front P n.now.contents (contents_of ns) xs all, rows_told P ns (drop (length n.now.contents) xs) (zip_back P n.now.contents (contents_of ns) xs all))
 
 -- what the numbers of all names tell
 module _ (number : List ℕ → Option ℕ) where
@@ -105,3 +370,21 @@ module _ (number : List ℕ → Option ℕ) where
   declared_known [] (d ∷ ds) all = absurd all
   declared_known (n ∷ ns) [] all = absurd all
   declared_known (n ∷ ns) (d ∷ ds) all = (numbers_known n.now.contents d all.0, declared_known ns ds all.1)
+
+-- the numbers of sorted entries' names, in rows, are a naming
+pub naming_made : (ns : List (Bor Interface)) (old new : List Entry) (numbers : List ℕ) (declared : List (List ℕ)) (bound : ℕ) → AreEntries (contents_of ns) old
+    → IsPermutation old new → IsSorted entry_cmp new → length numbers ≡ length new → AreNumbered new (length new) numbers → declared ≡ rows_of ns numbers → bound ≡ length new
+    → IsNaming (map (λ n. n.now) ns) declared bound
+naming_made ns old new numbers declared bound are moved sorted long written rows size =
+    let ordered = sorted_entries (contents_of ns) old new are moved sorted in
+    let number : List ℕ → Option ℕ = number_in new in
+    let all : AllZip (λ (n : Bor Interface) xs. AllZip (λ (c : Content) x. number c.name ≡ Some x) n.now.contents xs) ns declared =
+    subst (AllZip (λ (n : Bor Interface) xs. AllZip (λ (c : Content) x. number c.name ≡ Some x) n.now.contents xs) ns) (sym rows)
+    (rows_told (λ (c : Content) x. number c.name ≡ Some x) ns numbers (all_numbered (contents_of ns) old new numbers are moved long written)) in
+    record {
+      number = number;
+      numbers = declared_read number ns declared all;
+      each = declared_known number ns declared all;
+      apart = numbers_apart new (length new) ordered;
+      below = λ a x h. let low = numbers_below new (length new) ordered a x h in omega (arith, low, size);
+    }

@@ -1,11 +1,10 @@
 -- The numbers of interfaces, as they are given one by one.
-use Rattle.std.proofs.Common.{◌≡◌, ℕ, zero, suc, ◌+◌, List, [], ◌∷◌, ◌++◌, Bool, true, false, cond, length, Option, Some, None, refl, sym, ap, ◌∙◌, subst, true≢false, Ordering, Less, Equal, Greater, is_eq, arith}
+use Rattle.std.proofs.Common.{◌≡◌, ℕ, suc, ◌+◌, List, [], ◌∷◌, ◌++◌, Bool, true, false, cond, length, Option, Some, None, refl, sym, ap, ◌∙◌, true≢false, Ordering, Less, Equal, Greater, is_eq, arith}
 use Rattle.std.specs.List.{position_from}
-use Rattle.std.specs.Option.{option_or, is_some}
+use Rattle.std.specs.Option.{option_or, is_some, unwrap_or}
 use Rattle.std.specs.Ordering.{nat_cmp, ordering_reverse}
 use Rattle.std.specs.Cmp.Lexicographic.{slice_cmp}
 use Rattle.std.specs.Map.{lookup}
-use Rattle.std.specs.BTreeMap.{is_at}
 use Rattle.std.proofs.lemmas.Cmp.{nat_list_cmp_total}
 use Rattle.std.proofs.lemmas.Map.Lookups.{exact_bytes}
 use Rattle.dtmi_name.specs.Grammar.{Identifier, dtmi_text, id_cmp}
@@ -28,17 +27,6 @@ or_none : (o : Option ℕ) → o ≡ option_or o None
 or_none None = refl
 or_none (Some n) = refl
 
-or_some : (o p : Option ℕ) (n : ℕ) → o ≡ Some n → o ≡ option_or o p
-or_some o p n e = e ∙ ap (λ x. option_or x p) (sym e)
-
--- where there is a number, it stays
-pub number_stays : (id : Identifier) (number n : ℕ) (es : List (Identifier × ℕ)) → kept_at id es ≡ Some n → (q : Identifier) → kept_at q es ≡ option_or (kept_at q es) (number_for id number q)
-number_stays id number n es there q =
-    elim (is_eq (id_cmp q id)) as (λ b. is_eq (id_cmp q id) ≡ b → kept_at q es ≡ option_or (kept_at q es) (cond b (Some number) None)) [
-      | true ↦ λ e. or_some (kept_at q es) (Some number) n (one_kept q id es e ∙ there)
-      | false ↦ λ e. or_none (kept_at q es)
-    ] refl
-
 turned : (o : Ordering) → is_eq (ordering_reverse o) ≡ is_eq o
 turned Less = refl
 turned Equal = refl
@@ -48,15 +36,19 @@ turned Greater = refl
 both_ways : (q id : Identifier) → is_eq (id_cmp id q) ≡ is_eq (id_cmp q id)
 both_ways q id = ap is_eq (nat_list_cmp_total.antisymm (dtmi_text id) (dtmi_text q)) ∙ turned (id_cmp q id)
 
--- where there is none, the new one is put
-pub number_put : (id : Identifier) (number : ℕ) (es fs : List (Identifier × ℕ)) → kept_at id es ≡ None
-    → ((q : Identifier) → kept_at q fs ≡ cond (is_eq (id_cmp id q)) (Some number) (kept_at q es))
+or_number : (o : Option ℕ) (n : ℕ) → Some (unwrap_or o n) ≡ option_or o (Some n)
+or_number None n = refl
+or_number (Some m) n = refl
+
+-- where an identifier gets its own number again, or a new one where it has none, others keep theirs
+pub number_entered : (id : Identifier) (number w : ℕ) (es fs : List (Identifier × ℕ)) → w ≡ unwrap_or (kept_at id es) number
+    → ((q : Identifier) → kept_at q fs ≡ cond (is_eq (id_cmp id q)) (Some w) (kept_at q es))
     → (q : Identifier) → kept_at q fs ≡ option_or (kept_at q es) (number_for id number q)
-number_put id number es fs none put q =
+number_entered id number w es fs is put q =
     put q
-    ∙ ap (λ b. cond b (Some number) (kept_at q es)) (both_ways q id)
-    ∙ elim (is_eq (id_cmp q id)) as (λ b. is_eq (id_cmp q id) ≡ b → cond b (Some number) (kept_at q es) ≡ option_or (kept_at q es) (cond b (Some number) None)) [
-      | true ↦ λ e. ap (λ o. option_or o (Some number)) (sym (one_kept q id es e ∙ none))
+    ∙ ap (λ b. cond b (Some w) (kept_at q es)) (both_ways q id)
+    ∙ elim (is_eq (id_cmp q id)) as (λ b. is_eq (id_cmp q id) ≡ b → cond b (Some w) (kept_at q es) ≡ option_or (kept_at q es) (cond b (Some number) None)) [
+      | true ↦ λ e. ap Some is ∙ or_number (kept_at id es) number ∙ ap (λ o. option_or o (Some number)) (sym (one_kept q id es e))
       | false ↦ λ e. or_none (kept_at q es)
     ] refl
 

@@ -155,10 +155,7 @@ fn enter(
 ) -> Result<(), OutOfMemory>
     ensures { OnOk result ((q : Identifier) → kept_at q numbers.new.entries ≡ option_or (kept_at q numbers.old.entries) (number_for id.now number q)) }
 {
-    if numbers.contains_key(id) {
-        return Ok(());
-    }
     let key = id.copy(alloc)?;
-    numbers.insert(key, number)?;
+    numbers.entry(key)?.or_insert(number);
     Ok(())
 }

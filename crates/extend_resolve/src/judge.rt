@@ -2,9 +2,10 @@
 
 ghost use Rattle.std.specs.Prelude.{◌≡◌, ◌<◌, ◌+◌, ◌↔◌, ℕ, map, length, slice_get, get_or, nat_eq, min, false, true, None, IfOk, OnOk};
 ghost use Rattle.std.specs.List.{AllByRecursion, IsDistinct, list_any};
+ghost use Rattle.dtmi_name.specs.Grammar.{Identifier};
 ghost use Rattle.dtdl_terms.specs.Sets.{interface_at};
 ghost use Rattle.dtdl_terms.specs.declared.spot.Spot.TheVariants as spots;
-ghost use Rattle.extend_resolve.specs.SetRules.{NamesComponent};
+ghost use Rattle.extend_resolve.specs.SetRules.{NamesParent, NamesComponent};
 ghost use Rattle.extend_resolve.specs.Machinery.Links.{IsIn, links_at, Arrives, AreClear};
 ghost use Rattle.std.specs.Option.{option_copied};
 ghost use Rattle.extend_resolve.specs.Machinery.Gathering.{component_id};
@@ -112,10 +113,11 @@ impl<'a> Judge<'a> {
         ensures least { IfOk result (λ o. IsLeast uploaded.now (Broken self.now index uploaded.now) o) }
     {
         let ancestors = self.reach(scratch.marks.as_mut_slice(), index)?;
-        let whole = self.judge_whole(index, uploaded, ancestors.as_slice());
-        let id = self.judge_id(index, uploaded);
-        let chain = self.judge_chain(index, uploaded, ancestors.as_slice());
-        let parents = self.judge_parents(scratch, index, uploaded)?;
+        let number = self.world.number(&uploaded.interface.id);
+        let whole = self.judge_whole(index, uploaded, number, ancestors.as_slice());
+        let id = self.judge_id(index, uploaded, number);
+        let chain = self.judge_chain(index, uploaded, number, ancestors.as_slice());
+        let parents = self.judge_parents(scratch, index, uploaded, number)?;
         let contents = self.judge_contents(scratch, index, uploaded)?;
         let below = earlier(uploaded, parents, contents);
         let own = earlier(uploaded, id, chain);
@@ -136,12 +138,18 @@ impl<'a> Judge<'a> {
     }
 
     /// Judges how many contents the interface and its ancestors declare.
-    fn judge_whole(&self, index: usize, uploaded: &Uploaded, ancestors: &[usize]) -> Option<Found>
+    fn judge_whole(
+        &self,
+        index: usize,
+        uploaded: &Uploaded,
+        own: Option<usize>,
+        ancestors: &[usize],
+    ) -> Option<Found>
         requires judging { IsJudging self.now index uploaded.now }
+        requires own { own ≡ kept_at uploaded.now.interface.id self.now.world.numbers.entries }
         requires behind { AreBehind self.now.world.links.items index ancestors.now }
         ensures { IsLeast uploaded.now (AtSpot (Broken self.now index uploaded.now) spots.Whole) result }
     {
-        let own = self.world.number(&uploaded.interface.id);
         let others = self.count_contents(ancestors, index, own);
         let total = others.saturating_add(uploaded.interface.contents.len());
         found_where(total > MOST_CONTENTS, SetRule::TooManyResolved, Spot::Whole)
@@ -162,21 +170,27 @@ impl<'a> Judge<'a> {
     }
 
     /// Judges whether an earlier interface has the identifier.
-    fn judge_id(&self, index: usize, uploaded: &Uploaded) -> Option<Found>
-        requires { IsJudging self.now index uploaded.now }
+    fn judge_id(&self, index: usize, uploaded: &Uploaded, own: Option<usize>) -> Option<Found>
+        requires judging { IsJudging self.now index uploaded.now }
+        requires own { own ≡ kept_at uploaded.now.interface.id self.now.world.numbers.entries }
         ensures { IsLeast uploaded.now (AtSpot (Broken self.now index uploaded.now) spots.Id) result }
     {
-        let repeated = is_other(index, self.world.number(&uploaded.interface.id));
-        found_where(repeated, SetRule::RepeatedId, Spot::Id)
+        found_where(is_other(index, own), SetRule::RepeatedId, Spot::Id)
     }
 
     /// Judges how long the chains are that begin with the interface. Where a cycle is reached they are not judged.
-    fn judge_chain(&self, index: usize, uploaded: &Uploaded, ancestors: &[usize]) -> Option<Found>
+    fn judge_chain(
+        &self,
+        index: usize,
+        uploaded: &Uploaded,
+        own: Option<usize>,
+        ancestors: &[usize],
+    ) -> Option<Found>
         requires judging { IsJudging self.now index uploaded.now }
+        requires own { own ≡ kept_at uploaded.now.interface.id self.now.world.numbers.entries }
         requires behind { AreBehind self.now.world.links.items index ancestors.now }
         ensures { IsLeast uploaded.now (AtSpot (Broken self.now index uploaded.now) spots.Parents) result }
     {
-        let own = self.world.number(&uploaded.interface.id);
         let long = is_long(self.depths[index], index, own, ancestors);
         found_where(long, SetRule::LongChain, Spot::Parents)
     }
@@ -187,8 +201,10 @@ impl<'a> Judge<'a> {
         scratch: &mut Scratch,
         index: usize,
         uploaded: &Uploaded,
+        own: Option<usize>,
     ) -> Result<Option<Found>, OutOfMemory>
         requires judging { IsJudging self.now index uploaded.now }
+        requires own { own ≡ kept_at uploaded.now.interface.id self.now.world.numbers.entries }
         requires ready { IsReady self.now scratch.old index }
         ensures ready { OnOk result (IsReady self.now scratch.new (index + 1)) }
         ensures least { IfOk result (λ o. IsLeast uploaded.now (OfParents (Broken self.now index uploaded.now) (length uploaded.now.interface.parents)) o) }
@@ -198,7 +214,7 @@ impl<'a> Judge<'a> {
             scratch.owners.as_mut_slice(),
             index,
             self.names.declared[index].as_slice(),
-            self.world.number(&uploaded.interface.id).unwrap_or(index),
+            own.unwrap_or(index),
         );
         'parents: for at in 0..uploaded.interface.parents.len() {
             let found = self.judge_parent(
@@ -206,6 +222,7 @@ impl<'a> Judge<'a> {
                 scratch.owners.as_mut_slice(),
                 index,
                 uploaded,
+                own,
                 at,
             )?;
             first = earlier(uploaded, first, found);
@@ -220,9 +237,11 @@ impl<'a> Judge<'a> {
         owners: &mut [Owner],
         index: usize,
         uploaded: &Uploaded,
+        own: Option<usize>,
         at: usize,
     ) -> Result<Option<Found>, OutOfMemory>
         requires judging { IsJudging self.now index uploaded.now }
+        requires own { own ≡ kept_at uploaded.now.interface.id self.now.world.numbers.entries }
         requires bound { length marks.old ≡ length self.now.world.links.items }
         requires clear { AreClear marks.old }
         requires names { length owners.old ≡ self.now.names.bound }
@@ -234,16 +253,31 @@ impl<'a> Judge<'a> {
         ensures fresh { OnOk result (AreFresh owners.new (index + 1) (length self.now.new.now)) }
         ensures least { IfOk result (λ o. IsLeast uploaded.now (AtSpot (Broken self.now index uploaded.now) (spots.Parent at)) o) }
     {
-        let parents = uploaded.interface.parents.as_slice();
-        let Some(parent) = self.world.number(&parents[at]) else {
+        let count = uploaded.interface.parents.len();
+        let Some(parent) = self.parent_number(index, uploaded, at) else {
             return Ok(found_where(true, SetRule::AbsentReference, Spot::Parent(at as u64)));
         };
         let reached = self.reach(marks, parent)?;
-        let found = self.judge_reached(owners, index, uploaded, at, reached.as_slice());
-        if at + 1 < parents.len() {
+        let found = self.judge_reached(owners, index, uploaded, own, at, reached.as_slice());
+        if at + 1 < count {
             self.add_owners(owners, index, reached.as_slice());
         }
         Ok(found)
+    }
+
+    /// The number of the parent at a position. Where no parent is absent, it is the link at the position.
+    fn parent_number(&self, index: usize, uploaded: &Uploaded, at: usize) -> Option<usize>
+        requires judging { IsJudging self.now index uploaded.now }
+        requires at { at < length uploaded.now.interface.parents }
+        ensures { (p : Identifier) → NamesParent uploaded.now.interface at p → result ≡ kept_at p self.now.world.numbers.entries }
+    {
+        let parents = uploaded.interface.parents.as_slice();
+        let links = self.world.links[index].as_slice();
+        if links.len() == parents.len() {
+            Some(links[at])
+        } else {
+            self.world.number(&parents[at])
+        }
     }
 
     /// Judges what the parent at a position leads to.
@@ -252,17 +286,19 @@ impl<'a> Judge<'a> {
         owners: &[Owner],
         index: usize,
         uploaded: &Uploaded,
+        own: Option<usize>,
         at: usize,
         reached: &[usize],
     ) -> Option<Found>
         requires judging { IsJudging self.now index uploaded.now }
+        requires own { own ≡ kept_at uploaded.now.interface.id self.now.world.numbers.entries }
         requires names { length owners.now ≡ self.now.names.bound }
         requires owned { KnowsOwners self.now owners.now index uploaded.now at }
         requires reached { IsReached self.now.world.numbers.entries self.now.world.links.items uploaded.now.interface at reached.now }
         ensures { IsLeast uploaded.now (AtSpot (Broken self.now index uploaded.now) (spots.Parent at)) result }
     {
         let spot = Spot::Parent(at as u64);
-        if is_among(reached, self.world.number(&uploaded.interface.id)) {
+        if is_among(reached, own) {
             return Some(Found {
                 spot,
                 rule: SetRule::Cycle,
@@ -310,7 +346,7 @@ impl<'a> Judge<'a> {
         }
     }
 
-    /// Judges the contents one by one.
+    /// Judges the contents one by one. Only components break rules, so where there is none they are not gone over.
     fn judge_contents(
         &self,
         scratch: &mut Scratch,
@@ -322,6 +358,9 @@ impl<'a> Judge<'a> {
         ensures ready { OnOk result (IsReady self.now scratch.new (index + 1)) }
         ensures least { IfOk result (λ o. IsLeast uploaded.now (OfContents (Broken self.now index uploaded.now) (length uploaded.now.interface.contents)) o) }
     {
+        if !self.world.composed[index] {
+            return Ok(None);
+        }
         let mut first = None;
         let contents = uploaded.interface.contents.as_slice();
         'contents: for at in 0..contents.len() {

@@ -1,11 +1,12 @@
 -- The names of contents by numbers.
-use Rattle.std.specs.Prelude.{◌≡◌, ◌<◌, ◌*◌, ◌^◌, ◌%◌, ℕ, List, Option, Some, length, map, take, IsSome}
+use Rattle.std.specs.Prelude.{◌≡◌, ◌-◌, ◌<◌, ◌*◌, ◌^◌, ◌%◌, ◌++◌, [], ◌∷◌, ℕ, List, Option, Some, None, length, map, take, drop, IsSome, cond, slice_get}
 use Rattle.std.specs.Borrow.{Bor}
 use Rattle.std.specs.Int.Bits.{bit_or}
 use Rattle.std.specs.Ordering.{nat_cmp, is_eq, ordering_then}
+use Rattle.std.specs.declared.cmp.Ordering.{Ordering}
 use Rattle.std.specs.Cmp.Lexicographic.{slice_cmp}
-use Rattle.std.specs.List.{AllByRecursion, AllZip, filter_map, fold}
-use Rattle.std.specs.Map.{lookup}
+use Rattle.std.specs.List.{AllByRecursion, filter_map, fold, flat_map}
+use Rattle.std.specs.List.Sorted.{IsSorted}
 use Rattle.dtdl_terms.specs.declared.content.Content.{Content}
 use Rattle.dtdl_terms.specs.declared.interface.Interface.{Interface}
 
@@ -25,22 +26,57 @@ then_byte number byte = bit_or ((number * 2 ^ 8) % 2 ^ 64) byte
 unfoldable pub first_bytes : List ℕ → ℕ
 first_bytes name = fold then_byte 0 (take 8 name)
 
--- the number that is kept under this key
-abbrev pub kept_under : ℕ → List ℕ → List ((ℕ × Bor (List ℕ)) × ℕ) → Option ℕ
-kept_under first name known = lookup (λ k. is_eq (ordering_then (nat_cmp first k.0) (slice_cmp nat_cmp name k.1.now))) known
+-- the contents of all interfaces in one list
+abbrev pub contents_of : List (Bor Interface) → List Content
+contents_of nodes = flat_map (λ n. n.now.contents) nodes
 
--- the number that is kept under a name
-abbrev pub named_at : List ℕ → List ((ℕ × Bor (List ℕ)) × ℕ) → Option ℕ
-named_at name known = kept_under (first_bytes name) name known
+-- what is sorted of a content: the first bytes of its name, its name, and where it stands in the list of all contents
+abbrev pub Entry : Type 0
+Entry = ℕ × Bor (List ℕ) × ℕ
 
-pub record AreApart (known : List ((ℕ × Bor (List ℕ)) × ℕ)) : Type 0 where
-  pub apart : (a b : List ℕ) (x : ℕ) → named_at a known ≡ Some x → named_at b known ≡ Some x → a ≡ b
-  pub below : (a : List ℕ) (x : ℕ) → named_at a known ≡ Some x → x < length known
+-- an entry tells of the content at its place
+pub record Tells (contents : List Content) (e : Entry) : Type 0 where
+  pub content : Content
+  pub placed : slice_get contents e.2 ≡ Some content
+  pub name : e.1.now ≡ content.name
+  pub first : e.0 ≡ first_bytes content.name
 
--- each name that has a number keeps it
-abbrev pub KeepsNumbers : List ((ℕ × Bor (List ℕ)) × ℕ) → List ((ℕ × Bor (List ℕ)) × ℕ) → Type 0
-KeepsNumbers old new = (name : List ℕ) (x : ℕ) → named_at name old ≡ Some x → named_at name new ≡ Some x
+-- these are the entries of the contents, each at the place that it tells
+pub record AreEntries (contents : List Content) (entries : List Entry) : Type 0 where
+  pub size : length entries ≡ length contents
+  pub each : (k : ℕ) (e : Entry) → slice_get entries k ≡ Some e → Tells contents e
+  pub places : (k : ℕ) (e : Entry) → slice_get entries k ≡ Some e → e.2 ≡ k
 
--- these are the numbers of the contents' names
-abbrev pub AreNumbers : List ((ℕ × Bor (List ℕ)) × ℕ) → List Content → List ℕ → Type 0
-AreNumbers known contents numbers = AllZip (λ c x. named_at c.name known ≡ Some x) contents numbers
+-- the entries of these contents stand behind those that were there
+abbrev pub AddsEntries : List Entry → List Entry → List Content → Type 0
+AddsEntries old new contents = (before : List Content) → AreEntries before old → AreEntries (before ++ contents) new
+
+-- the order of entries
+abbrev pub entry_cmp : Entry → Entry → Ordering
+entry_cmp d e = ordering_then (ordering_then (nat_cmp d.0 e.0) (slice_cmp nat_cmp d.1.now e.1.now)) (nat_cmp d.2 e.2)
+
+-- entries in their order, with places among so many contents
+pub record AreOrdered (entries : List Entry) (size : ℕ) : Type 0 where
+  pub contents : List Content
+  pub count : length contents ≡ size
+  pub each : (k : ℕ) (e : Entry) → slice_get entries k ≡ Some e → Tells contents e
+  pub sorted : IsSorted entry_cmp entries
+
+-- the number of a name: the place of the first entry that has it
+abbrev pub number_in : List Entry → List ℕ → Option ℕ
+number_in [] name = None
+number_in (e ∷ es) name = cond (is_eq (slice_cmp nat_cmp e.1.now name)) (Some e.2) (number_in es name)
+
+-- the entry at an index has the name of the one before
+pub record Repeats (entries : List Entry) (index : ℕ) : Type 0 where
+  pub behind : 0 < index
+  pub same : (d e : Entry) → slice_get entries (index - 1) ≡ Some d → slice_get entries index ≡ Some e → (d.0 ≡ e.0) × (d.1.now ≡ e.1.now)
+
+-- the numbers stand at the places of these first entries
+abbrev pub AreNumbered : List Entry → ℕ → List ℕ → Type 0
+AreNumbered entries count numbers = (k x : ℕ) (e : Entry) → k < count → slice_get entries k ≡ Some e → slice_get numbers e.2 ≡ Some x → number_in entries e.1.now ≡ Some x
+
+-- the numbers of each interface's contents, out of those of all contents
+abbrev pub rows_of : List (Bor Interface) → List ℕ → List (List ℕ)
+rows_of [] numbers = []
+rows_of (n ∷ ns) numbers = take (length n.now.contents) numbers ∷ rows_of ns (drop (length n.now.contents) numbers)

@@ -1,16 +1,30 @@
-use Rattle.std.proofs.Common.{◌≡◌, ◌<◌, ◌+◌, length, inl, inr, refl, sym, ap, ◌∙◌, subst, arith}
+use Rattle.std.proofs.Common.{◌≡◌, ◌<◌, ◌+◌, false, length, sym, ap, ◌∙◌, subst, arith}
 use Rattle.dtdl_terms.specs.TermViews.{kind_term}
-use Rattle.dtdl_terms.specs.declared.content.Content.{Content}
 use Rattle.dtdl_terms.specs.declared.spot.Spot.TheVariants as spots
 use Rattle.extend_resolve.specs.Machinery.Firsts.{IsLeast, AtSpot}
 use Rattle.extend_resolve.specs.Machinery.Judges.{Broken, OfContents, IsReady}
 use Rattle.std.specs.Option.{option_copied}
 use Rattle.extend_resolve.proofs.Gathered.{component_of}
-use Rattle.extend_resolve.proofs.Members.{read_named}
+use Rattle.extend_resolve.proofs.Members.{read_named, read_at, read_placed}
 use Rattle.extend_resolve.proofs.Firsts.{earlier_least, least_weaker, contents_more, contents_less}
-use Rattle.extend_resolve.proofs.Judging.{contents_skip, no_id}
+use Rattle.extend_resolve.proofs.Judging.{index_below, composed_nodes, contents_none, contents_skip, no_id}
 use Rattle.extend_resolve.proofs.judge.Judge.judge_contents.Goals as goal
 use Rattle.extend_resolve.proofs.judge.Judge.judge_contents.Goals.{in-Some+in_ok-found, in_default}
+
+pub index-requires : goal.index-requires
+index-requires c =
+    let low = index_below c.args.self.now c.args.index c.args.uploaded.now c.requires.judging in
+    let same = composed_nodes c.args.self.now c.requires.judging.judge in
+    let ok = c.args.self.now.world.composed.ok in
+    omega (arith, low, same, ok)
+
+pub returns-then-not-index-clause-least : goal.returns-then-not-index-clause-least
+returns-then-not-index-clause-least c =
+    let j = c.args.self.now in
+    let low : c.args.index < length j.world.composed.items =
+    subst (λ n. c.args.index < n) (sym (composed_nodes j c.requires.judging.judge)) (index_below j c.args.index c.args.uploaded.now c.requires.judging) in
+    contents_none j c.args.index c.args.uploaded.now c.requires.judging
+    (read_at j.world.composed.items _ false c.args.index (read_placed j.world.composed.items c.args.index c.index.result.now low) ∙ sym c.index.ensures ∙ c.if-not-index.true)
 
 pub judge_component-requires-clause-component : goal.judge_component-requires-clause-component
 judge_component-requires-clause-component c =

@@ -5,5 +5,5 @@ use Rattle.extend_resolve.proofs.judge.Judge.judge_id.Goals as goal
 
 pub returns : goal.returns
 returns c =
-    id_least c.args.self.now c.args.index c.args.uploaded.now c.requires c.is_other-repeated.result c.found_where.result
-    (c.is_other-repeated.ensures ∙ ap (is_other_than c.args.index) c.number.ensures) c.found_where.ensures
+    id_least c.args.self.now c.args.index c.args.uploaded.now c.requires.judging c.is_other.result c.found_where.result
+    (c.is_other.ensures ∙ ap (is_other_than c.args.index) c.requires.own) c.found_where.ensures

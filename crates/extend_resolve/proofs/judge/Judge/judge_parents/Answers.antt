@@ -1,14 +1,13 @@
-use Rattle.std.proofs.Common.{◌≡◌, ◌<◌, ◌+◌, length, get_or, None, inl, inr, refl, sym, ap, ◌∙◌, subst, arith}
-use Rattle.std.specs.List.{AllByRecursion}
+use Rattle.std.proofs.Common.{◌≡◌, ◌+◌, length, sym, ap, ◌∙◌, subst, arith}
 use Rattle.dtdl_terms.specs.declared.spot.Spot.TheVariants as spots
 use Rattle.extend_resolve.specs.Machinery.Firsts.{IsLeast, AtSpot}
 use Rattle.extend_resolve.specs.Machinery.Links.{links_at}
-use Rattle.extend_resolve.specs.Machinery.Owners.{AreFresh, add_names}
-use Rattle.extend_resolve.specs.Machinery.Judges.{Broken, OfParents, IsReady, KnowsOwners}
+use Rattle.extend_resolve.specs.Machinery.Owners.{AreFresh}
+use Rattle.extend_resolve.specs.Machinery.Judges.{Broken, OfParents, KnowsOwners}
 use Rattle.extend_resolve.proofs.Members.{read_links}
 use Rattle.extend_resolve.proofs.Owning.{names_length, fresh_names, later_fresh}
 use Rattle.extend_resolve.proofs.Firsts.{earlier_least, least_weaker, parents_more, parents_less}
-use Rattle.extend_resolve.proofs.Judging.{index_below, declared_nodes, declared_below, own_names_below, owned_first, own_kept, ready_owners, ready_with, owned_with}
+use Rattle.extend_resolve.proofs.Judging.{declared_below, own_names_below, owned_first, own_kept, ready_owners, ready_with, owned_with}
 use Rattle.extend_resolve.proofs.judge.Judge.judge_parents.Goals as goal
 
 pub index-requires : goal.index-requires
@@ -42,7 +41,7 @@ parents-init c =
       owned = λ low. owned_with j c.args.scratch.now c.args.index 0 u c.add.new.owners same
           (subst (λ os. KnowsOwners j os c.args.index u 0) (sym c.add.ensures)
           (owned_first j c.args.index u c.requires.judging c.as_mut_slice.result.now c.unwrap_or.result c.as_slice.result.now
-          (own_kept j c.args.index u c.requires.judging c.unwrap_or.result c.number.result c.number.ensures c.unwrap_or.ensures) names size fresh));
+          (own_kept j c.args.index u c.requires.judging c.unwrap_or.result c.args.own c.requires.own c.unwrap_or.ensures) names size fresh));
       least = λ r s h. absurd (omega (arith, h.1));
     }
 

@@ -1,41 +1,31 @@
-use Rattle.std.proofs.Common.{◌≡◌, ℕ, ◌+◌, ◌<◌, ◌∙◌, List, Option, Bor, Some, take, sym, ap, subst, arith}
-use Rattle.std.specs.List.{AllZip}
-use Rattle.std.proofs.lemmas.List.{take_all}
-use Rattle.dtdl_terms.specs.declared.content.Content.{Content}
-use Rattle.dtdl_terms.specs.declared.interface.Interface.{Interface}
-use Rattle.extend_resolve.specs.Machinery.Names.{named_at, AreNumbers}
-use Rattle.extend_resolve.proofs.Members.{read_placed, zip_weaker, zip_take_more}
-use Rattle.extend_resolve.proofs.Naming.{declared_read, declared_known}
+use Rattle.std.proofs.Common.{◌≡◌, ◌∙◌, length, drop, sym, subst, arith}
+use Rattle.std.specs.List.Sorted.{IsPermutation}
+use Rattle.extend_resolve.specs.Machinery.Names.{contents_of, AreOrdered, AreNumbered, rows_of}
+use Rattle.extend_resolve.proofs.Naming.{naming_made, sorted_entries, written_back}
 use Rattle.extend_resolve.proofs.names.Names.new.Goals as goal
 
-pub nodes-preserved : goal.nodes-preserved
-nodes-preserved c =
-    let nodes = c.args.nodes.now in
-    let index = c.nodes.node-index in
-    let old = c.nodes.known.entries in
-    let now = c.numbers_of.new.known.entries in
-    let told = c.in_ok-numbers_of.ensures in
-    record {
-      apart = told.apart;
-      numbers = subst (AllZip (λ (n : Bor Interface) xs. AreNumbers now n.now.contents xs) (take (index + 1) nodes)) (sym {A = List (List ℕ)} c.in_ok-push.ensures.items)
-          (zip_take_more (λ (n : Bor Interface) xs. AreNumbers old n.now.contents xs) (λ (n : Bor Interface) xs. AreNumbers now n.now.contents xs)
-          (λ n xs all. zip_weaker (λ (d : Content) y. named_at d.name old ≡ Some y) (λ (d : Content) y. named_at d.name now ≡ Some y) (λ d y h. told.kept d.name y h) n.now.contents xs all)
-          nodes c.nodes.declared.items index c.node-item.result c.in_ok-numbers_of.field-0
-          (read_placed nodes index c.node-item.result c.nodes-test.true ∙ ap Some (sym c.node-item.is))
-          c.nodes.invariant.numbers told.numbers);
-    }
+pub number_all-requires : goal.number_all-requires
+number_all-requires c =
+    let old = c.in_ok-entries.entries.items in
+    let new = c.sort_unstable.new.self in
+    let moved : IsPermutation old new = subst (λ es. IsPermutation es new) c.as_mut_slice.ensures.value c.sort_unstable.ensures.permutation in
+    let ordered = sorted_entries (contents_of c.args.nodes.now) old new c.in_ok-entries.ensures moved c.sort_unstable.ensures.sorted in
+    let size : c.in_ok-entries.entries.len ≡ length new = omega (arith, c.sort_unstable.ensures.len, c.as_mut_slice.ensures.len) in
+    let whole = c.as_slice.ensures.value ∙ written_back new (drop (length new) old) c.in_ok-entries.entries.len size in
+    let room : length new ≡ length c.as_mut_slice-2.result.now = omega (arith, size, c.in_ok-numbers.ensures.len, c.len-bound.ensures, c.as_mut_slice-2.ensures.len) in
+    subst (AreOrdered c.as_slice.result.now) room (subst (λ es. AreOrdered es (length new)) (sym whole) ordered)
 
 pub returns : goal.returns
 returns c =
-    let nodes = c.args.nodes.now in
-    let declared = c.nodes.declared.items in
-    let number : List ℕ → Option ℕ = λ q. named_at q c.nodes.known.entries in
-    let all : AllZip (λ (n : Bor Interface) xs. AreNumbers c.nodes.known.entries n.now.contents xs) nodes declared =
-    subst (λ ns. AllZip (λ (n : Bor Interface) xs. AreNumbers c.nodes.known.entries n.now.contents xs) ns declared) (take_all c.nodes.node-index nodes (omega (arith, c.nodes-test.false))) c.nodes.invariant.numbers in
-    record {
-      number = number;
-      numbers = declared_read number nodes declared all;
-      each = declared_known number nodes declared all;
-      apart = c.nodes.invariant.apart.apart;
-      below = λ a x h. subst (λ n. x < n) (sym c.len-bound.ensures.len) (c.nodes.invariant.apart.below a x h);
-    }
+    let old = c.in_ok-entries.entries.items in
+    let new = c.sort_unstable.new.self in
+    let numbers = c.number_all.new.numbers in
+    let moved : IsPermutation old new = subst (λ es. IsPermutation es new) c.as_mut_slice.ensures.value c.sort_unstable.ensures.permutation in
+    let size : c.in_ok-entries.entries.len ≡ length new = omega (arith, c.sort_unstable.ensures.len, c.as_mut_slice.ensures.len) in
+    let whole = c.as_slice.ensures.value ∙ written_back new (drop (length new) old) c.in_ok-entries.entries.len size in
+    let long : length numbers ≡ length new = omega (arith, size, c.in_ok-numbers.ensures.len, c.len-bound.ensures, c.as_mut_slice-2.ensures.len, c.number_all.auto.numbers) in
+    let bound : c.len-bound.result ≡ length new = c.len-bound.ensures ∙ size in
+    let capacity : c.in_ok-numbers.numbers.len ≡ length numbers = omega (arith, long, bound, c.in_ok-numbers.ensures.len) in
+    let read = c.as_slice-2.ensures.value ∙ written_back numbers (drop (length numbers) c.in_ok-numbers.numbers.items) c.in_ok-numbers.numbers.len capacity in
+    naming_made c.args.nodes.now old new numbers c.in_ok-declared.declared.items c.len-bound.result c.in_ok-entries.ensures moved c.sort_unstable.ensures.sorted long
+    (subst (λ es. AreNumbered es (length es) numbers) whole c.number_all.ensures) (subst (λ xs. c.in_ok-declared.declared.items ≡ rows_of c.args.nodes.now xs) read c.in_ok-declared.ensures) bound
