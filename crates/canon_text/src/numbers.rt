@@ -45,14 +45,14 @@ fn sized(negative: bool, size: u32) -> Decimal
 }
 
 /// The decimal of an integer.
-pub(crate) fn of_integer(number: i32) -> Decimal
+pub fn of_integer(number: i32) -> Decimal
     ensures { number_of result ≡ whole number }
 {
     sized(number < 0, number.unsigned_abs())
 }
 
 /// The decimal of a number that is not below zero.
-pub(crate) fn of_size(number: u32) -> Decimal
+pub fn of_size(number: u32) -> Decimal
     ensures { number_of result ≡ whole (pos number) }
 {
     sized(false, number)

@@ -73,7 +73,7 @@ fn canonical(alloc: Global, uploads: Vec<Uploaded>) -> Result<Answer, OutOfMemor
     ensures { IfOk result (λ answer. Prints Command.Canon (interfaces_of uploads.items) answer.status answer.line) }
 {
     let interfaces = without_places(alloc, uploads)?;
-    let line = canon_text::canon(alloc, &interfaces)?;
+    let line = canon_print::print_set(alloc, &interfaces)?;
     forget(interfaces);
     if line.len() > MAX_BYTES {
         return Ok(answer_with(

@@ -1,0 +1,4 @@
+-- Words of private clauses and of proofs: no public contract speaks of them.
+pub mod Bodies
+pub mod Lent
+pub mod Remarks

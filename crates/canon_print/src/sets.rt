@@ -1,0 +1,42 @@
+//! Sets of interfaces.
+
+ghost use Rattle.std.specs.Prelude.{◌≡◌, ◌++◌, map, string_bytes, IfOk, OnOk};
+ghost use Rattle.json_tree.specs.Values.{elements_of};
+ghost use Rattle.json_tree.specs.Printing.{printed_elements};
+ghost use Rattle.canon_text.specs.Canonical.{interface_value, set_text};
+
+use crate::heads::push_separator;
+use crate::interfaces::push_interface;
+use crate::sorting::in_order;
+use dt_base::{List, OutOfMemory};
+use dtdl_terms::Interface;
+use std::alloc::Global;
+
+/// Appends the canonical texts of interfaces, with commas between them, and the closing bracket.
+fn push_lent_interfaces(
+    alloc: Global,
+    out: &mut String,
+    interfaces: &[&Interface],
+) -> Result<(), OutOfMemory>
+    ensures { OnOk result (string_bytes out.new ≡ string_bytes out.old ++ printed_elements (elements_of (map (λ i. interface_value i.now) interfaces.now))) }
+{
+    for (position, interface) in interfaces.iter().enumerate() {
+        push_separator(out, position)?;
+        push_interface(alloc, out, interface)?;
+    }
+    out.push_str("]")?;
+    Ok(())
+}
+
+/// The canonical text of a set of interfaces, which `canon_text::canon` gives, without a tree. Fails only for want of
+/// memory.
+pub fn print_set(alloc: Global, interfaces: &[Interface]) -> Result<List<u8>, OutOfMemory>
+    ensures { IfOk result (λ bytes. bytes ≡ set_text interfaces.now) }
+{
+    let list = in_order(alloc, interfaces)?;
+    let mut out = String::new(alloc);
+    out.push_str("[")?;
+    push_lent_interfaces(alloc, &mut out, list.as_slice())?;
+    out.push_str("\n")?;
+    Ok(List::from_vec(out.into_bytes()))
+}
