@@ -51,7 +51,8 @@ impl Name {
         }
     }
 
-    /// The name with these bytes, which are one, so that they are not read again. It fails where there is no memory.
+    /// The name that a text is, where the caller knows that it is one, so that it is not read again. It fails where there
+    /// is no memory.
     pub fn of(alloc: Global, text: &str) -> Result<Name, AllocError>
         requires { NameText text.now }
         ensures { IfOk result (λ name. name ≡ text.now) }
