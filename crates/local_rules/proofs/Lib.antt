@@ -10,3 +10,5 @@ pub mod Among
 pub mod Keyed
 pub mod Named
 pub mod Typed
+pub mod Keys
+pub mod TypeRules

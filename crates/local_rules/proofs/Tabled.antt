@@ -15,5 +15,3 @@ found_behind test (y ∷ xs) ys e = elim (test y) as (λ b. cond b (Some y) (fin
   | true ↦ λ f. absurd cc
   | false ↦ λ f. found_behind test xs ys f
 ] e
-
-pub ruleset tabled = (found_before, found_behind)

@@ -1,9 +1,10 @@
 //! The rules on `@context` and `@type`.
 
-ghost use Rattle.std.specs.Prelude.{◌≡◌, ◌≢◌, ◌↔◌, [], ◌∷◌, length, map, IsTrue, MatchOption, Some};
+ghost use Rattle.std.specs.Prelude.{◌≡◌, ◌≢◌, ◌↔◌, [], ◌∷◌, length, map, IsTrue, MatchOption, None, Some};
 ghost use Rattle.json_tree.specs.View.{view};
 ghost use Rattle.local_rules.specs.Breaches.{BreaksAlone};
 ghost use Rattle.local_rules.specs.Machinery.Firsts.{IsFirstAmong, further_rules, has_semantic_type};
+ghost use Rattle.local_rules.specs.Roles.{type_in};
 ghost use Rattle.local_rules.specs.Types.{BadContext, BadSemanticType, BadType, MayHaveBeside, NamesNothing, further};
 
 use crate::role::{Element, Position, Role};
@@ -42,15 +43,14 @@ pub fn is_bad_context(tree: &Tree) -> bool
     }
 }
 
-/// Whether `@type` names no role, or in a payload or an enum entry is no name.
-fn is_bad_type(position: Position, tree: &Tree) -> bool
-    ensures { IsTrue result ↔ NamesNothing position (view tree.now) }
+/// Whether a value of `@type` that names no type of its position may not stand there: in a payload or an enum entry,
+/// any name may.
+fn is_bad_untyped(position: Position, tree: &Tree) -> bool
+    ensures { type_in position (view tree.now) ≡ None → (IsTrue result ↔ NamesNothing position (view tree.now)) }
 {
     match position {
         Position::Free => !is_name(tree),
-        Position::Interface | Position::Content | Position::Property | Position::Schema => {
-            type_in(position, tree).is_none()
-        }
+        Position::Interface | Position::Content | Position::Property | Position::Schema => true,
     }
 }
 
@@ -95,16 +95,13 @@ fn may_have_beside(element: Element, position: Position, entries: &[Tree]) -> bo
     }
 }
 
-/// Whether the list `@type` names a role and has further entries that it may not have.
+/// Whether a value of `@type` that names this element is a list with further entries that it may not have.
 #[tactic(auto, using(crate::proofs::Views::views))]
-fn is_bad_semantic_type(position: Position, tree: &Tree) -> bool
-    ensures { IsTrue result ↔ BadSemanticType (Role.Type position) (view tree.now) }
+fn has_bad_beside(element: Element, position: Position, tree: &Tree) -> bool
+    ensures { type_in position (view tree.now) ≡ Some element → (IsTrue result ↔ BadSemanticType (Role.Type position) (view tree.now)) }
 {
     match tree {
-        Tree::List(entries) => match type_in(position, tree) {
-            Some(element) => !may_have_beside(element, position, entries.as_slice()),
-            None => false,
-        },
+        Tree::List(entries) => !may_have_beside(element, position, entries.as_slice()),
         Tree::Null | Tree::Bool(_) | Tree::Number(_) | Tree::Text(_) | Tree::Members(_) => false,
     }
 }
@@ -113,8 +110,10 @@ fn is_bad_semantic_type(position: Position, tree: &Tree) -> bool
 pub fn type_rule(position: Position, tree: &Tree) -> Option<LocalRule>
     ensures { IsFirstAmong (λ broken. BreaksAlone broken (Role.Type position) (view tree.now)) (further_rules (Role.Type position)) result }
 {
-    if is_bad_type(position, tree) {
-        return Some(LocalRule::BadType);
+    match type_in(position, tree) {
+        Some(element) => has_bad_beside(element, position, tree).then_some(
+            LocalRule::BadSemanticType,
+        ),
+        None => is_bad_untyped(position, tree).then_some(LocalRule::BadType),
     }
-    is_bad_semantic_type(position, tree).then_some(LocalRule::BadSemanticType)
 }

@@ -1,21 +1,14 @@
-use Rattle.std.proofs.Common.{◌≡◌, inr, sym, subst}
+use Rattle.std.proofs.Common.{sym}
 use Rattle.json_tree.specs.View.{view}
-use Rattle.local_rules.specs.Breaches.{BreaksAlone}
-use Rattle.local_rules.specs.Types.{NamesNothing}
-use Rattle.local_rules.specs.declared.role.Position.{Position}
-use Rattle.local_rules.specs.declared.role.Role.TheVariants as role
-use Rattle.local_rules.specs.declared.rule.LocalRule.TheVariants as rule
-use Rattle.local_rules.proofs.Firsts.{first_one}
+use Rattle.local_rules.proofs.TypeRules.{typed_first, untyped_first}
 use Rattle.local_rules.proofs.types.type_rule.Goals as goal
 
-pub returns : goal.returns
-returns c =
-    let v = view c.args.tree.now in
-    inr (
-      λ (q, same, nothing).
-          let one : c.args.position ≡ q = cc in
-          let is = c.is_bad_type.ensures.1 (subst (λ (p : Position). NamesNothing p v) (sym one) nothing) in
-          let isnt = c.if-is_bad_type.false in
-          cc,
-      first_one (λ one. BreaksAlone one (role.Type c.args.position) v) rule.BadSemanticType c.is_bad_semantic_type.result c.then_some.result c.is_bad_semantic_type.ensures c.then_some.ensures,
-    )
+pub returns-in-Some : goal.returns-in-Some
+returns-in-Some c =
+    let typed = sym c.in-Some.ensures in
+    typed_first c.args.position (view c.args.tree.now) c.in-Some.element c.has_bad_beside.result c.then_some.result typed (c.has_bad_beside.ensures typed) c.then_some.ensures
+
+pub returns-in-None : goal.returns-in-None
+returns-in-None c =
+    let none = sym c.in-None.ensures in
+    untyped_first c.args.position (view c.args.tree.now) c.is_bad_untyped.result c.then_some-in-None.result none (c.is_bad_untyped.ensures none) c.then_some-in-None.ensures
