@@ -1,36 +1,43 @@
 //! Contents of interfaces, and properties of relationships.
 
-ghost use Rattle.std.specs.Prelude.{◌≡◌, ◌∷◌, [], Some, IfOk, codes};
+ghost use Rattle.std.specs.Prelude.{◌∷◌, [], Some, IfOk, OnOk, codes};
 ghost use Rattle.std.specs.List.{AllZip};
 ghost use Rattle.json_tree.specs.View.{view, members_view, elements_view};
 ghost use Rattle.local_rules.specs.Members.{list_of, value_at};
 ghost use Rattle.local_rules.specs.Roles.{type_of};
 ghost use Rattle.local_rules.specs.declared.role.Element.TheVariants as element;
 ghost use Rattle.local_rules.specs.declared.role.Position.TheVariants as position;
-ghost use Rattle.dtdl_terms.specs.TermViews.{kind_term, content_term, contents_term};
-ghost use Rattle.model_read.specs.Declarations.{AreKind, AreProperties, HasContents, IsContentEntry, type_of_kind};
+ghost use Rattle.dtdl_terms.specs.TermViews.{contents_term};
+ghost use Rattle.model_read.specs.Declarations.{AreProperties, HasContents, IsContentEntry};
+ghost use Rattle.model_read.specs.Machinery.Gains.{Gains, GainsKind};
 ghost use Rattle.model_read.specs.Machinery.Shapes.{EachIs, IsListOf, IsValidContent, IsValidProperty, KindShape, MayHave, RelationshipShape};
 
 use crate::common::common_of;
-use crate::kinds::{command_in, component_in, is_writable, max_at, property_in, telemetry_in};
+use crate::kinds::{
+    is_writable, max_at, push_command, push_component, push_property, push_telemetry,
+};
 use crate::parts::{entries_at, members_of};
 use crate::texts::{name_at, optional_id};
 use dt_base::{List, OutOfMemory};
-use dtdl_terms::{Content, ContentKind};
+use dtdl_terms::{Common, Content, ContentKind};
+use dtmi_name::Name;
 use json_tree::{Member, Tree};
 use local_rules::{Element, Position, type_of};
 use std::alloc::Global;
 
-/// The property of a relationship that a value declares.
-fn property_of(alloc: Global, tree: &Tree) -> Result<Content, OutOfMemory>
+/// Adds the property of a relationship that a value declares.
+fn push_property_of(
+    alloc: Global,
+    properties: &mut Vec<Content>,
+    tree: &Tree,
+) -> Result<(), OutOfMemory>
     requires { IsValidProperty (view tree.now) }
-    ensures { IfOk result (λ c. AreProperties (contents_term (c ∷ [])) (elements_view (tree.now ∷ []))) }
+    ensures { OnOk result (Gains (λ c. AreProperties (contents_term (c ∷ [])) (elements_view (tree.now ∷ []))) properties.old.items properties.new.items) }
 {
     let members = members_of(tree);
     let name = name_at(alloc, members, "name")?;
     let common = common_of(alloc, members)?;
-    let kind = property_in(alloc, Position::Property, members)?;
-    Ok(Content { name, common, kind })
+    push_property(alloc, properties, name, common, Position::Property, members)
 }
 
 /// The properties of a relationship.
@@ -40,56 +47,71 @@ fn properties_of(alloc: Global, trees: &[Tree]) -> Result<List<Content>, OutOfMe
 {
     let mut properties = Vec::with_capacity(alloc, trees.len())?;
     for tree in trees {
-        properties.push(property_of(alloc, tree)?)?;
+        push_property_of(alloc, &mut properties, tree)?;
     }
     Ok(List::from_vec(properties))
 }
 
-/// The relationship that members declare.
-fn relationship_in(alloc: Global, members: &[Member]) -> Result<ContentKind, OutOfMemory>
+/// Adds the relationship that members declare to contents; its name and what every element has were read before.
+fn push_relationship(
+    alloc: Global,
+    contents: &mut Vec<Content>,
+    name: Name,
+    common: Common,
+    members: &[Member],
+) -> Result<(), OutOfMemory>
     requires { RelationshipShape (members_view members.now) }
-    ensures kind { IfOk result (λ k. AreKind position.Content (kind_term k) (members_view members.now)) }
-    ensures named { IfOk result (λ k. type_of_kind (kind_term k) ≡ element.Relationship) }
+    ensures { OnOk result (GainsKind position.Content (Some element.Relationship) (members_view members.now) name common contents.old.items contents.new.items) }
 {
     let target = optional_id(alloc, members, "target")?;
     let entries = entries_at(members, "properties");
     let properties = properties_of(alloc, entries)?;
     let max = max_at(members);
     let writable = is_writable(members);
-    Ok(ContentKind::Relationship {
+    let kind = ContentKind::Relationship {
         target,
         properties,
         max,
         writable,
-    })
+    };
+    contents.push(Content { name, common, kind })?;
+    Ok(())
 }
 
-/// What a content with these members is.
-fn kind_in(alloc: Global, members: &[Member]) -> Result<ContentKind, OutOfMemory>
+/// Adds a content whose members say what it is; its name and what every element has were read before.
+///
+/// A content is made where it is added: it is large, and each function that hands one out copies it.
+fn push_kind(
+    alloc: Global,
+    contents: &mut Vec<Content>,
+    name: Name,
+    common: Common,
+    members: &[Member],
+) -> Result<(), OutOfMemory>
     requires { KindShape (type_of position.Content (members_view members.now)) (members_view members.now) }
-    ensures kind { IfOk result (λ k. AreKind position.Content (kind_term k) (members_view members.now)) }
-    ensures named { IfOk result (λ k. type_of position.Content (members_view members.now) ≡ Some (type_of_kind (kind_term k))) }
+    ensures { OnOk result (GainsKind position.Content (type_of position.Content (members_view members.now)) (members_view members.now) name common contents.old.items contents.new.items) }
 {
     match type_of(Position::Content, members) {
-        Some(Element::Telemetry) => telemetry_in(alloc, Position::Content, members),
-        Some(Element::Property) => property_in(alloc, Position::Content, members),
-        Some(Element::Command) => command_in(alloc, members),
-        Some(Element::Relationship) => relationship_in(alloc, members),
-        Some(Element::Component) => component_in(alloc, members),
+        Some(Element::Telemetry) => push_telemetry(alloc, contents, name, common, members),
+        Some(Element::Property) => {
+            push_property(alloc, contents, name, common, Position::Content, members)
+        }
+        Some(Element::Command) => push_command(alloc, contents, name, common, members),
+        Some(Element::Relationship) => push_relationship(alloc, contents, name, common, members),
+        Some(Element::Component) => push_component(alloc, contents, name, common, members),
         _ => unreachable!(),
     }
 }
 
-/// The content that a value declares.
-fn content_of(alloc: Global, tree: &Tree) -> Result<Content, OutOfMemory>
+/// Adds the content that a value declares.
+fn push_content(alloc: Global, contents: &mut Vec<Content>, tree: &Tree) -> Result<(), OutOfMemory>
     requires { IsValidContent (view tree.now) }
-    ensures { IfOk result (λ c. IsContentEntry (view tree.now) c) }
+    ensures { OnOk result (Gains (IsContentEntry (view tree.now)) contents.old.items contents.new.items) }
 {
     let members = members_of(tree);
     let name = name_at(alloc, members, "name")?;
     let common = common_of(alloc, members)?;
-    let kind = kind_in(alloc, members)?;
-    Ok(Content { name, common, kind })
+    push_kind(alloc, contents, name, common, members)
 }
 
 /// The contents that the entries of a list declare.
@@ -99,7 +121,7 @@ fn contents_of(alloc: Global, trees: &[Tree]) -> Result<List<Content>, OutOfMemo
 {
     let mut contents = Vec::with_capacity(alloc, trees.len())?;
     for tree in trees {
-        contents.push(content_of(alloc, tree)?)?;
+        push_content(alloc, &mut contents, tree)?;
     }
     Ok(List::from_vec(contents))
 }

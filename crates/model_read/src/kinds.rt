@@ -1,6 +1,6 @@
 //! The kinds of contents but relationships.
 
-ghost use Rattle.std.specs.Prelude.{◌≡◌, Some, IfOk, codes, pos};
+ghost use Rattle.std.specs.Prelude.{◌≡◌, Some, IfOk, OnOk, codes, pos};
 ghost use Rattle.json_decimal.specs.Decimals.{number_of};
 ghost use Rattle.json_decimal.specs.Comparing.{IsWhole};
 ghost use Rattle.json_tree.specs.View.{view, members_view};
@@ -8,16 +8,18 @@ ghost use Rattle.json_tree.specs.Values.{number, truth};
 ghost use Rattle.local_rules.specs.Members.{value_at};
 ghost use Rattle.local_rules.specs.declared.role.Element.TheVariants as element;
 ghost use Rattle.local_rules.specs.declared.role.Position.TheVariants as position;
-ghost use Rattle.dtdl_terms.specs.TermViews.{kind_term, payload_term};
+ghost use Rattle.dtdl_terms.specs.TermViews.{payload_term};
 ghost use Rattle.std.specs.Option.{option_map};
-ghost use Rattle.model_read.specs.Declarations.{AreKind, HasMax, HasOptionalPayload, IsWritable, type_of_kind};
+ghost use Rattle.model_read.specs.Declarations.{HasMax, HasOptionalPayload, IsWritable};
+ghost use Rattle.model_read.specs.Machinery.Gains.{GainsKind};
 ghost use Rattle.model_read.specs.Machinery.Shapes.{CanBeMultiplicity, CommandShape, ComponentShape, IsValidPayload, IsTruth, MayHave, PropertyShape, TelemetryShape};
 
 use crate::schemas::{payload_at, schema_at};
 use crate::semantics::semantic_at;
 use crate::texts::{id_at, optional_name};
 use dt_base::OutOfMemory;
-use dtdl_terms::{Boxed, ContentKind, Payload};
+use dtdl_terms::{Boxed, Common, Content, ContentKind, Payload};
+use dtmi_name::Name;
 use json_decimal::Decimal;
 use json_tree::{Member, Tree};
 use local_rules::{Position, value_at};
@@ -99,65 +101,86 @@ fn optional_payload(
     }
 }
 
-/// The telemetry that members declare.
-pub fn telemetry_in(
+/// Adds the telemetry that members declare to contents; its name and what every element has were read before.
+pub fn push_telemetry(
     alloc: Global,
-    position: Position,
+    contents: &mut Vec<Content>,
+    name: Name,
+    common: Common,
     members: &[Member],
-) -> Result<ContentKind, OutOfMemory>
-    requires { TelemetryShape position (members_view members.now) }
-    ensures kind { IfOk result (λ k. AreKind position (kind_term k) (members_view members.now)) }
-    ensures named { IfOk result (λ k. type_of_kind (kind_term k) ≡ element.Telemetry) }
+) -> Result<(), OutOfMemory>
+    requires { TelemetryShape position.Content (members_view members.now) }
+    ensures { OnOk result (GainsKind position.Content (Some element.Telemetry) (members_view members.now) name common contents.old.items contents.new.items) }
 {
     let schema = schema_at(alloc, members, "schema")?;
-    let semantic = semantic_at(alloc, position, members)?;
+    let semantic = semantic_at(alloc, Position::Content, members)?;
     let unit = optional_name(alloc, members, "unit")?;
-    Ok(ContentKind::Telemetry {
+    let kind = ContentKind::Telemetry {
         schema,
         semantic,
         unit,
-    })
+    };
+    contents.push(Content { name, common, kind })?;
+    Ok(())
 }
 
-/// The property that members declare.
-pub fn property_in(
+/// Adds the property that members declare to contents; its name and what every element has were read before.
+pub fn push_property(
     alloc: Global,
+    contents: &mut Vec<Content>,
+    name: Name,
+    common: Common,
     position: Position,
     members: &[Member],
-) -> Result<ContentKind, OutOfMemory>
+) -> Result<(), OutOfMemory>
     requires { PropertyShape position (members_view members.now) }
-    ensures kind { IfOk result (λ k. AreKind position (kind_term k) (members_view members.now)) }
-    ensures named { IfOk result (λ k. type_of_kind (kind_term k) ≡ element.Property) }
+    ensures { OnOk result (GainsKind position (Some element.Property) (members_view members.now) name common contents.old.items contents.new.items) }
 {
     let schema = schema_at(alloc, members, "schema")?;
     let semantic = semantic_at(alloc, position, members)?;
     let unit = optional_name(alloc, members, "unit")?;
     let writable = is_writable(members);
-    Ok(ContentKind::Property {
+    let kind = ContentKind::Property {
         schema,
         semantic,
         unit,
         writable,
-    })
+    };
+    contents.push(Content { name, common, kind })?;
+    Ok(())
 }
 
-/// The command that members declare.
-pub fn command_in(alloc: Global, members: &[Member]) -> Result<ContentKind, OutOfMemory>
+/// Adds the command that members declare to contents; its name and what every element has were read before.
+pub fn push_command(
+    alloc: Global,
+    contents: &mut Vec<Content>,
+    name: Name,
+    common: Common,
+    members: &[Member],
+) -> Result<(), OutOfMemory>
     requires { CommandShape (members_view members.now) }
-    ensures kind { IfOk result (λ k. AreKind position.Content (kind_term k) (members_view members.now)) }
-    ensures named { IfOk result (λ k. type_of_kind (kind_term k) ≡ element.Command) }
+    ensures { OnOk result (GainsKind position.Content (Some element.Command) (members_view members.now) name common contents.old.items contents.new.items) }
 {
     let request = optional_payload(alloc, members, "request")?;
     let response = optional_payload(alloc, members, "response")?;
-    Ok(ContentKind::Command { request, response })
+    let kind = ContentKind::Command { request, response };
+    contents.push(Content { name, common, kind })?;
+    Ok(())
 }
 
-/// The component that members declare.
-pub fn component_in(alloc: Global, members: &[Member]) -> Result<ContentKind, OutOfMemory>
+/// Adds the component that members declare to contents; its name and what every element has were read before.
+pub fn push_component(
+    alloc: Global,
+    contents: &mut Vec<Content>,
+    name: Name,
+    common: Common,
+    members: &[Member],
+) -> Result<(), OutOfMemory>
     requires { ComponentShape (members_view members.now) }
-    ensures kind { IfOk result (λ k. AreKind position.Content (kind_term k) (members_view members.now)) }
-    ensures named { IfOk result (λ k. type_of_kind (kind_term k) ≡ element.Component) }
+    ensures { OnOk result (GainsKind position.Content (Some element.Component) (members_view members.now) name common contents.old.items contents.new.items) }
 {
     let of = id_at(alloc, members, "schema")?;
-    Ok(ContentKind::Component { of })
+    let kind = ContentKind::Component { of };
+    contents.push(Content { name, common, kind })?;
+    Ok(())
 }

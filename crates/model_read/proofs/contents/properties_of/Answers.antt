@@ -10,9 +10,9 @@ use Rattle.model_read.proofs.Readings.{each}
 use Rattle.model_read.proofs.contents.properties_of.Goals as goal
 
 pub loop-tree-preserved : goal.loop-tree-preserved
-loop-tree-preserved c = rw c.in_ok-push.ensures.items
+loop-tree-preserved c = rw c.in_ok-push_property_of.ensures.items
     (step (λ (ys : List Tree) (xs : List Content). AreProperties (contents_term xs) (elements_view ys)) properties_more c.args.trees.now c.loop-tree.tree-index c.tree-item.result
-    c.loop-tree.properties.items c.in_ok-property_of.field-0 c.loop-tree-test.true c.tree-item.is c.loop-tree.invariant c.in_ok-property_of.ensures)
+    c.loop-tree.properties.items c.in_ok-push_property_of.ensures.one c.loop-tree-test.true c.tree-item.is c.loop-tree.invariant c.in_ok-push_property_of.ensures.is)
 
-pub property_of-requires : goal.property_of-requires
-property_of-requires c = each IsValidProperty c.args.trees.now c.loop-tree.tree-index c.tree-item.result c.requires c.loop-tree-test.true c.tree-item.is
+pub push_property_of-requires : goal.push_property_of-requires
+push_property_of-requires c = each IsValidProperty c.args.trees.now c.loop-tree.tree-index c.tree-item.result c.requires c.loop-tree-test.true c.tree-item.is
