@@ -26,6 +26,9 @@ use std::alloc::Global;
 /// How deep arrays and objects may nest; the outermost counts as 1.
 const MAX_DEPTH: usize = 64;
 
+/// How many members an object has room for at first. Few objects have more, and those with fewer are to waste little.
+const FIRST_MEMBERS: usize = 6;
+
 /// The value that was read, and the position behind it. Where a number in it is out of range, zero stands for that,
 /// and `range` has the way up from the first such one: its position in what it stands in, then that one's, and so on.
 #[derive(Drop)]
@@ -223,7 +226,7 @@ fn members_of(alloc: Global, bytes: &[u8], depth: usize, at: usize) -> Result<Fo
         (λ r. IsRead bytes.now (after (suc depth) k) r.tree (option_map (λ v. v.items) r.range) r.at)
         result (reading bytes.now (next_key depth k []) at) }
 {
-    let mut members = Vec::new(alloc);
+    let mut members = Vec::with_capacity(alloc, FIRST_MEMBERS)?;
     let mut range = None;
     let mut at = at;
     // Each round reads at least one byte.

@@ -341,6 +341,25 @@ pub fn text_of(alloc: Global, bytes: &[u8], at: usize) -> Result<(Text, usize), 
         (λ p o. o ≡ reading bytes.now (used u p.0 d k) p.1)
         result (reading bytes.now (in_text u [] d k) at) }
 {
+    // Most texts are plain up to that mark.
+    let end = plain_end(bytes, at);
+    if byte_at(bytes, end) == b'"' {
+        let run = run_of(bytes, at, end);
+        return Ok((Text::from_str(alloc, run)?, end + 1));
+    }
+    mixed_text_of(alloc, bytes, at)
+}
+
+/// The same of a text in which characters of several bytes or escapes may stand.
+#[inline(never)]
+fn mixed_text_of(alloc: Global, bytes: &[u8], at: usize) -> Result<(Text, usize), JsonFault>
+    requires { at ≤ length bytes.now }
+    ensures forward { IfOk result (λ p. at ≤ p.1) }
+    ensures within { IfOk result (λ p. p.1 ≤ length bytes.now) }
+    ensures read { (u : Use) (d : ℕ) (k : List Frame) → Leads bytes.now
+        (λ p o. o ≡ reading bytes.now (used u p.0 d k) p.1)
+        result (reading bytes.now (in_text u [] d k) at) }
+{
     let end = run_end(bytes, at)?;
     let run = run_of(bytes, at, end);
     if byte_at(bytes, end) == b'"' {

@@ -210,12 +210,12 @@ members_of-members-init t c = record {
   forward = omega arith;
   reached = omega arith;
   within = c.requires;
-  read = λ k. rw c.new-members.ensures.items (no_members_read c.args.bytes.now c.args.depth k c.args.at);
+  read = λ k. rw c.in_ok-members.ensures.items (no_members_read c.args.bytes.now c.args.depth k c.args.at);
 }
 
 pub members_of-returns-in_err-key-clause-read : goal.members_of-returns-in_err-key-clause-read
 members_of-returns-in_err-key-clause-read t c k =
-    let e = err_from_is_err_and c.from_residual.result c.from_residual.ensures.1 in
+    let e = err_from_is_err_and c.from_residual-in_err-key.result c.from_residual-in_err-key.ensures.1 in
     let r = c.members.invariant.read k in
     rw (e.1, e.2) (outcome_from c.args.bytes.now _ _ _ r.4 (c.in_err-key.ensures.read c.args.depth k r.0))
 
