@@ -8,6 +8,8 @@ use Rattle.json_tree.specs.Places.{member_at}
 use Rattle.json_read.specs.Faults.{RepeatsKey}
 use Rattle.json_tree.specs.View.{members_view}
 use Rattle.json_read.specs.Machinery.Ways.{has_key, repeat_at}
+use Rattle.text_buckets.specs.Buckets.{bucket_of, IsUsed, HasPut}
+use Rattle.text_buckets.specs.declared.buckets.Buckets.{Buckets}
 
 either : (a b : Bool) → (a || b) ≡ true → (a ≡ true) ⊎ (b ≡ true)
 either true b e = inl refl
@@ -43,6 +45,25 @@ has_key-more ms i m q lt e =
     let keys : map (λ (x : Member). x.key) (take (i + 1) ms) ≡ map (λ (x : Member). x.key) (take i ms) ++ m.key ∷ [] =
     ap (λ (xs : List Member). map (λ (x : Member). x.key) xs) more ∙ map_push (λ (x : Member). x.key) (take i ms) m in
     ap (λ (ks : List (List ℕ)). has_key ks q) keys ∙ has_key-push (map (λ (x : Member). x.key) (take i ms)) m.key q ∙ sym (as_or (bytes_eq m.key q) (has_key (map (λ (x : Member). x.key) (take i ms)) q))
+
+-- one more key in its bucket
+pub used-more : (ms : List Member) (i : ℕ) (m : Member) (old new : Buckets) → i < length ms → m ≡ get_or ms i m
+    → ((q : List ℕ) → has_key (map (λ x. x.key) (take i ms)) q ≡ true → IsUsed old q) → HasPut old new m.key
+    → (q : List ℕ) → has_key (map (λ x. x.key) (take (i + 1) ms)) q ≡ true → IsUsed new q
+used-more ms i m old new lt e used put q h =
+    elim (bytes_eq m.key q) as (λ b. bytes_eq m.key q ≡ b → cond b true (has_key (map (λ (x : Member). x.key) (take i ms)) q) ≡ true → IsUsed new q) [
+      | true ↦ λ same _. (put q).1 (inr (ap bucket_of (sym ((bytes_eq-Decides m.key q).0 same))))
+      | false ↦ λ _ before. (put q).1 (inl (used q before))
+    ] refl (sym (has_key-more ms i m q lt e) ∙ h)
+
+-- no key that was seen is in a bucket that is not used
+pub not-seen : (ms : List Member) (i : ℕ) (buckets : Buckets) (q : List ℕ) → ((k : List ℕ) → has_key (map (λ x. x.key) (take i ms)) k ≡ true → IsUsed buckets k)
+    → (IsUsed buckets q → ⊥) → has_key (map (λ x. x.key) (take i ms)) q ≡ false
+not-seen ms i buckets q used free =
+    elim (has_key (map (λ (x : Member). x.key) (take i ms)) q) as (λ b. has_key (map (λ (x : Member). x.key) (take i ms)) q ≡ b → has_key (map (λ (x : Member). x.key) (take i ms)) q ≡ false) [
+      | true ↦ λ e. absurd (free (used q e))
+      | false ↦ λ e. e
+    ] refl
 
 -- what it means that a key was seen
 seen_at : (ks : List (List ℕ)) (q : List ℕ) → has_key ks q ≡ true → (j : ℕ) × (j < length ks) × (get_or ks j [] ≡ q)

@@ -10,9 +10,10 @@ use dt_base::OutOfMemory;
 use json_tree::{Member, Tree};
 use std::alloc::Global;
 use std::collections::BTreeSet;
+use text_buckets::Buckets;
 
-/// Up to so many members, each key is compared with each one before it, which takes no memory.
-const FEW_MEMBERS: usize = 8;
+/// Up to so many members, a key whose bucket is used is compared with each one before it, which takes no memory.
+const FEW_MEMBERS: usize = 32;
 
 /// The way up from the first value, in preorder, of a member with a key that an earlier one has: its position in the
 /// object, then that one's in what it stands in, and so on.
@@ -97,8 +98,10 @@ fn has_key(members: &[Member], key: &str) -> bool
 fn first_repeat_of_few(members: &[Member]) -> usize
     ensures { result ≡ repeat_at [] (map (λ m. m.key) members.now) }
 {
+    let mut buckets = Buckets::new();
     for (at, member) in members.iter().enumerate() {
-        if has_key(&members[..at], member.key.as_str()) {
+        let key = member.key.as_str();
+        if buckets.put(key) && has_key(&members[..at], key) {
             return at;
         }
     }
