@@ -5,14 +5,15 @@ use Rattle.std.specs.Option.{option_map}
 use Rattle.std.specs.List.{list_any, take-map}
 use Rattle.std.specs.Ordering.{is_eq}
 use Rattle.std.specs.BTreeSet.{BTreeSet, contains}
-use Rattle.std.proofs.lemmas.List.{take_more, map_push, get_or_push, get_or_append_left}
+use Rattle.std.proofs.lemmas.List.{take_more, map_push}
 use Rattle.std.proofs.lemmas.List.Folds.{list_any-append}
 use Rattle.std.proofs.lemmas.Map.Text.{is_eq-slice_cmp}
-use Rattle.json_tree.specs.Values.{Json}
+use Rattle.json_tree.specs.Values.{Json, text}
 use Rattle.json_tree.specs.View.{view}
 use Rattle.json_tree.specs.declared.tree.Tree.{Tree}
+use Rattle.text_buckets.specs.declared.buckets.Buckets.{Buckets}
 use Rattle.local_rules.specs.Repeats.{holds_some, is_among, same_value}
-use Rattle.local_rules.specs.Machinery.Repeated.{HasSeen, compared, is_seen, repeats_by, value_by}
+use Rattle.local_rules.specs.Machinery.Repeated.{AreInBuckets, HasBucket, HasSeen, compared, is_seen, repeats_by, value_by}
 use Rattle.local_rules.specs.declared.repeated.ComparisonKey.{ComparisonKey}
 use Rattle.local_rules.specs.declared.repeated.ComparisonKey.TheVariants as comparison_key
 use Rattle.local_rules.specs.declared.repeated.Comparison.{Comparison}
@@ -99,18 +100,47 @@ answered : (s : Comparison) (ts : List Tree) (i : ℕ) (t : Tree) (old new : BTr
 answered s ts i t old new b None all is h = h.0 ∙ ap (λ (v : Option Json). is_among same_value (map (compared s) (map view (take i ts))) v) is
 answered s ts i t old new b (Some m) all is h = h.0 ∙ all m ∙ ap (λ (v : Option Json). is_among same_value (map (compared s) (map view (take i ts))) v) is
 
+-- ---- entries that are apart
+abbrev pub AreApartTo : Comparison → List Tree → ℕ → Type 0
+AreApartTo s ts i = (k : ℕ) → k < i → repeats_by s (map view ts) k ≡ false
+
 either : (k i : ℕ) → k < i + 1 → (k < i) ⊎ (k ≡ i)
 either k i lt = grind arith
 
--- the marks so far are right
-abbrev pub AreMarked : Comparison → List Tree → ℕ → List Bool → Type 0
-AreMarked s ts i marks = (k : ℕ) → k < i → get_or marks k false ≡ repeats_by s (map view ts) k
-
-pub marked_more : (s : Comparison) (ts : List Tree) (i : ℕ) (t : Tree) (marks : List Bool) (old new : BTreeSet ComparisonKey) (b : Bool) (m : Option ComparisonKey)
-    → i < length ts → t ≡ get_or ts i t → length marks ≡ i → AreMarked s ts i marks
-    → HasSeenAll s ts i old → option_map value_by m ≡ compared s (view t) → HasSeen old new b m → AreMarked s ts (i + 1) (marks ++ b ∷ [])
-marked_more s ts i t marks old new b m lt e count marked all is h = λ k below. elim (either k i below) [
-  | inl l ↦ get_or_append_left marks (b ∷ []) false k (omega (arith, count, l)) ∙ marked k l
-  | inr same ↦ ap (λ (j : ℕ). get_or (marks ++ b ∷ []) j false) same ∙ get_or_push marks b false i count
-      ∙ answered s ts i t old new b m all is h ∙ sym (repeats_here s ts i t lt e) ∙ ap (λ (j : ℕ). repeats_by s (map view ts) j) (sym same)
+apart_more : (s : Comparison) (ts : List Tree) (i : ℕ) → AreApartTo s ts i → repeats_by s (map view ts) i ≡ false → AreApartTo s ts (i + 1)
+apart_more s ts i apart here = λ k below. elim (either k i below) [
+  | inl l ↦ apart k l
+  | inr same ↦ ap (λ (j : ℕ). repeats_by s (map view ts) j) same ∙ here
 ]
+
+-- what was seen of the entry tells that it is apart
+pub apart_seen : (s : Comparison) (ts : List Tree) (i : ℕ) (t : Tree) (old new : BTreeSet ComparisonKey) (b : Bool) (m : Option ComparisonKey)
+    → i < length ts → t ≡ get_or ts i t → AreApartTo s ts i
+    → HasSeenAll s ts i old → option_map value_by m ≡ compared s (view t) → HasSeen old new b m → b ≡ false → AreApartTo s ts (i + 1)
+apart_seen s ts i t old new b m lt e apart all is h no_repeat =
+    apart_more s ts i apart (repeats_here s ts i t lt e ∙ sym (answered s ts i t old new b m all is h) ∙ no_repeat)
+
+-- and so does what was put in its bucket
+pub apart_put : (s : Comparison) (ts : List Tree) (i : ℕ) (t : Tree) (b : Bool) (m : Option ComparisonKey)
+    → i < length ts → t ≡ get_or ts i t → AreApartTo s ts i → option_map value_by m ≡ compared s (view t)
+    → b ≡ is_among same_value (map (compared s) (map view (take i ts))) (option_map value_by m) → b ≡ false → AreApartTo s ts (i + 1)
+apart_put s ts i t b m lt e apart is h no_repeat =
+    apart_more s ts i apart (repeats_here s ts i t lt e ∙ sym (h ∙ ap (λ (v : Option Json). is_among same_value (map (compared s) (map view (take i ts))) v) is) ∙ no_repeat)
+
+-- ---- buckets
+or_true : (a b : Bool) → (a || b) ≡ true → (a ≡ true) ⊎ (b ≡ true)
+or_true true b e = inl refl
+or_true false b e = inr e
+
+-- one more entry, where what it is compared by has its bucket
+pub put_more : (s : Comparison) (ts : List Tree) (i : ℕ) (t : Tree) (old new : Buckets) (m : Option ComparisonKey)
+    → i < length ts → t ≡ get_or ts i t → option_map value_by m ≡ compared s (view t)
+    → AreInBuckets s (map view (take i ts)) old → HasBucket old new m → AreInBuckets s (map view (take (i + 1) ts)) new
+put_more s ts i t old new m lt e is all put = λ u found.
+    let test : Option Json → Bool = holds_some (λ v. same_value v (text u)) in
+    let split : (list_any test (map (compared s) (map view (take i ts))) || test (compared s (view t))) ≡ true =
+    sym (ap (λ (vs : List (Option Json)). list_any test vs) (one_more s ts i t lt e) ∙ any_push test (map (compared s) (map view (take i ts))) (compared s (view t))) ∙ found in
+    elim (or_true (list_any test (map (compared s) (map view (take i ts)))) (test (compared s (view t))) split) [
+      | inl before ↦ put.0 u (all u before)
+      | inr here ↦ put.1 u (ap test is ∙ here)
+    ]

@@ -1,5 +1,5 @@
 -- Keys that an object lacks.
-use Rattle.std.proofs.Common.{◌≡◌, ℕ, zero, suc, ◌<◌, List, ◌∷◌, length, slice_index_or, Some, None, refl, ap, ◌∙◌, arith}
+use Rattle.std.proofs.Common.{◌≡◌, ℕ, zero, suc, ◌<◌, ◌↔◌, List, [], ◌∷◌, length, slice_index_or, Some, None, refl, ap, ◌∙◌, arith}
 use Rattle.json_decimal.specs.Number.{Number}
 use Rattle.json_tree.specs.Values.{Members}
 use Rattle.local_rules.specs.Members.{value_at}
@@ -34,3 +34,13 @@ lacks_rest_at k x ks ms (suc i) has within is none = (x, (i, omega arith, is), n
 
 pub lacks_rest : (k : Key) (ks : List Key) (ms : Members Number) → (value_at (key_text k) ms ≡ None → ⊥) → LacksKeyOf (k ∷ ks) ms → LacksKeyOf ks ms
 lacks_rest k ks ms has (x, (i, within, is), none) = lacks_rest_at k x ks ms i has within is none
+
+pub lacks_only : (k : Key) (ms : Members Number) → LacksKeyOf (k ∷ []) ms ↔ (value_at (key_text k) ms ≡ None)
+lacks_only k ms = (
+  λ (x, (i, within, is), none). only i x within is none,
+  λ none. lacks_first k [] ms none,
+)
+  where
+    only : (i : ℕ) (x : Key) → i < 1 → slice_index_or (k ∷ []) i x ≡ x → value_at (key_text x) ms ≡ None → value_at (key_text k) ms ≡ None
+    only zero x within is none = ap (λ y. value_at (key_text y) ms) is ∙ none
+    only (suc i) x within is none = absurd (omega arith)

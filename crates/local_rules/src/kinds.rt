@@ -11,7 +11,6 @@ use crate::key::Key;
 use crate::members::value_at;
 use crate::role::{Element, Kind, Role};
 use crate::roles::element_of;
-use crate::tables::required;
 use json_tree::{Member, Tree};
 
 /// The kind of value that a role wants.
@@ -106,7 +105,7 @@ fn lacks_required(role: Role, element: Element, members: &[Member]) -> bool
 {
     match role {
         Role::NamedSchema => lacks_id_or_required(element, members),
-        _ => lacks_one_of(required(element), members),
+        _ => lacks_key_of(element, members),
     }
 }
 
@@ -117,7 +116,29 @@ fn lacks_id_or_required(element: Element, members: &[Member]) -> bool
     if lacks(Key::Id, members) {
         return true;
     }
-    lacks_one_of(required(element), members)
+    lacks_key_of(element, members)
+}
+
+/// Whether the members lack a key that this element must have, whatever its role. Each key is a constant where it is
+/// sought, so that no table of keys is walked.
+fn lacks_key_of(element: Element, members: &[Member]) -> bool
+    ensures { IsTrue result ↔ LacksKeyOf (required element) (members_view members.now) }
+{
+    match element {
+        Element::Interface => lacks_three(Key::Context, Key::Id, Key::Type, members),
+        Element::Telemetry | Element::Property | Element::Component => {
+            lacks_three(Key::Type, Key::Name, Key::Schema, members)
+        }
+        Element::Command | Element::Relationship => lacks_two(Key::Type, Key::Name, members),
+        Element::Payload => lacks_two(Key::Name, Key::Schema, members),
+        Element::Array => lacks_two(Key::Type, Key::ElementSchema, members),
+        Element::Enumeration => {
+            lacks_three(Key::Type, Key::EnumValues, Key::ValueSchema, members)
+        }
+        Element::EnumEntry => lacks_two(Key::EnumValue, Key::Name, members),
+        Element::Map => lacks_three(Key::Type, Key::MapKey, Key::MapValue, members),
+        Element::Object => lacks_two(Key::Type, Key::Fields, members),
+    }
 }
 
 /// Whether the members lack the `@type` that decides what an object in this role is.
@@ -125,28 +146,39 @@ fn lacks_type(role: Role, members: &[Member]) -> bool
     ensures { IsTrue result ↔ LacksKeyOf (needed_keys role None) (members_view members.now) }
 {
     match role {
-        Role::Content | Role::NamedSchema | Role::Schema { .. } => {
-            lacks_one_of(&[Key::Type], members)
-        }
+        Role::Content | Role::NamedSchema | Role::Schema { .. } => lacks(Key::Type, members),
         _ => false,
     }
 }
 
-/// Whether the members lack one of these keys.
-fn lacks_one_of(keys: &[Key], members: &[Member]) -> bool
-    ensures { IsTrue result ↔ LacksKeyOf keys.now (members_view members.now) }
+/// Whether the members lack one of three keys.
+#[inline]
+fn lacks_three(first: Key, second: Key, third: Key, members: &[Member]) -> bool
+    ensures { IsTrue result ↔ LacksKeyOf (first ∷ second ∷ third ∷ []) (members_view members.now) }
 {
-    for key in keys {
-        if lacks(*key, members) {
-            return true;
-        }
+    if lacks(first, members) {
+        return true;
     }
-    false
+    lacks_two(second, third, members)
+}
+
+/// Whether the members lack one of two keys.
+#[inline]
+fn lacks_two(first: Key, second: Key, members: &[Member]) -> bool
+    ensures { IsTrue result ↔ LacksKeyOf (first ∷ second ∷ []) (members_view members.now) }
+{
+    if lacks(first, members) {
+        return true;
+    }
+    lacks(second, members)
 }
 
 /// Whether the members lack this key.
+#[inline]
+#[tactic(auto, using(crate::proofs::Wanted::lacks_only))]
 fn lacks(key: Key, members: &[Member]) -> bool
-    ensures { IsTrue result ↔ (value_at (key_text key) (members_view members.now) ≡ None) }
+    ensures missing { IsTrue result ↔ (value_at (key_text key) (members_view members.now) ≡ None) }
+    ensures only { IsTrue result ↔ LacksKeyOf (key ∷ []) (members_view members.now) }
 {
     value_at(members, key.text()).is_none()
 }

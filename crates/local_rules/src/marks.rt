@@ -6,20 +6,17 @@ ghost use Rattle.std.specs.Option.{option_map};
 ghost use Rattle.json_tree.specs.View.{view, members_view};
 ghost use Rattle.local_rules.specs.Roles.{element_member, entry_role};
 ghost use Rattle.local_rules.specs.Machinery.Marks.{entry_mark, entry_repeats, entry_repeats_value, entry_rule, interface_role, mark_rule, member_mark, member_of_entry, member_rule, name_rule, value_rule};
-ghost use Rattle.local_rules.specs.Machinery.Repeated.{AreRepeatsOfMany, AreRepeats, repeats_by, comparison_of, value_comparison_of};
+ghost use Rattle.local_rules.specs.Machinery.Repeated.{AreApart, AreApartBy, repeats_by, comparison_of, value_comparison_of};
 ghost use Rattle.local_rules.specs.declared.repeated.Comparison.TheVariants as comparison;
 
 use crate::languages::is_language;
-use crate::repeated::{Comparison, repeats_of_many, repeats_one};
+use crate::repeated::{Comparison, entries_apart, repeats_one};
 use crate::role::{Element, Role};
 use crate::roles::{entry_role, member_role};
 use crate::rule::LocalRule;
 use dt_base::OutOfMemory;
 use json_tree::{Member, Tree};
 use std::alloc::Global;
-
-/// Up to so many entries, each is compared with those before it, which takes no memory.
-const FEW_ENTRIES: usize = 8;
 
 /// What the list or the object in which a value stands tells of it.
 #[derive(Clone, Copy, Debug, PartialEq, Eq)]
@@ -171,17 +168,19 @@ impl MarkedRole {
     }
 }
 
-/// The entries of a list, with marks that tell of each whether an earlier one has the same name, text or value.
+/// The entries of a list, with what tells of each whether an earlier one has the same name, text or value: how many
+/// from the front are apart, mostly all. Only one behind these is compared with those before it, and a document in
+/// which there is one breaks a rule.
 #[derive(Drop)]
 pub struct EntryMarks<'a> {
     /// The role of the list.
     pub list: Role,
     /// Its entries.
     pub entries: &'a [Tree],
-    names: Vec<bool>,
-    values: Vec<bool>,
-    ghost named: { AreRepeatsOfMany (comparison_of list) (map view entries.now) names.items },
-    ghost valued: { AreRepeatsOfMany (value_comparison_of list) (map view entries.now) values.items },
+    names_apart: usize,
+    values_apart: usize,
+    ghost named: { AreApartBy (comparison_of list) (map view entries.now) names_apart },
+    ghost valued: { AreApartBy (value_comparison_of list) (map view entries.now) values_apart },
 }
 
 /// By what the entries of a list in this role are compared, where they are.
@@ -207,33 +206,27 @@ fn value_comparison_of(list: Role) -> Option<Comparison>
     }
 }
 
-/// Which of many entries repeat an earlier one, where they are compared; of few nothing is found out yet.
-fn marks_of(
+/// How many entries from the front are apart, where they are compared.
+fn apart_by(
     alloc: Global,
     comparison: Option<Comparison>,
     entries: &[Tree],
-) -> Result<Vec<bool>, OutOfMemory>
-    ensures { IfOk result (λ marks. AreRepeatsOfMany comparison (map view entries.now) marks.items) }
+) -> Result<usize, OutOfMemory>
+    ensures { IfOk result (λ apart. AreApartBy comparison (map view entries.now) apart) }
 {
     match comparison {
-        Some(comparison) if entries.len() > FEW_ENTRIES => repeats_of_many(
-            alloc, comparison, entries,
-        ),
-        _ => Ok(Vec::new(alloc)),
+        Some(comparison) => entries_apart(alloc, comparison, entries),
+        None => Ok(0),
     }
 }
 
-/// Whether the entry at a position repeats an earlier one.
-fn repeats(marks: &[bool], comparison: Comparison, entries: &[Tree], at: usize) -> bool
-    requires marked { 8 < length entries.now → AreRepeats comparison (map view entries.now) marks.now }
+/// Whether the entry at a position repeats an earlier one, where so many from the front are apart.
+fn repeats(apart: usize, comparison: Comparison, entries: &[Tree], at: usize) -> bool
+    requires apart { AreApart comparison (map view entries.now) apart }
     requires within { at < length entries.now }
     ensures { result ≡ repeats_by comparison (map view entries.now) at }
 {
-    if entries.len() <= FEW_ENTRIES {
-        repeats_one(comparison, entries, at)
-    } else {
-        marks[at]
-    }
+    at >= apart && repeats_one(comparison, entries, at)
 }
 
 impl<'a> EntryMarks<'a> {
@@ -242,13 +235,13 @@ impl<'a> EntryMarks<'a> {
         ensures list { IfOk result (λ marks. marks.list ≡ list) }
         ensures entries { IfOk result (λ marks. marks.entries.now ≡ entries.now) }
     {
-        let names = marks_of(alloc, comparison_of(list), entries)?;
-        let values = marks_of(alloc, value_comparison_of(list), entries)?;
+        let names_apart = apart_by(alloc, comparison_of(list), entries)?;
+        let values_apart = apart_by(alloc, value_comparison_of(list), entries)?;
         Ok(EntryMarks {
             list,
             entries,
-            names,
-            values,
+            names_apart,
+            values_apart,
         })
     }
 
@@ -257,7 +250,7 @@ impl<'a> EntryMarks<'a> {
         ensures { result ≡ entry_repeats self.now.list (map view self.now.entries.now) at }
     {
         match comparison_of(self.list) {
-            Some(comparison) => repeats(&self.names, comparison, self.entries, at),
+            Some(comparison) => repeats(self.names_apart, comparison, self.entries, at),
             None => false,
         }
     }
@@ -267,7 +260,7 @@ impl<'a> EntryMarks<'a> {
         ensures { result ≡ entry_repeats_value self.now.list (map view self.now.entries.now) at }
     {
         match value_comparison_of(self.list) {
-            Some(comparison) => repeats(&self.values, comparison, self.entries, at),
+            Some(comparison) => repeats(self.values_apart, comparison, self.entries, at),
             None => false,
         }
     }

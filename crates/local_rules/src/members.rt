@@ -52,6 +52,7 @@ pub(crate) fn is_same(one: &str, other: &str) -> bool
 }
 
 /// The value of the first member with this key.
+#[inline]
 pub fn value_at<'a>(members: &'a [Member], key: &str) -> Option<&'a Tree>
     ensures { option_map (λ t. view t.now) result ≡ value_at key.now (members_view members.now) }
 {
@@ -64,6 +65,7 @@ pub fn value_at<'a>(members: &'a [Member], key: &str) -> Option<&'a Tree>
 }
 
 /// The text of the first member with this key.
+#[inline]
 pub fn text_at<'a>(members: &'a [Member], key: &str) -> Option<&'a str>
     ensures { option_map (λ t. t.now) result ≡ option_and_then text_in (value_at key.now (members_view members.now)) }
 {

@@ -6,8 +6,8 @@ ghost use Rattle.std.specs.List.{list_any};
 ghost use Rattle.json_decimal.specs.Decimals.{number_of};
 ghost use Rattle.json_tree.specs.Values.{text};
 ghost use Rattle.json_tree.specs.View.{view, members_view};
-ghost use Rattle.local_rules.specs.Machinery.Repeated.{AreRepeats, HasSeen, comparable, compared, number_by, repeats_by, value_by};
-ghost use Rattle.local_rules.specs.Repeats.{holds_some, name_in, same_value};
+ghost use Rattle.local_rules.specs.Machinery.Repeated.{AreApart, AreInBuckets, HasBucket, HasSeen, comparable, compared, number_by, repeats_by, value_by};
+ghost use Rattle.local_rules.specs.Repeats.{holds_some, is_among, name_in, same_value};
 
 use crate::members::{members_in, text_at, text_in, value_in};
 use dt_base::OutOfMemory;
@@ -15,6 +15,7 @@ use json_decimal::Decimal;
 use json_tree::Tree;
 use std::alloc::Global;
 use std::collections::BTreeSet;
+use text_buckets::Buckets;
 
 /// A number by its digits, in an order of no meaning.
 #[derive(Clone, Copy, PartialEq, Eq, PartialOrd, Ord)]
@@ -133,6 +134,44 @@ pub(crate) fn repeats_one(comparison: Comparison, entries: &[Tree], at: usize) -
     }
 }
 
+/// Puts the text that an entry is compared by in its bucket, and answers whether one of the earlier entries has the
+/// same. Where the bucket was not used none has, and they need not be compared. A number has no bucket.
+fn was_put(
+    buckets: &mut Buckets,
+    comparison: Comparison,
+    earlier: &[Tree],
+    key: Option<ComparisonKey<'_>>,
+) -> bool
+    requires { AreInBuckets comparison (map view earlier.now) buckets.now }
+    ensures among { result ≡ is_among same_value (map (compared comparison) (map view earlier.now)) (option_map value_by key.entry) }
+    ensures put { HasBucket buckets.old buckets.new key.entry }
+{
+    match key {
+        Some(ComparisonKey::Text(text)) => {
+            if !buckets.put(text) {
+                return false;
+            }
+            any_has_key(comparison, earlier, ComparisonKey::Text(text))
+        }
+        Some(key) => any_has_key(comparison, earlier, key),
+        None => false,
+    }
+}
+
+/// How many entries from the front are apart, found without memory.
+fn apart_in_buckets(comparison: Comparison, entries: &[Tree]) -> usize
+    ensures { AreApart comparison (map view entries.now) result }
+{
+    let mut buckets = Buckets::new();
+    for (at, entry) in entries.iter().enumerate() {
+        let key = comparison_key_of(comparison, entry);
+        if was_put(&mut buckets, comparison, &entries[..at], key) {
+            return at;
+        }
+    }
+    entries.len()
+}
+
 /// Puts what an entry is compared by among what was seen, and answers whether it was there.
 fn was_seen<'a>(
     seen: &mut BTreeSet<ComparisonKey<'a>>,
@@ -146,19 +185,42 @@ fn was_seen<'a>(
     }
 }
 
-/// Of each entry whether it repeats an earlier one.
-pub(crate) fn repeats_of_many(
+/// How many entries from the front are apart, by a set of what was seen.
+fn apart_in_set(
     alloc: Global,
     comparison: Comparison,
     entries: &[Tree],
-) -> Result<Vec<bool>, OutOfMemory>
-    ensures { IfOk result (λ repeated. AreRepeats comparison (map view entries.now) repeated.items) }
+) -> Result<usize, OutOfMemory>
+    ensures { IfOk result (λ apart. AreApart comparison (map view entries.now) apart) }
 {
-    let mut repeated = Vec::with_capacity(alloc, entries.len())?;
     let mut seen = BTreeSet::new(alloc);
-    for entry in entries {
-        let repeats = was_seen(&mut seen, comparison_key_of(comparison, entry))?;
-        repeated.push(repeats)?;
+    for (at, entry) in entries.iter().enumerate() {
+        if was_seen(&mut seen, comparison_key_of(comparison, entry))? {
+            return Ok(at);
+        }
     }
-    Ok(repeated)
+    Ok(entries.len())
+}
+
+/// Up to so many entries, buckets tell them apart. Many values that are numbers, which have no buckets, would each be
+/// compared with all before them.
+fn most_in_buckets(comparison: Comparison) -> usize {
+    match comparison {
+        Comparison::Name | Comparison::Whole => 64,
+        Comparison::Value => 8,
+    }
+}
+
+/// How many entries from the front are apart, so that none of them repeats an earlier one.
+pub(crate) fn entries_apart(
+    alloc: Global,
+    comparison: Comparison,
+    entries: &[Tree],
+) -> Result<usize, OutOfMemory>
+    ensures { IfOk result (λ apart. AreApart comparison (map view entries.now) apart) }
+{
+    if entries.len() <= most_in_buckets(comparison) {
+        return Ok(apart_in_buckets(comparison, entries));
+    }
+    apart_in_set(alloc, comparison, entries)
 }

@@ -4,32 +4,12 @@
 ghost use Rattle.std.specs.Prelude.{◌≡◌, List, ◌++◌, find, bytes_eq};
 ghost use Rattle.std.specs.Bool.{then_some};
 ghost use Rattle.local_rules.specs.Machinery.Keys.{all_keys, long_keys, middle_keys, short_keys};
-ghost use Rattle.local_rules.specs.Tables.{key_text, required, type_text};
+ghost use Rattle.local_rules.specs.Tables.{key_text, type_text};
 ghost use Rattle.local_rules.specs.Roles.{element_named, key_of};
 
 use crate::key::Key;
 use crate::members::is_same;
 use crate::role::{Element, Position};
-
-/// The keys that an element must have.
-pub fn required(element: Element) -> &'static [Key]
-    ensures { result.now ≡ required element }
-{
-    match element {
-        Element::Interface => &[Key::Context, Key::Id, Key::Type],
-        Element::Telemetry => &[Key::Type, Key::Name, Key::Schema],
-        Element::Property => &[Key::Type, Key::Name, Key::Schema],
-        Element::Command => &[Key::Type, Key::Name],
-        Element::Relationship => &[Key::Type, Key::Name],
-        Element::Component => &[Key::Type, Key::Name, Key::Schema],
-        Element::Payload => &[Key::Name, Key::Schema],
-        Element::Array => &[Key::Type, Key::ElementSchema],
-        Element::Enumeration => &[Key::Type, Key::EnumValues, Key::ValueSchema],
-        Element::EnumEntry => &[Key::EnumValue, Key::Name],
-        Element::Map => &[Key::Type, Key::MapKey, Key::MapValue],
-        Element::Object => &[Key::Type, Key::Fields],
-    }
-}
 
 /// The key of at most 7 bytes that has this text.
 fn short_key_named(text: &str) -> Option<Key>

@@ -1,13 +1,15 @@
 -- What the entries of a list are compared by, to find those that repeat an earlier one. These words serve private
 -- clauses.
-use Rattle.std.specs.Prelude.{◌≡◌, ℕ, ◌<◌, List, map, length, get_or, Bool, false, ◌||◌, Option, Some, None, codes, option_and_then}
+use Rattle.std.specs.Prelude.{◌≡◌, ℕ, ◌<◌, ◌≤◌, List, map, length, Bool, true, false, ◌||◌, Option, Some, None, codes, option_and_then}
 use Rattle.std.specs.Option.{option_map}
 use Rattle.std.specs.List.{list_any}
 use Rattle.std.specs.BTreeSet.{BTreeSet}
 use Rattle.json_decimal.specs.Number.{Number}
 use Rattle.json_tree.specs.Values.{Json, null, truth, number, text, array, object}
+use Rattle.text_buckets.specs.Buckets.{IsUsed}
+use Rattle.text_buckets.specs.declared.buckets.Buckets.{Buckets}
 use Rattle.local_rules.specs.Members.{text_in, value_in}
-use Rattle.local_rules.specs.Repeats.{name_in, repeats, same_value}
+use Rattle.local_rules.specs.Repeats.{holds_some, name_in, repeats, same_value}
 use Rattle.local_rules.specs.declared.role.Role.{Role}
 use Rattle.local_rules.specs.declared.role.Role.TheVariants as role
 use Rattle.local_rules.specs.declared.repeated.Digits.{Digits}
@@ -41,9 +43,18 @@ compared comparison.Value v = option_and_then comparable (value_in (codes "enumV
 abbrev pub repeats_by : Comparison → List Json → ℕ → Bool
 repeats_by s vs i = repeats same_value (map (compared s) vs) i
 
--- These tell of each value whether it repeats an earlier one.
-abbrev pub AreRepeats : Comparison → List Json → List Bool → Type 0
-AreRepeats s vs repeated = (length repeated ≡ length vs) × ((i : ℕ) → i < length vs → get_or repeated i false ≡ repeats_by s vs i)
+-- So many values from the front are apart: none of them repeats an earlier one.
+abbrev pub AreApart : Comparison → List Json → ℕ → Type 0
+AreApart s vs n = (n ≤ length vs) × ((i : ℕ) → i < n → repeats_by s vs i ≡ false)
+
+-- A text that one of the values is compared by has a bucket that is used.
+abbrev pub AreInBuckets : Comparison → List Json → Buckets → Type 0
+AreInBuckets s vs buckets = (t : List ℕ) → list_any (holds_some (λ u. same_value u (text t))) (map (compared s) vs) ≡ true → IsUsed buckets t
+
+-- What was used is used, and the bucket of the text that an entry is compared by.
+abbrev pub HasBucket : Buckets → Buckets → Option ComparisonKey → Type 0
+HasBucket old new o = ((t : List ℕ) → IsUsed old t → IsUsed new t)
+    × ((t : List ℕ) → holds_some (λ u. same_value u (text t)) (option_map value_by o) ≡ true → IsUsed new t)
 
 -- Whether a value is among those that were seen.
 abbrev pub is_seen : BTreeSet ComparisonKey → Json → Bool
@@ -69,6 +80,6 @@ abbrev pub value_comparison_of : Role → Option Comparison
 value_comparison_of (role.EnumValues k) = Some comparison.Value
 value_comparison_of other = None
 
--- Where values are compared and more than 8, these tell of each whether it repeats an earlier one.
-abbrev pub AreRepeatsOfMany : Option Comparison → List Json → List Bool → Type 0
-AreRepeatsOfMany o vs repeated = (s : Comparison) → o ≡ Some s → 8 < length vs → AreRepeats s vs repeated
+-- So many values from the front are apart, where they are compared.
+abbrev pub AreApartBy : Option Comparison → List Json → ℕ → Type 0
+AreApartBy o vs n = (s : Comparison) → o ≡ Some s → AreApart s vs n
