@@ -43,14 +43,13 @@ module _ {A : Type 0} where
   -- an entry behind its comma
   pub entry_printed : (pair : A → List ℕ × Json) (out all : List ℕ) (xs : List (Bor A)) (n : ℕ) (x : Bor A) → n < length xs → x ≡ get_or xs n x
       → out ++ entries_left n (members_of (map (λ y. pair y.now) (drop n xs))) ≡ all
-      → ((((out ++ comma_before n) ++ quoted (pair x.now).0) ++ 58 ∷ []) ++ printed (pair x.now).1) ++ entries_left (n + 1) (members_of (map (λ y. pair y.now) (drop (n + 1) xs))) ≡ all
+      → ((out ++ comma_before n) ++ (head_text (pair x.now).0 ++ printed (pair x.now).1)) ++ entries_left (n + 1) (members_of (map (λ y. pair y.now) (drop (n + 1) xs))) ≡ all
   entry_printed pair out all xs n x within same h =
       let m = pair x.now in
       let ms = map (λ (y : Bor A). pair y.now) (drop (n + 1) xs) in
       let rest = entries_left (n + 1) (members_of ms) in
-      ap (λ e. (e ++ printed m.1) ++ rest) (append_assoc (out ++ comma_before n) (quoted m.0) (58 ∷ []))
-      ∙ append_assoc ((out ++ comma_before n) ++ head_text m.0) (printed m.1) rest
-      ∙ append_assoc (out ++ comma_before n) (head_text m.0) (printed m.1 ++ rest)
+      append_assoc (out ++ comma_before n) (head_text m.0 ++ printed m.1) rest
+      ∙ ap (λ e. (out ++ comma_before n) ++ e) (append_assoc (head_text m.0) (printed m.1) rest)
       ∙ append_assoc out (comma_before n) (head_text m.0 ++ (printed m.1 ++ rest))
       ∙ ap (λ e. out ++ e) (sym (ap (λ (ys : List (Bor A)). entries_left n (members_of (map (λ y. pair y.now) ys))) (drop_at xs n x within same) ∙ entry_split n m ms))
       ∙ h

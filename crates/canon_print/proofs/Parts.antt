@@ -1,7 +1,9 @@
 -- Objects printed part by part.
 use Rattle.std.proofs.Common.{◌≡◌, ℕ, List, [], ◌∷◌, ◌++◌, Bool, true, false, Option, Some, append_assoc, refl, sym, ap, ◌∙◌}
+use Rattle.std.specs.Prelude.{codes}
 use Rattle.json_tree.specs.Values.{Json}
 use Rattle.json_tree.specs.Printing.{printed, quoted}
+use Rattle.canon_text.specs.Canonical.{typed}
 use Rattle.canon_text.specs.Objects.{object_of_parts}
 use Rattle.canon_print.specs.Machinery.Bodies.{comma_unless, head_text, parts_left, IsPrinted}
 
@@ -28,6 +30,23 @@ pub given_printed : (before now : List ℕ) (first : Bool) (given key : List ℕ
 given_printed before now first given key v behind same =
     part_printed before ((before ++ comma_unless first) ++ head_text key) now first (head_text key) key v refl refl
     (behind ∙ ap (λ bytes. (before ++ comma_unless first) ++ bytes) same ∙ sym (append_assoc (before ++ comma_unless first) (head_text key) (printed v)))
+
+-- a type and a semantic type in a list
+pub types_printed : (before now given : List ℕ) (first : Bool) (kind semantic : List ℕ) → given ≡ quoted kind
+    → now ≡ (((((before ++ comma_unless first) ++ codes "\"@type\":[") ++ given) ++ 44 ∷ []) ++ quoted semantic) ++ 93 ∷ []
+    → IsPrinted before now first false (codes "@type") (Some (typed kind (Some semantic)))
+types_printed before now given first kind semantic same ended =
+    let start = before ++ comma_unless first in
+    let head = codes "\"@type\":[" in
+    let last = quoted semantic ++ 93 ∷ [] in
+    given_printed before now first (head ++ (quoted kind ++ 44 ∷ last)) (codes "@type") (typed kind (Some semantic))
+    (ended
+    ∙ ap (λ bytes. ((((start ++ head) ++ bytes) ++ 44 ∷ []) ++ quoted semantic) ++ 93 ∷ []) same
+    ∙ append_assoc (((start ++ head) ++ quoted kind) ++ 44 ∷ []) (quoted semantic) (93 ∷ [])
+    ∙ append_assoc ((start ++ head) ++ quoted kind) (44 ∷ []) last
+    ∙ append_assoc (start ++ head) (quoted kind) (44 ∷ last)
+    ∙ append_assoc start head (quoted kind ++ 44 ∷ last))
+    refl
 
 -- the opening brace before all parts
 pub object_begun : (before opened : List ℕ) (parts : List (List ℕ × Option Json)) → opened ≡ before ++ 123 ∷ []

@@ -3,18 +3,17 @@
 ghost use Rattle.std.specs.Prelude.{◌≡◌, ◌++◌, [], ◌∷◌, ℕ, List, Bool, false, Option, Some, None, codes, string_bytes, IfOk, OnOk};
 ghost use Rattle.std.specs.Option.{option_map};
 ghost use Rattle.json_tree.specs.Values.{Json};
-ghost use Rattle.json_tree.specs.Printing.{printed};
+ghost use Rattle.json_tree.specs.Printing.{printed, quoted};
 ghost use Rattle.canon_text.specs.Canonical.{id_value, element_parts, typed};
 ghost use Rattle.canon_print.specs.Machinery.Bodies.{head_text, parts_left, IsPrinted, IsBegun};
 ghost use Rattle.canon_print.specs.Machinery.Remarks.{remark_parts};
 
 use crate::heads::push_head;
 use crate::localized::push_localized;
-use crate::texts::{push_optional_id, push_optional_text, push_quoted_name, push_text};
+use crate::texts::{push_optional_id, push_optional_text, push_quoted_name};
 use dt_base::OutOfMemory;
 use dtdl_terms::Common;
 use dtmi_name::Name;
-use json_tree::push_quoted;
 use std::alloc::Global;
 
 /// Appends the opening brace, and the identifier where there is one.
@@ -71,41 +70,47 @@ pub(crate) fn push_typed(
     Ok(first)
 }
 
-/// Appends the member of a type, or of a list of it and the semantic type.
+/// Appends the member of a type, which is given between its quotation marks, or of a list of it and the semantic type.
 fn push_type(
     out: &mut String,
     first: bool,
-    kind: &str,
+    quoted_kind: &str,
     semantic: &Option<Name>,
 ) -> Result<(), OutOfMemory>
-    ensures { OnOk result (IsPrinted (string_bytes out.old) (string_bytes out.new) first false (codes "@type") (Some (typed kind.now semantic.now))) }
+    ensures { OnOk result ((kind : List ℕ) → quoted_kind.now ≡ quoted kind
+        → IsPrinted (string_bytes out.old) (string_bytes out.new) first false (codes "@type") (Some (typed kind semantic.now))) }
 {
     match semantic {
         Some(name) => {
             push_head(out, first, "\"@type\":[")?;
-            push_quoted(out, kind)?;
+            out.push_str(quoted_kind)?;
             out.push_str(",")?;
             push_quoted_name(out, name)?;
             out.push_str("]")?;
             Ok(())
         }
-        None => push_text(out, first, "\"@type\":", kind),
+        None => {
+            push_head(out, first, "\"@type\":")?;
+            out.push_str(quoted_kind)?;
+            Ok(())
+        }
     }
 }
 
-/// Appends an element with its type and its semantic type up to what it has of its own, and answers whether no member
-/// was printed.
+/// Appends an element with its type, which is given between its quotation marks, and its semantic type up to what it has
+/// of its own, and answers whether no member was printed.
 pub(crate) fn push_semantic(
     alloc: Global,
     out: &mut String,
-    kind: &str,
+    quoted_kind: &str,
     semantic: &Option<Name>,
     common: &Common,
 ) -> Result<bool, OutOfMemory>
-    ensures { IfOk result (λ after. IsBegun (string_bytes out.old) (string_bytes out.new) after (element_parts (Some (typed kind.now semantic.now)) common.now)) }
+    ensures { IfOk result (λ after. (kind : List ℕ) → quoted_kind.now ≡ quoted kind
+        → IsBegun (string_bytes out.old) (string_bytes out.new) after (element_parts (Some (typed kind semantic.now)) common.now)) }
 {
     let first = push_start(out, common)?;
-    push_type(out, first, kind, semantic)?;
+    push_type(out, first, quoted_kind, semantic)?;
     let first = push_remarks(alloc, out, false, common)?;
     Ok(first)
 }

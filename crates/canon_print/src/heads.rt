@@ -11,7 +11,7 @@ pub(crate) fn push_separator(out: &mut String, position: usize) -> Result<(), Ou
     ensures { OnOk result (string_bytes out.new ≡ string_bytes out.old ++ comma_before position) }
 {
     if position > 0 {
-        out.push(',')?;
+        out.push_str(",")?;
     }
     Ok(())
 }
@@ -21,7 +21,7 @@ fn push_comma(out: &mut String, first: bool) -> Result<(), OutOfMemory>
     ensures { OnOk result (string_bytes out.new ≡ string_bytes out.old ++ comma_unless first) }
 {
     if !first {
-        out.push(',')?;
+        out.push_str(",")?;
     }
     Ok(())
 }

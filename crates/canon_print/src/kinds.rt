@@ -29,7 +29,7 @@ pub(crate) fn push_telemetry(
 ) -> Result<(), OutOfMemory>
     ensures { OnOk result (string_bytes out.new ≡ string_bytes out.old ++ printed (content_value (content item.now.name item.now.common (telemetry (schema_term kind.now) semantic.now unit.now)))) }
 {
-    let first = push_semantic(alloc, out, "Telemetry", semantic, &item.common)?;
+    let first = push_semantic(alloc, out, "\"Telemetry\"", semantic, &item.common)?;
     push_name(out, first, "\"name\":", &item.name)?;
     push_head(out, false, "\"schema\":")?;
     push_schema(alloc, out, kind)?;
@@ -50,7 +50,7 @@ pub(crate) fn push_property(
 ) -> Result<(), OutOfMemory>
     ensures { OnOk result (string_bytes out.new ≡ string_bytes out.old ++ printed (content_value (content item.now.name item.now.common (property (schema_term kind.now) semantic.now unit.now writable)))) }
 {
-    let first = push_semantic(alloc, out, "Property", semantic, &item.common)?;
+    let first = push_semantic(alloc, out, "\"Property\"", semantic, &item.common)?;
     push_name(out, first, "\"name\":", &item.name)?;
     push_head(out, false, "\"schema\":")?;
     push_schema(alloc, out, kind)?;

@@ -18,4 +18,4 @@ mod sorting;
 mod texts;
 
 pub use interfaces::push_interface;
-pub use sets::print_set;
+pub use sets::push_set;

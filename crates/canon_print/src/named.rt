@@ -83,7 +83,7 @@ fn own_id(schema: &Schema) -> &str
         Schema::Array { common, .. }
         | Schema::Enumeration { common, .. }
         | Schema::Map { common, .. }
-        | Schema::Object { common, .. } => common_id(common),
+        | Schema::Object { common, .. } => common_id(common.get()),
     }
 }
 

@@ -2,7 +2,8 @@
 
 ghost use Rattle.std.specs.Prelude.{◌≡◌, ◌++◌, map, string_bytes, OnOk};
 ghost use Rattle.json_tree.specs.Values.{elements_of};
-ghost use Rattle.json_tree.specs.Printing.{printed, printed_elements};
+ghost use Rattle.json_tree.specs.Printing.{printed, printed_elements, quoted};
+ghost use Rattle.dtdl_terms.specs.Primitives.{primitive_name};
 ghost use Rattle.dtdl_terms.specs.Terms.{array_of, enumeration, map_of, object_of};
 ghost use Rattle.dtdl_terms.specs.TermViews.{schema_term, payload_term, payloads_term};
 ghost use Rattle.canon_text.specs.Canonical.{schema_value, payload_value, schema_pair};
@@ -15,9 +16,27 @@ use crate::heads::{push_head, push_separator};
 use crate::sorting::in_order;
 use crate::texts::push_name;
 use dt_base::OutOfMemory;
-use dtdl_terms::{Common, EnumEntry, Payload, Schema};
+use dtdl_terms::{Common, EnumEntry, Payload, Primitive, Schema};
 use json_tree::push_quoted;
 use std::alloc::Global;
+
+/// The name of a primitive schema between quotation marks. It is a constant, so that nothing is looked through.
+fn quoted_primitive(primitive: Primitive) -> &'static str
+    ensures { result.now ≡ quoted (primitive_name primitive) }
+{
+    match primitive {
+        Primitive::Boolean => "\"boolean\"",
+        Primitive::Date => "\"date\"",
+        Primitive::DateTime => "\"dateTime\"",
+        Primitive::Double => "\"double\"",
+        Primitive::Duration => "\"duration\"",
+        Primitive::Float => "\"float\"",
+        Primitive::Integer => "\"integer\"",
+        Primitive::Long => "\"long\"",
+        Primitive::Str => "\"string\"",
+        Primitive::Time => "\"time\"",
+    }
+}
 
 /// Appends an enumeration.
 fn push_enumeration(
@@ -102,18 +121,20 @@ pub(crate) fn push_schema(
     ensures { OnOk result (string_bytes out.new ≡ string_bytes out.old ++ printed (schema_value (schema_term value.now))) }
 {
     match value {
-        Schema::Primitive(primitive) => Ok(push_quoted(out, primitive.text())?),
+        Schema::Primitive(primitive) => Ok(out.push_str(quoted_primitive(*primitive))?),
         Schema::Named(name) => Ok(push_quoted(out, name.as_str())?),
-        Schema::Array { common, element } => push_array(alloc, out, common, element.get()),
+        Schema::Array { common, element } => push_array(alloc, out, common.get(), element.get()),
         Schema::Enumeration {
             common,
             of_text,
             values,
-        } => push_enumeration(alloc, out, common, *of_text, values.as_slice()),
+        } => push_enumeration(alloc, out, common.get(), *of_text, values.as_slice()),
         Schema::Map { common, key, value } => {
-            push_map(alloc, out, common, key.get(), value.get())
+            push_map(alloc, out, common.get(), key.get(), value.get())
         }
-        Schema::Object { common, fields } => push_object(alloc, out, common, fields.as_slice()),
+        Schema::Object { common, fields } => {
+            push_object(alloc, out, common.get(), fields.as_slice())
+        }
     }
 }
 

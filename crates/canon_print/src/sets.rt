@@ -1,6 +1,6 @@
 //! Sets of interfaces.
 
-ghost use Rattle.std.specs.Prelude.{◌≡◌, ◌++◌, map, string_bytes, IfOk, OnOk};
+ghost use Rattle.std.specs.Prelude.{◌≡◌, ◌++◌, map, string_bytes, OnOk};
 ghost use Rattle.json_tree.specs.Values.{elements_of};
 ghost use Rattle.json_tree.specs.Printing.{printed_elements};
 ghost use Rattle.canon_text.specs.Canonical.{interface_value, set_text};
@@ -8,7 +8,7 @@ ghost use Rattle.canon_text.specs.Canonical.{interface_value, set_text};
 use crate::heads::push_separator;
 use crate::interfaces::push_interface;
 use crate::sorting::in_order;
-use dt_base::{List, OutOfMemory};
+use dt_base::OutOfMemory;
 use dtdl_terms::Interface;
 use std::alloc::Global;
 
@@ -28,15 +28,18 @@ fn push_lent_interfaces(
     Ok(())
 }
 
-/// The canonical text of a set of interfaces, which `canon_text::canon` gives, without a tree. Fails only for want of
-/// memory.
-pub fn print_set(alloc: Global, interfaces: &[Interface]) -> Result<List<u8>, OutOfMemory>
-    ensures { IfOk result (λ bytes. bytes ≡ set_text interfaces.now) }
+/// Appends the canonical text of a set of interfaces, which `canon_text::canon` gives, without a tree. Fails only for want
+/// of memory.
+pub fn push_set(
+    alloc: Global,
+    out: &mut String,
+    interfaces: &[Interface],
+) -> Result<(), OutOfMemory>
+    ensures { OnOk result (string_bytes out.new ≡ string_bytes out.old ++ set_text interfaces.now) }
 {
     let list = in_order(alloc, interfaces)?;
-    let mut out = String::new(alloc);
     out.push_str("[")?;
-    push_lent_interfaces(alloc, &mut out, list.as_slice())?;
+    push_lent_interfaces(alloc, out, list.as_slice())?;
     out.push_str("\n")?;
-    Ok(List::from_vec(out.into_bytes()))
+    Ok(())
 }

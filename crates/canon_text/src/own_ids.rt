@@ -46,20 +46,20 @@ fn of_schema(schema: &Schema)
         Schema::Primitive(_) => {}
         Schema::Named(id) => of_id(id),
         Schema::Array { common, element } => {
-            of_common(common);
+            of_common(common.get());
             of_schema(element.get());
         }
         Schema::Enumeration { common, values, .. } => {
-            of_common(common);
+            of_common(common.get());
             of_entries(values.as_slice());
         }
         Schema::Map { common, key, value } => {
-            of_common(common);
+            of_common(common.get());
             of_payload(key.get());
             of_payload(value.get());
         }
         Schema::Object { common, fields } => {
-            of_common(common);
+            of_common(common.get());
             of_fields(fields.as_slice());
         }
     }

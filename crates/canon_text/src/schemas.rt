@@ -87,18 +87,20 @@ pub(crate) fn schema(alloc: Global, value: &Schema) -> Result<Tree, OutOfMemory>
     match value {
         Schema::Primitive(primitive) => text(alloc, primitive.text()),
         Schema::Named(name) => id(alloc, name),
-        Schema::Array { common, element } => array(alloc, common, element.get()),
+        Schema::Array { common, element } => array(alloc, common.get(), element.get()),
         Schema::Enumeration {
             common,
             of_text,
             values,
-        } => enumeration(alloc, common, *of_text, values.as_slice()),
+        } => enumeration(alloc, common.get(), *of_text, values.as_slice()),
         Schema::Map { common, key, value } => {
             let key = boxed_payload(alloc, key)?;
             let value = boxed_payload(alloc, value)?;
-            map_schema(alloc, common, key, value)
+            map_schema(alloc, common.get(), key, value)
         }
-        Schema::Object { common, fields } => object_schema(alloc, common, fields.as_slice()),
+        Schema::Object { common, fields } => {
+            object_schema(alloc, common.get(), fields.as_slice())
+        }
     }
 }
 
@@ -146,7 +148,7 @@ fn own_id(schema: &Schema) -> &str
         Schema::Array { common, .. }
         | Schema::Enumeration { common, .. }
         | Schema::Map { common, .. }
-        | Schema::Object { common, .. } => common_id(common),
+        | Schema::Object { common, .. } => common_id(common.get()),
     }
 }
 

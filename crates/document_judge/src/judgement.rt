@@ -145,16 +145,15 @@ fn uploads_of_all(alloc: Global, documents: &[List<u8>]) -> Result<Vec<Uploaded>
     }
 }
 
-/// The interfaces that documents declare, or the line of their first fault. The documents are let go before the rules on sets are asked.
+/// The interfaces that documents declare, or the line of their first fault.
 ///
 /// Lists are read batch by batch as long as no document has a fault. Where one has, or is the empty list, a value of each document as
 /// a whole is made in place of this, and the first fault is told of these.
-pub fn declared_by(alloc: Global, documents: List<List<u8>>) -> Result<Vec<Uploaded>, Refusal>
-    requires few { length documents ≤ 4096 }
-    ensures { MatchResult result (λ uploads. Declare documents uploads.items) (IsRefusal (HasFirstFault documents)) }
+pub fn declared_by(alloc: Global, documents: &[List<u8>]) -> Result<Vec<Uploaded>, Refusal>
+    requires few { length documents.now ≤ 4096 }
+    ensures { MatchResult result (λ uploads. Declare documents.now uploads.items) (IsRefusal (HasFirstFault documents.now)) }
 {
-    let uploads = uploads_of_all(alloc, documents.as_slice())?;
-    drop(documents);
+    let uploads = uploads_of_all(alloc, documents)?;
     judge(alloc, &uploads)?;
     Ok(uploads)
 }

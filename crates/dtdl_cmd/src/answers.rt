@@ -1,6 +1,6 @@
 //! What a command answers: a status, and the line or text that is written with it.
 
-ghost use Rattle.std.specs.Prelude.{◌≡◌, ◌≤◌, length, string_bytes, IfOk};
+ghost use Rattle.std.specs.Prelude.{◌≡◌, ◌≤◌, [], length, string_bytes, IfOk};
 ghost use Rattle.dtdl_cmd.specs.Answers.{AnswersDocuments, Prints, interfaces_of};
 ghost use Rattle.dtdl_cmd.specs.Lines.{accepted_line, missing_line, too_long_line};
 ghost use Rattle.dtdl_cmd.specs.declared.command.Command.{Command};
@@ -68,23 +68,57 @@ fn accepted(alloc: Global, uploads: Vec<Uploaded>) -> Result<Answer, OutOfMemory
     Ok(answer_with(Status::Ok, format!(in alloc; "accepted {count}\n")?))
 }
 
-/// `canon`: the canonical text of the interfaces, within its limit.
-fn canonical(alloc: Global, uploads: Vec<Uploaded>) -> Result<Answer, OutOfMemory>
+/// The bytes of a document, which is moved.
+fn bytes_of(document: List<u8>) -> Vec<u8>
+    ensures { result.items ≡ document }
+{
+    document.items
+}
+
+/// A text without bytes, in the memory of these.
+fn emptied(alloc: Global, bytes: Vec<u8>) -> String
+    ensures { string_bytes result ≡ [] }
+{
+    let mut bytes = bytes;
+    bytes.clear();
+    match String::from_utf8(bytes) {
+        Ok(text) => text,
+        Err(_) => String::new(alloc),
+    }
+}
+
+/// A text without bytes, in the memory of the last document where there is one: what the system gave for a document need
+/// not be asked for again.
+fn room_of(alloc: Global, documents: List<List<u8>>) -> String
+    ensures { string_bytes result ≡ [] }
+{
+    let mut documents = documents.items;
+    match documents.pop() {
+        Some(document) => emptied(alloc, bytes_of(document)),
+        None => String::new(alloc),
+    }
+}
+
+/// `canon`: the canonical text of the interfaces, within its limit. It is printed over the last document, whose bytes are
+/// not needed once the interfaces are read.
+fn canonical(
+    alloc: Global,
+    uploads: Vec<Uploaded>,
+    documents: List<List<u8>>,
+) -> Result<Answer, OutOfMemory>
     ensures { IfOk result (λ answer. Prints Command.Canon (interfaces_of uploads.items) answer.status answer.line) }
 {
     let interfaces = without_places(alloc, uploads)?;
-    let line = canon_print::print_set(alloc, &interfaces)?;
+    let mut text = room_of(alloc, documents);
+    canon_print::push_set(alloc, &mut text, &interfaces)?;
     forget(interfaces);
-    if line.len() > MAX_BYTES {
+    if text.len() > MAX_BYTES {
         return Ok(answer_with(
             Status::TooLong,
             String::from_str(alloc, "too long canon\n")?,
         ));
     }
-    Ok(Answer {
-        status: Status::Ok,
-        line,
-    })
+    Ok(answer_with(Status::Ok, text))
 }
 
 /// The answer of a command to documents.
@@ -96,7 +130,7 @@ pub fn answer_to_documents(
     requires few { length documents ≤ 4096 }
     ensures { IfOk result (λ answer. AnswersDocuments command documents answer.status answer.line) }
 {
-    let uploads = match declared_by(alloc, documents) {
+    let uploads = match declared_by(alloc, documents.as_slice()) {
         Ok(uploads) => uploads,
         Err(Refusal::Line(line)) => {
             return Ok(Answer {
@@ -108,6 +142,6 @@ pub fn answer_to_documents(
     };
     match command {
         Command::Check => accepted(alloc, uploads),
-        Command::Canon => canonical(alloc, uploads),
+        Command::Canon => canonical(alloc, uploads, documents),
     }
 }

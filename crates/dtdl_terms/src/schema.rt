@@ -20,24 +20,24 @@ pub enum Schema {
     Named(Dtmi),
     /// An array whose elements are of one schema (DTDL v2, "Array").
     Array {
-        common: Common,
+        common: Boxed<Common>,
         element: Boxed<Schema>,
     },
     /// An enumeration, of texts or else of integers (DTDL v2, "Enum").
     Enumeration {
-        common: Common,
+        common: Boxed<Common>,
         of_text: bool,
         values: List<EnumEntry>,
     },
     /// A map from texts to values of one schema (DTDL v2, "Map").
     Map {
-        common: Common,
+        common: Boxed<Common>,
         key: Boxed<Payload>,
         value: Boxed<Payload>,
     },
     /// An object with these fields, in the order of its document (DTDL v2, "Object").
     Object {
-        common: Common,
+        common: Boxed<Common>,
         fields: List<Payload>,
     },
 }
@@ -65,7 +65,7 @@ impl Schema {
                 Ok(Schema::Named(id))
             }
             Schema::Array { common, element } => {
-                let common = common.copy(alloc)?;
+                let common = Boxed::new(alloc, common.get().copy(alloc)?)?;
                 let element = Boxed::new(alloc, element.get().copy(alloc)?)?;
                 Ok(Schema::Array { common, element })
             }
@@ -74,7 +74,7 @@ impl Schema {
                 of_text,
                 values,
             } => {
-                let common = common.copy(alloc)?;
+                let common = Boxed::new(alloc, common.get().copy(alloc)?)?;
                 let values = copy_enum_entries(alloc, values.as_slice())?;
                 Ok(Schema::Enumeration {
                     common,
@@ -83,13 +83,13 @@ impl Schema {
                 })
             }
             Schema::Map { common, key, value } => {
-                let common = common.copy(alloc)?;
+                let common = Boxed::new(alloc, common.get().copy(alloc)?)?;
                 let key = Boxed::new(alloc, key.get().copy(alloc)?)?;
                 let value = Boxed::new(alloc, value.get().copy(alloc)?)?;
                 Ok(Schema::Map { common, key, value })
             }
             Schema::Object { common, fields } => {
-                let common = common.copy(alloc)?;
+                let common = Boxed::new(alloc, common.get().copy(alloc)?)?;
                 let fields = copy_payloads(alloc, fields.as_slice())?;
                 Ok(Schema::Object { common, fields })
             }

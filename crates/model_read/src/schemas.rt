@@ -39,7 +39,7 @@ fn enumeration_in(alloc: Global, members: &[Member]) -> Result<Schema, OutOfMemo
     requires shaped { EnumerationShape (members_view members.now) }
     ensures { IfOk result (λ s. IsSchema (schema_term s) (object (members_view members.now))) }
 {
-    let common = common_of(alloc, members)?;
+    let common = Boxed::new(alloc, common_of(alloc, members)?)?;
     let of_text = is_of_text(members);
     let values = enum_entries_of(alloc, entries_of(wanted(members, "enumValues")))?;
     Ok(Schema::Enumeration {
@@ -83,7 +83,7 @@ fn array_in(alloc: Global, members: &[Member]) -> Result<Schema, OutOfMemory>
     requires shaped { ArrayShape (members_view members.now) }
     ensures { IfOk result (λ s. IsSchema (schema_term s) (object (members_view members.now))) }
 {
-    let common = common_of(alloc, members)?;
+    let common = Boxed::new(alloc, common_of(alloc, members)?)?;
     let element = schema_at(alloc, members, "elementSchema")?;
     let element = Boxed::new(alloc, element)?;
     Ok(Schema::Array { common, element })
@@ -95,7 +95,7 @@ fn map_in(alloc: Global, members: &[Member]) -> Result<Schema, OutOfMemory>
     requires shaped { MapShape (members_view members.now) }
     ensures { IfOk result (λ s. IsSchema (schema_term s) (object (members_view members.now))) }
 {
-    let common = common_of(alloc, members)?;
+    let common = Boxed::new(alloc, common_of(alloc, members)?)?;
     let key = payload_at(alloc, members, "mapKey")?;
     let value = payload_at(alloc, members, "mapValue")?;
     Ok(Schema::Map { common, key, value })
@@ -107,7 +107,7 @@ fn object_in(alloc: Global, members: &[Member]) -> Result<Schema, OutOfMemory>
     requires shaped { ObjectShape (members_view members.now) }
     ensures { IfOk result (λ s. IsSchema (schema_term s) (object (members_view members.now))) }
 {
-    let common = common_of(alloc, members)?;
+    let common = Boxed::new(alloc, common_of(alloc, members)?)?;
     let fields = wanted(members, "fields");
     let fields = payloads_of(alloc, entries_of(fields))?;
     Ok(Schema::Object { common, fields })

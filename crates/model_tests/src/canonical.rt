@@ -1,6 +1,6 @@
 //! Canonical texts, printed from what documents declare: the rows are written by hand after docs/canonical-text.md.
 
-use canon_print::print_set;
+use canon_print::push_set;
 use dtdl_terms::Interface;
 use model_batches::faultless_interfaces;
 use std::alloc::Global;
@@ -63,8 +63,9 @@ fn prints_canonical_texts(rt: HostRuntime) -> Result<(), Fail> {
     let alloc = rt.alloc();
     for row in &ROWS {
         let interfaces = declared_by(alloc, row.document)?;
-        let printed = print_set(alloc, interfaces.as_slice())?;
-        assert_eq!(rt; printed.as_slice(), row.text.as_bytes(), "{}", row.document);
+        let mut printed = String::new(alloc);
+        push_set(alloc, &mut printed, interfaces.as_slice())?;
+        assert_eq!(rt; printed.as_str(), row.text, "{}", row.document);
     }
     Ok(())
 }

@@ -21,10 +21,10 @@ impl Keyed for Schema {
         match self {
             Schema::Primitive(_) => None,
             Schema::Named(_) => None,
-            Schema::Array { common, .. } => id_text(&common.id),
-            Schema::Enumeration { common, .. } => id_text(&common.id),
-            Schema::Map { common, .. } => id_text(&common.id),
-            Schema::Object { common, .. } => id_text(&common.id),
+            Schema::Array { common, .. } => id_text(&common.get().id),
+            Schema::Enumeration { common, .. } => id_text(&common.get().id),
+            Schema::Map { common, .. } => id_text(&common.get().id),
+            Schema::Object { common, .. } => id_text(&common.get().id),
         }
     }
 }

@@ -28,13 +28,14 @@ fn texts(alloc: Global) -> Localized {
 
 /// An array of integers, which is the schema `dtmi:demo:row;1`.
 fn whole_numbers(alloc: Global) -> Result<Schema, Fail> {
+    let common = Common {
+        id: Some(Dtmi::read(alloc, "dtmi:demo:row;1")?),
+        comment: None,
+        description: texts(alloc),
+        display_name: texts(alloc),
+    };
     Ok(Schema::Array {
-        common: Common {
-            id: Some(Dtmi::read(alloc, "dtmi:demo:row;1")?),
-            comment: None,
-            description: texts(alloc),
-            display_name: texts(alloc),
-        },
+        common: Boxed::new(alloc, common)?,
         element: Boxed::new(alloc, Schema::Primitive(Primitive::Integer))?,
     })
 }

@@ -5,8 +5,8 @@ use Rattle.canon_print.specs.Machinery.Remarks.{remark_parts}
 use Rattle.canon_print.proofs.elements.push_semantic.Goals as goal
 
 pub returns : goal.returns
-returns c = λ own.
+returns c = λ kind same own.
     let remarks = remark_parts c.args.common.now own in
-    c.in_ok-first.ensures ((codes "@type", Some (typed c.args.kind.now c.args.semantic.now)) ∷ remarks)
-    ∙ c.in_ok-push_type.ensures remarks
+    c.in_ok-first.ensures ((codes "@type", Some (typed kind c.args.semantic.now)) ∷ remarks)
+    ∙ c.in_ok-push_type.ensures kind same remarks
     ∙ c.in_ok-first-2.ensures own

@@ -13,7 +13,7 @@ returns c =
     let units : List (List ℕ × Option Json) = (codes "unit", option_map text c.args.unit.now) ∷ (codes "writable", writable_value c.args.writable) ∷ [] in
     let rest : List (List ℕ × Option Json) = (codes "schema", Some kind) ∷ units in
     c.in_ok-push_str.ensures.bytes ∙ sym (
-    c.in_ok-first.ensures ((codes "name", Some (text c.args.item.now.name)) ∷ rest)
+    c.in_ok-first.ensures (codes "Property") refl ((codes "name", Some (text c.args.item.now.name)) ∷ rest)
     ∙ c.in_ok-push_name.ensures (codes "name") refl rest
     ∙ part_printed _ _ _ false _ (codes "schema") kind c.in_ok-push_head.ensures refl c.in_ok-push_schema.ensures units
     ∙ c.in_ok-first-2.ensures (codes "unit") refl ((codes "writable", writable_value c.args.writable) ∷ [])

@@ -1,4 +1,4 @@
-use Rattle.std.proofs.Common.{◌≡◌, ◌++◌, ◌∷◌, [], string_bytes, append_assoc, sym, ◌∙◌}
+use Rattle.std.proofs.Common.{◌≡◌, ◌++◌, ◌∷◌, [], string_bytes, append_assoc, ◌∙◌}
 use Rattle.json_tree.specs.Printing.{escaped}
 use Rattle.canon_print.proofs.Plain.{plain_name}
 use Rattle.canon_print.proofs.texts.push_quoted_name.Goals as goal

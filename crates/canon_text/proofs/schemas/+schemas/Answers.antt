@@ -39,7 +39,8 @@ payload-returns t c =
 
 pub schema-returns-in-Object : goal.schema-returns-in-Object
 schema-returns-in-Object t c =
-    let same = ap (λ (fs : List Payload). object_of c.in-Object.common (payloads_term fs)) c.as_slice-in-Object.ensures
+    let same = ap (λ (fs : List Payload). object_of c.get-in-Object.result.now (payloads_term fs)) c.as_slice-in-Object.ensures
+    ∙ ap (λ common. object_of common (payloads_term c.in-Object.fields)) c.get-in-Object.ensures
     ∙ sym (ap schema_term c.in-Object.is ∙ term-Object c.in-Object.common c.in-Object.fields) in
     subst (λ (u : SchemaTerm). IfOk c.object_schema.result (λ tree. view tree ≡ schema_value u)) same c.object_schema.ensures
 
@@ -47,5 +48,6 @@ pub schema-returns-in_ok-value-in-Map : goal.schema-returns-in_ok-value-in-Map
 schema-returns-in_ok-value-in-Map t c =
     let key = c.in_ok-key-in-Map.ensures in
     let value = c.in_ok-value-in-Map.ensures in
+    let common = c.get-in-Map.ensures in
     let same = sym (ap (λ (s : Schema). schema_value (schema_term s)) c.in-Map.is ∙ ap schema_value (term-Map c.in-Map.common c.in-Map.key c.in-Map.value)) in
-    subst (λ (v : Json). IfOk c.map_schema.result (λ tree. view tree ≡ v)) ((λ i. schema_object (codes "Map") c.in-Map.common ((codes "mapKey", Some (key i)) ∷ (codes "mapValue", Some (value i)) ∷ [])) ∙ same) c.map_schema.ensures
+    subst (λ (v : Json). IfOk c.map_schema.result (λ tree. view tree ≡ v)) ((λ i. schema_object (codes "Map") (common i) ((codes "mapKey", Some (key i)) ∷ (codes "mapValue", Some (value i)) ∷ [])) ∙ same) c.map_schema.ensures
