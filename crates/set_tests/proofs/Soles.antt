@@ -2,11 +2,11 @@
 use Rattle.std.proofs.Common.{◌≡◌, ℕ, zero, suc, ◌<◌, List, [], ◌∷◌, map, sum, length, Bool, true, false, cond, ◌||◌, Some, None, refl, sym, ap, ◌∙◌, subst, true≢false, arith}
 use Rattle.std.specs.Prelude.{slice_get, IsSome}
 use Rattle.std.specs.Option.{is_some}
-use Rattle.std.specs.List.{AllByRecursion, list_any}
+use Rattle.std.specs.List.{AllByRecursion}
 use Rattle.std.specs.Ordering.{is_eq}
 use Rattle.std.proofs.lemmas.Option.{same_Some, none-some}
 use Rattle.std.proofs.lemmas.Slice.Eq.{bytes_eq-Decides}
-use Rattle.dtmi_name.specs.Grammar.{Identifier, dtmi_text, id_cmp, id_eq}
+use Rattle.dtmi_name.specs.Grammar.{Identifier, dtmi_text, id_eq}
 use Rattle.dtdl_terms.specs.Distinct.{AreDistinct, ContentIsDistinct, SchemaIsDistinct, schema_id, HasDeclaration}
 use Rattle.dtdl_terms.specs.TermViews.{schema_term, content_term}
 use Rattle.dtdl_terms.specs.declared.common.Entry.{Entry}
@@ -21,6 +21,8 @@ use Rattle.extend_resolve.specs.declared.rule.SetRule.TheVariants as rules
 use Rattle.extend_resolve.specs.Chains.{IsParent, IsChain, chain_end}
 use Rattle.extend_resolve.specs.SetRules.{NamesParent, HasTooManyContents}
 use Rattle.extend_resolve.specs.Breaches.{Breaks, BreaksNoRule}
+use Rattle.model_resolve.specs.Resolving.{EntryOf}
+use Rattle.resolved_table.specs.Tables.{ResolvesOthers}
 use Rattle.set_tests.specs.Lone.{IsLone}
 use Rattle.model_resolve.proofs.ByKey.{C, same_spelling, alike}
 
@@ -112,3 +114,20 @@ at_lone i id same = ap (λ b. cond b (Some i) None) (ap is_eq (ap (λ (j : Ident
 
 pub lone_there : (set : List Interface) (id : Identifier) → IsLone set id → IsSome (interface_at id set)
 lone_there set id (i, is, same, sound, declared) = ap is_some (ap (interface_at id) is ∙ at_lone i id same)
+
+other : (i : Interface) (id q : Identifier) → i.id ≡ id → id_eq q id ≡ false → interface_at q (i ∷ []) ≡ None
+other i id q same unlike =
+    elim (is_eq (C (dtmi_text q) (dtmi_text i.id))) as (λ b. is_eq (C (dtmi_text q) (dtmi_text i.id)) ≡ b → cond b (Some i) None ≡ None) [
+      | true ↦ λ e. absurd (true≢false (sym ((bytes_eq-Decides (dtmi_text q) (dtmi_text id)).1 (same_spelling (dtmi_text q) (dtmi_text i.id) e ∙ ap dtmi_text same)) ∙ unlike))
+      | false ↦ λ _. refl
+    ] refl
+
+or_false : (b : Bool) → (b || false) ≡ false → b ≡ false
+or_false true h = h
+or_false false h = refl
+
+pub lone_others : (set : List Interface) (id : Identifier) → IsLone set id → ResolvesOthers set (id ∷ []) []
+lone_others set id lone = record {
+  new = ((lone_there set id lone, refl), tt);
+  others = λ q none. subst (λ o. EntryOf set o None) (sym (ap (interface_at q) lone.1 ∙ other lone.0 id q lone.2 (or_false (id_eq q id) none))) tt;
+}

@@ -8,6 +8,7 @@ use dtdl_terms::{Interface, Localized, ModelSet};
 use dtmi_name::Dtmi;
 use extend_resolve::is_a;
 use model_resolve::{Resolutions, ancestors, parts, resolve};
+use resolved_table::Table;
 use std::alloc::Global;
 use std::test::Fail;
 
@@ -75,5 +76,23 @@ fn holds_a_lone_interface(rt: HostRuntime) -> Result<(), Fail> {
     );
     held.remove(&id);
     assert!(rt; held.get(&id).is_none());
+    Ok(())
+}
+
+#[test]
+fn keeps_the_entry_of_a_lone_interface(rt: HostRuntime) -> Result<(), Fail> {
+    let alloc = rt.alloc();
+    let id = Dtmi::read(alloc, "dtmi:a;1")?;
+    let set = lone(alloc, &id)?;
+    let mut ids = List::new(alloc);
+    ids.push(id.copy(alloc)?)?;
+    let mut table = Table::new(alloc);
+    table.add(&set, ids.as_slice())?;
+    assert_eq!(rt;
+        table.get(&id).map(|resolved| resolved.ancestors.len()),
+        Some(1)
+    );
+    table.remove(&id);
+    assert!(rt; table.get(&id).is_none());
     Ok(())
 }

@@ -1,0 +1,3 @@
+pub mod Tables
+-- What proofs alone rest on: no public contract speaks of it.
+pub mod Machinery
