@@ -16,6 +16,7 @@ use Rattle.dtdl_terms.specs.declared.resolved.Resolved.{Resolved}
 use Rattle.model_resolve.specs.Resolving.{IsResolved, EntryOf, entry_at}
 use Rattle.resolved_table.specs.Machinery.Without.{is_of, without}
 use Rattle.model_resolve.proofs.ByKey.{C, same_spelling, alike, lookup-insert}
+use Rattle.model_resolve.proofs.Changes.{all_map}
 
 abbrev Entries : Type 0
 Entries = List (Identifier × Resolved)
@@ -42,10 +43,6 @@ same_filter p q (x ∷ xs) all = ap (λ b. cond b (x ∷ filter p xs) (filter p 
 filter_every : {X : Type 0} (xs : List X) → filter (λ _. true) xs ≡ xs
 filter_every [] = refl
 filter_every (x ∷ xs) = ap (λ ys. x ∷ ys) (filter_every xs)
-
-pub all_map : {X : Type 0} (P Q : X → Type 0) (xs : List X) → ((x : X) → P x → Q x) → AllByRecursion P xs → AllByRecursion Q xs
-all_map P Q [] f all = tt
-all_map P Q (x ∷ xs) f all = (f x all.0, all_map P Q xs f all.1)
 
 any_at : {X : Type 0} (p : X → Bool) (xs : List X) (x : X) (k : ℕ) → k < length xs → x ≡ slice_index_or xs k x → p x ≡ true → list_any p xs ≡ true
 any_at p [] x k low is h = absurd (omega (arith, low))

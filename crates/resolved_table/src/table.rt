@@ -4,7 +4,7 @@ ghost use Rattle.std.specs.Prelude.{◌≡◌, [], Some, IsSome, IfOk, OnOk, OnE
 ghost use Rattle.std.specs.Option.{option_copied};
 ghost use Rattle.std.specs.List.{AllByRecursion};
 ghost use Rattle.std.specs.List.Sorted.{IsStrictlySortedBy};
-ghost use Rattle.std.specs.Map.{lookup, remove_entry, keys_of};
+ghost use Rattle.std.specs.Map.{remove_entry, keys_of};
 ghost use Rattle.std.specs.BTreeMap.{is_at, insert_entry};
 ghost use Rattle.dtmi_name.specs.Grammar.{id_cmp};
 ghost use Rattle.dtdl_terms.specs.Distinct.{HasDeclaration};
@@ -12,7 +12,7 @@ ghost use Rattle.dtdl_terms.specs.Sets.{interface_at};
 ghost use Rattle.dtdl_terms.specs.declared.interface.Interface.{Interface};
 ghost use Rattle.dtdl_terms.specs.declared.resolved.Resolved.{Resolved};
 ghost use Rattle.extend_resolve.specs.Breaches.{BreaksNoRule};
-ghost use Rattle.model_resolve.specs.Resolving.{IsResolved};
+ghost use Rattle.model_resolve.specs.Resolving.{IsResolved, entry_at};
 ghost use Rattle.resolved_table.specs.Tables.{ResolvesAll, ResolvesOthers};
 ghost use Rattle.resolved_table.specs.Machinery.Without.{without};
 
@@ -62,7 +62,7 @@ impl Table {
 
     /// The entry of an identifier, `None` exactly where there is none. Takes no memory.
     pub fn get(&self, id: &Dtmi) -> Option<&Resolved>
-        ensures { option_copied result ≡ lookup (is_at (id_cmp id.now)) self.now }
+        ensures { option_copied result ≡ entry_at id.now self.now }
     {
         self.entries.get(id)
     }
@@ -75,8 +75,8 @@ impl Table {
         let _entry = self.entries.remove(id);
     }
 
-    /// Adds the entries of the interfaces that came into a set that breaks no rule. `Err` is want of memory: nothing
-    /// changes.
+    /// Adds the entries of the interfaces that came into a set that breaks no rule, where it has those of all others and
+    /// none of theirs. `Err` is want of memory: nothing changes.
     pub fn add(&mut self, set: &ModelSet, ids: &[Dtmi]) -> Result<(), OutOfMemory>
         requires sound { BreaksNoRule set.now }
         requires declared { AllByRecursion HasDeclaration set.now }

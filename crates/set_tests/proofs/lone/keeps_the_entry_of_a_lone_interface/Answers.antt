@@ -4,7 +4,6 @@ use Rattle.resolved_table.specs.Tables.{ResolvesOthers}
 use Rattle.set_tests.proofs.Soles.{lone_others}
 use Rattle.set_tests.proofs.lone.keeps_the_entry_of_a_lone_interface.Goals as goal
 
--- src/lone.rt:90:5
 pub add-requires-clause-others : goal.add-requires-clause-others
 add-requires-clause-others g c =
     let ids : c.as_slice.result.now ≡ c.in_ok-id.id ∷ [] =

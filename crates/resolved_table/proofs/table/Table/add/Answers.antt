@@ -5,8 +5,9 @@ use Rattle.dtmi_name.specs.Grammar.{id_eq}
 use Rattle.dtdl_terms.specs.Sets.{interface_at}
 use Rattle.model_resolve.specs.Resolving.{entry_at}
 use Rattle.resolved_table.specs.Machinery.Without.{without}
+use Rattle.model_resolve.proofs.Changes.{all_map}
 use Rattle.model_resolve.proofs.Families.{some_of}
-use Rattle.resolved_table.proofs.Entries.{without_absent, all_map, all_at, one_more, without_put, is_of_at, drop_next}
+use Rattle.resolved_table.proofs.Entries.{without_absent, all_at, one_more, without_put, is_of_at, drop_next}
 use Rattle.resolved_table.proofs.table.Table.add.Goals as goal
 
 pub ids-init : goal.ids-init
