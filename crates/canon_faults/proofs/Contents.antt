@@ -30,8 +30,9 @@ use Rattle.local_rules.specs.declared.role.SchemaUse.{SchemaUse}
 use Rattle.local_rules.specs.declared.role.SchemaUse.TheVariants as schema_use
 use Rattle.local_rules.specs.declared.role.Role.{Role}
 use Rattle.local_rules.specs.declared.role.Role.TheVariants as role
-use Rattle.model_read.specs.Declarations.{AreEntriesOf, AreKind, AreProperties, HasCommon, HasKindOf, HasMax, HasOptionalPayload, HasOptionalString, HasSchema, HasString, IsContent, IsPropertyTerm, IsSchema, IsSemantic, IsWritable, type_of_kind}
-use Rattle.model_read.specs.Limits.{KindIsWithin, ContentIsWithin, ContentsAreWithin, HasShortTexts, OuterPayloadIsWithin, OuterSchemaIsWithin}
+use Rattle.model_read.specs.Declarations.{AreEntriesOf, AreKind, AreProperties, HasCommon, HasKindOf, HasMax, HasOptionalPayload, HasOptionalString, HasSchema, HasString, IsContent, IsSchema, IsSemantic, DeclaresWritable}
+use Rattle.local_rules.specs.Typed.{IsPropertyTerm, type_of_kind, ContentIsTyped, KindIsTyped, NamesNoType, PropertiesAreTyped}
+use Rattle.local_rules.specs.Limits.{KindIsWithin, ContentIsWithin, ContentsAreWithin, HasShortTexts, OuterPayloadIsWithin, OuterSchemaIsWithin}
 use Rattle.model_read.specs.Machinery.Shapes.{CanBe, CanBeTypes}
 use Rattle.model_read.proofs.Leaves as leaves
 use Rattle.model_read.proofs.Valid.{here}
@@ -42,7 +43,6 @@ use Rattle.canon_text.specs.Objects.{list_in_order, unless_empty}
 use Rattle.canon_text.specs.Canonical.{content_pairs, content_pair, content_value, kind_parts, kind_type, most_value, payload_value, schema_value, typed, writable_value}
 use Rattle.canon_text.specs.Machinery.Pairs.{pair_name, pair_value}
 use Rattle.canon_text.proofs.Told.{are_distinct, keys_of}
-use Rattle.canon_laws.specs.Typed.{ContentIsTyped, KindIsTyped, NamesNoType, PropertiesAreTyped}
 use Rattle.canon_laws.proofs.Tables.{id_told, string_told, whole_is}
 use Rattle.canon_laws.proofs.Contents.{kind_type_at, kind_type_in, name_found, table, two_further, typed_type}
 use Rattle.canon_faults.proofs.Everywhere.{Everywhere}
@@ -183,7 +183,7 @@ module _ (cs ms : Members Number) (none : BreaksNowhere (object ms))
   abbrev StandsAt : Role → Members Number → List ℕ → Type 0
   StandsAt q ns k = (v : Json) → value_at k ns ≡ Some v → Stands whole q v
 
-  writable_part : (o : Bool) (own : Option Json) → IsWritable own o → ((v : Json) → own ≡ Some v → Stands whole role.Writable v)
+  writable_part : (o : Bool) (own : Option Json) → DeclaresWritable own o → ((v : Json) → own ≡ Some v → Stands whole role.Writable v)
       → PartGood cs (Some role.Writable) (Some role.Writable) (writable_value o) own
   writable_part false own is stands = tt
   writable_part true None is stands = absurd cc

@@ -1,7 +1,7 @@
 -- What the canonical text of a set declares is a set of its own, which declares the same.
 use Rattle.std.proofs.Common.{◌≡◌, ◌≢◌, ℕ, List, [], ◌∷◌, map, refl, sym, ap, subst}
 use Rattle.std.specs.List.{AllByRecursion}
-use Rattle.dtmi_name.specs.Grammar.{dtmi_text}
+use Rattle.dt_base.specs.names.Grammar.{dtmi_text}
 use Rattle.json_tree.specs.Grammar.{Spells}
 use Rattle.dtdl_terms.specs.Distinct.{AreDistinct, HasDeclaration}
 use Rattle.dtdl_terms.specs.Equality.{DeclareTheSame, SameElements}
@@ -14,14 +14,14 @@ use Rattle.canon_text.specs.Canonical.{interface_pair, set_value}
 use Rattle.canon_text.specs.Identified.{InterfaceIsIdentified}
 use Rattle.canon_text.specs.Machinery.Pairs.{pair_name}
 use Rattle.canon_text.proofs.Told.{all_mapped, all_unmapped, all_with}
-use Rattle.canon_laws.specs.Typed.{IsTyped}
+use Rattle.local_rules.specs.Typed.{IsTyped}
 use Rattle.canon_laws.proofs.Documents.{set_pairs, set_same}
 use Rattle.canon_faults.specs.Declared.{IsSoundlyDeclared}
 use Rattle.canon_faults.proofs.Alike.{AreApart, interfaces}
 use Rattle.canon_faults.proofs.Apart.{Pairwise, pairwise_sorted}
 use Rattle.canon_faults.proofs.Good.{Pairs}
 use Rattle.canon_faults.proofs.Identified.{interface_own, uploads_own}
-use Rattle.canon_faults.proofs.NormalForms.{spelled_distinct}
+use Rattle.json_tree.proofs.DistinctKeys.{spelled_distinct}
 use Rattle.canon_faults.proofs.Nowhere.{no_breach}
 use Rattle.canon_faults.proofs.Uploads.{typed_so}
 

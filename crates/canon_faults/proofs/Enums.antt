@@ -34,14 +34,14 @@ use Rattle.local_rules.specs.declared.role.ValueSchema.TheVariants as value_sche
 use Rattle.local_rules.specs.declared.role.Role.{Role}
 use Rattle.local_rules.specs.declared.role.Role.TheVariants as role
 use Rattle.model_read.specs.Declarations.{HasString, IsEnumEntry, IsEnumValue, value_schema as declared_value_schema}
-use Rattle.model_read.specs.Limits.{EnumEntryIsWithin}
+use Rattle.local_rules.specs.Limits.{EnumEntryIsWithin}
 use Rattle.model_read.proofs.Valid.{here}
 use Rattle.model_read.proofs.Standing.{BreaksNowhere, Stands, entry_at, entry_stands, key_at, key_stands, stands_valid}
 use Rattle.model_read.proofs.Pairs.{distinct_pairs, mapped_back, zip_at}
 use Rattle.canon_text.specs.Sorting.{sorted_by}
 use Rattle.canon_text.specs.Numbers.{whole as whole_number}
 use Rattle.canon_text.specs.Objects.{list_in_order}
-use Rattle.canon_text.specs.Canonical.{element_parts, enum_entry_pair, enum_entry_value, enum_value, value_schema}
+use Rattle.canon_text.specs.Canonical.{element_parts, enum_entry_pair, enum_entry_value, enum_value, value_schema_json}
 use Rattle.canon_text.specs.Machinery.Pairs.{pair_name, pair_value}
 use Rattle.canon_text.proofs.Wholes.{whole_told}
 use Rattle.canon_faults.proofs.Counts.{ids_count}
@@ -81,7 +81,7 @@ abbrev pub kind_of_values : Bool → ValueSchema
 kind_of_values true = value_schemas.String
 kind_of_values false = value_schemas.Integer
 
-schema_text : (a : Bool) → value_schema a ≡ text (declared_value_schema a)
+schema_text : (a : Bool) → value_schema_json a ≡ text (declared_value_schema a)
 schema_text true = refl
 schema_text false = refl
 
@@ -294,7 +294,7 @@ module _ (cs : Members Number) (whole : Json) (none : BreaksNowhere whole)
       let k = kind_of_values a in
       let ps : Parts = table (codes "Enum") c (enum_parts a es) in
       let canonical : schema_of_values (members ps) ≡ k =
-      asks a (members ps) (under (codes "valueSchema") ps (Some (value_schema a)) refl ∙ ap (λ (v : Json). Some v) (schema_text a)) in
+      asks a (members ps) (under (codes "valueSchema") ps (Some (value_schema_json a)) refl ∙ ap (λ (v : Json). Some v) (schema_text a)) in
       let own : schema_of_values ns ≡ k = asks a ns asked_for in
       let list_stands = subst (λ (j : ValueSchema). Stands whole (role.EnumValues j) (array vs)) own
       (key_stands whole r ns e key.EnumValues (codes "enumValues") (array vs) is refl listed stands) in

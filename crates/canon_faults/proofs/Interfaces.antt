@@ -2,7 +2,7 @@
 use Rattle.std.proofs.Common.{◌≡◌, ◌≢◌, ℕ, zero, suc, ◌≤◌, inl, inr, List, [], ◌∷◌, length, map, ℤ, Option, Some, None, refl, sym, ap, subst, ◌∙◌, arith}
 use Rattle.std.specs.Prelude.{codes}
 use Rattle.std.specs.List.{AllByRecursion, AllZip}
-use Rattle.dtmi_name.specs.Grammar.{Identifier, OwnDtmiText, dtmi_text}
+use Rattle.dt_base.specs.names.Grammar.{Identifier, OwnDtmiText, dtmi_text}
 use Rattle.json_decimal.specs.Number.{Number}
 use Rattle.json_decimal.specs.Comparing.{IsWhole}
 use Rattle.json_tree.specs.Values.{Json, number, text, object, Elements, no_elements, element, elements_of, Members}
@@ -25,7 +25,7 @@ use Rattle.local_rules.specs.declared.role.Position.TheVariants as position
 use Rattle.local_rules.specs.declared.role.Role.{Role}
 use Rattle.local_rules.specs.declared.role.Role.TheVariants as role
 use Rattle.model_read.specs.Declarations.{AreEntriesOf, DeclaresInterface, HasContents, HasParents, HasSchemas, IsContentEntry, IsIdentifier, IsSchema}
-use Rattle.model_read.specs.Limits.{ContentIsWithin, IsShortInterfaceId, IsWithinLimits, OuterSchemaIsWithin}
+use Rattle.local_rules.specs.Limits.{ContentIsWithin, IsShortInterfaceId, IsWithinLimits, OuterSchemaIsWithin}
 use Rattle.model_read.proofs.Once.{identifier_once}
 use Rattle.model_read.proofs.Standing.{BreaksNowhere, Stands, entry_stands, itself, key_stands}
 use Rattle.canon_text.specs.Sorting.{sorted_by}
@@ -33,7 +33,7 @@ use Rattle.canon_text.specs.Objects.{list_in_order, unless_empty}
 use Rattle.canon_text.specs.Canonical.{id_value, interface_value, parent_pair, schema_value}
 use Rattle.canon_text.specs.Machinery.Pairs.{pair_name, pair_value}
 use Rattle.canon_text.proofs.Told.{all_sorted}
-use Rattle.canon_laws.specs.Typed.{ContentIsTyped, IsTyped}
+use Rattle.local_rules.specs.Typed.{ContentIsTyped, IsTyped}
 use Rattle.canon_laws.proofs.Tables.{string_told}
 use Rattle.canon_laws.proofs.Contents.{content_named, interface_parts, schema_named}
 use Rattle.canon_faults.proofs.Counts.{each_count, ids_count}

@@ -3,7 +3,7 @@ use Rattle.std.proofs.Common.{◌≡◌, ◌≢◌, ℕ, zero, suc, ◌<◌, inl
 use Rattle.std.specs.Prelude.{slice_get}
 use Rattle.std.specs.List.{AllByRecursion}
 use Rattle.std.proofs.lemmas.Bool.{cases_order}
-use Rattle.dtmi_name.specs.Grammar.{Identifier, dtmi_text}
+use Rattle.dt_base.specs.names.Grammar.{Identifier, dtmi_text}
 use Rattle.dtdl_terms.specs.Sets.{interface_at}
 use Rattle.dtdl_terms.specs.Distinct.{AreDistinct, HasDeclaration}
 use Rattle.dtdl_terms.specs.Equality.{AnyByRecursion, DeclareTheSame, SameElements}
@@ -13,7 +13,7 @@ use Rattle.dtdl_terms.specs.declared.spot.Spot.TheVariants as spots
 use Rattle.dtdl_terms.specs.declared.uploaded.Uploaded.{Uploaded}
 use Rattle.extend_resolve.specs.Chains.{HaveOneId, IsAncestor}
 use Rattle.extend_resolve.specs.SetRules.{DeclaresComponent, HasComponent, HasParent, IsComponentOf, RepeatsId}
-use Rattle.extend_resolve.specs.Breaches.{Breaks, IsSound}
+use Rattle.extend_resolve.specs.Breaches.{BreaksSetRule, IsSound}
 use Rattle.extend_resolve.specs.declared.rule.SetRule.{SetRule}
 use Rattle.extend_resolve.specs.declared.rule.SetRule.TheVariants as rules
 use Rattle.model_read.proofs.Pairs.{mapped_back}
@@ -90,8 +90,8 @@ module _ (one other : List Interface) (to : Finds one other) (from : Finds other
       (f ∷ fs, (ancestor, ancestors), ap₂ (λ (t : List ℕ) (ts : List (List ℕ)). t ∷ ts) same.id ids, ap₂ (λ (n : ℕ) (ns : List ℕ). n ∷ ns) same.long longs)
 
   -- what it breaks, the other breaks
-  module _ (earlier : List Interface) (none : (rule : SetRule) (spot : Spot) → Breaks one earlier i rule spot → ⊥) (distinct : AreDistinct j.parents) where
-    clash : (k : ℕ) → Breaks other [] j rules.NameClash (spots.Parent k) → ⊥
+  module _ (earlier : List Interface) (none : (rule : SetRule) (spot : Spot) → BreaksSetRule one earlier i rule spot → ⊥) (distinct : AreDistinct j.parents) where
+    clash : (k : ℕ) → BreaksSetRule other [] j rules.NameClash (spots.Parent k) → ⊥
     clash k (q, e, name, parent, reaches, inl (declares, not_own)) =
         let (m, x, at, found, same) = parent_at k q parent in
         let (f, reach, ends) = reaches_alike other one from q x e name same reaches in
@@ -123,7 +123,7 @@ module _ (one other : List Interface) (to : Finds one other) (from : Finds other
           )
         ]
 
-    pub judged : (before : List Interface) → (RepeatsId before j → ⊥) → (rule : SetRule) (spot : Spot) → Breaks other before j rule spot → ⊥
+    pub judged : (before : List Interface) → (RepeatsId before j → ⊥) → (rule : SetRule) (spot : Spot) → BreaksSetRule other before j rule spot → ⊥
     judged before free rules.RepeatedId spots.Id b = free b
     judged before free rules.RepeatedId spot b = b
     judged before free rules.AbsentReference (spots.Parent k) (p, at, lacks) =
@@ -190,7 +190,7 @@ module _ (us vs : List Uploaded) (same : SameElements DeclareTheSame (interfaces
       (k, u, u_at, subst (λ (z : Interface). Alike z v.interface) (sym u_is) (swapped v.interface i back_like))
 
   breaks_none : IsSound [] us → (k : ℕ) (u : Uploaded) → slice_get us k ≡ Some u → (rule : SetRule) (spot : Spot)
-      → Breaks (interfaces us) (interfaces (take k us)) u.interface rule spot → ⊥
+      → BreaksSetRule (interfaces us) (interfaces (take k us)) u.interface rule spot → ⊥
   breaks_none sound k u at rule spot breaks = sound (record { index = k; rule = rule; spot = spot }) (u, at, breaks)
 
   free_of : (l : ℕ) (v : Uploaded) → slice_get vs l ≡ Some v → RepeatsId (interfaces (take l vs)) v.interface → ⊥

@@ -2,7 +2,7 @@
 use Rattle.std.proofs.Common.{◌≡◌, ℕ, inl, inr, List, IsTrue, Bool, true, false, refl, sym, subst, arith}
 use Rattle.std.specs.Prelude.{codes}
 use Rattle.std.proofs.lemmas.Bool.{false≢true}
-use Rattle.dtmi_name.specs.Grammar.{Identifier, OwnDtmiText, dtmi_text, is_reserved}
+use Rattle.dt_base.specs.names.Grammar.{Identifier, OwnDtmiText, dtmi_text, is_reserved}
 use Rattle.json_tree.specs.Values.{text}
 use Rattle.local_rules.specs.Types.{NamesNothing}
 use Rattle.local_rules.specs.Breaches.{BreaksAlone}
@@ -12,7 +12,7 @@ use Rattle.local_rules.specs.declared.role.Localized.TheVariants as localized
 use Rattle.local_rules.specs.declared.role.Position.{Position}
 use Rattle.local_rules.specs.declared.role.Role.{Role}
 use Rattle.local_rules.specs.declared.role.Role.TheVariants as role
-use Rattle.model_read.specs.Limits.{IsShortInterfaceId, IsShortText}
+use Rattle.local_rules.specs.Limits.{IsShortInterfaceId, IsShortText}
 use Rattle.canon_faults.proofs.Fine.{all_alone}
 
 abbrev BreaksNone : Role → List ℕ → Type 0

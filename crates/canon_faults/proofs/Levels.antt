@@ -2,7 +2,7 @@
 use Rattle.std.proofs.Common.{◌≡◌, ℕ, zero, suc, ◌⊎◌, inl, inr, List, [], ◌∷◌, map, true, find, Option, Some, None, refl, sym, ap, subst, ◌∙◌}
 use Rattle.std.specs.Prelude.{codes, Contains}
 use Rattle.std.specs.List.{AllByRecursion}
-use Rattle.dtmi_name.specs.Grammar.{Identifier, OwnDtmiText, dtmi_text}
+use Rattle.dt_base.specs.names.Grammar.{Identifier, OwnDtmiText, dtmi_text}
 use Rattle.json_decimal.specs.Number.{Number}
 use Rattle.json_tree.specs.Values.{Json, text, object, Elements, Members}
 use Rattle.dtdl_terms.specs.Terms.{SchemaTerm, primitive, named, array_of, enumeration, map_of, object_of}
@@ -12,7 +12,7 @@ use Rattle.dtdl_terms.specs.Distinct.{AreDistinct, schema_id}
 use Rattle.dtdl_terms.specs.declared.schema.Schema.{Schema}
 use Rattle.local_rules.specs.Members.{list_of, value_at}
 use Rattle.local_rules.specs.Identifiers.{OfText}
-use Rattle.local_rules.specs.Levels.{IsComplex, UnknownSchema, HasLevel, ReachesWithin, IsPrimitive, entries_at, entries_under, has_id, parts_by, schema_named, schema_parts, schema_type}
+use Rattle.local_rules.specs.Levels.{IsComplex, UnknownSchema, HasLevel, ReachesWithin, IsPrimitiveName, entries_at, entries_under, has_id, parts_by, schema_named, schema_parts, schema_type}
 use Rattle.local_rules.specs.Breaches.{BreaksBySchemas}
 use Rattle.local_rules.specs.declared.rule.LocalRule.{LocalRule}
 use Rattle.local_rules.specs.declared.rule.LocalRule.TheVariants as rule
@@ -171,7 +171,7 @@ module _ (cs ms : Members Number) (ss : List Schema) (canonical : value_at (code
       → (own : List Json) × IsComplex ms v type own × Parts parts own
   complex_alike s v type parts g complex = by complex.leads
     where
-      by : (schema_value s ≡ complex.whole) ⊎ ((bytes : List ℕ) × (schema_value s ≡ text bytes) × (IsPrimitive bytes → ⊥) × (schema_named cs bytes ≡ Some complex.whole))
+      by : (schema_value s ≡ complex.whole) ⊎ ((bytes : List ℕ) × (schema_value s ≡ text bytes) × (IsPrimitiveName bytes → ⊥) × (schema_named cs bytes ≡ Some complex.whole))
           → (own : List Json) × IsComplex ms v type own × Parts parts own
       by (inl is) =
           let alike = parts_alike s v type parts g (ap schema_type is ∙ complex.typed) (ap schema_parts is ∙ complex.parted) in
@@ -212,9 +212,9 @@ module _ (cs ms : Members Number) (ss : List Schema) (canonical : value_at (code
   -- ---- the rules on schemas
   module _ (none : BreaksNowhere (object ms)) where
     known_alike : (id : Identifier) (part : SchemaUse) (r : Role) (v : Json) → v ≡ text (dtmi_text id) → r ≡ role.Schema part → Stands (object ms) r v
-        → (IsPrimitive (dtmi_text id) → ⊥) → schema_named cs (dtmi_text id) ≡ None → (o : Option Json) → schema_named ms (dtmi_text id) ≡ o → ⊥
+        → (IsPrimitiveName (dtmi_text id) → ⊥) → schema_named cs (dtmi_text id) ≡ None → (o : Option Json) → schema_named ms (dtmi_text id) ≡ o → ⊥
     known_alike id part r v is of stands other lacks None unknown =
-        let Unknown : List ℕ → Type 0 = λ t. (IsPrimitive t → ⊥) × (schema_named ms t ≡ None) in
+        let Unknown : List ℕ → Type 0 = λ t. (IsPrimitiveName t → ⊥) × (schema_named ms t ≡ None) in
         none stands.place rule.UnknownSchema (r, v, stands.there, inr (inr (inl (part, of, subst (OfText Unknown) (sym is) (other, unknown)))))
     known_alike id part r v is of stands other lacks (Some w) found =
         let (s, among, g, called) = declared_named (dtmi_text id) w found in

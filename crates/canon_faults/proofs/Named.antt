@@ -4,7 +4,7 @@ use Rattle.std.specs.Prelude.{codes, option_to_list}
 use Rattle.std.specs.Option.{option_map}
 use Rattle.std.specs.List.{AllByRecursion}
 use Rattle.std.proofs.lemmas.Slice.Eq.{bytes_eq-Decides}
-use Rattle.dtmi_name.specs.Grammar.{Identifier, dtmi_text}
+use Rattle.dt_base.specs.names.Grammar.{Identifier, dtmi_text}
 use Rattle.json_decimal.specs.Number.{Number}
 use Rattle.json_tree.specs.Values.{Json, text, Elements, no_elements, element, Members, members_of}
 use Rattle.dtdl_terms.specs.Terms.{SchemaTerm, primitive, named, array_of, enumeration, map_of, object_of, PayloadTerm, payload, PayloadTerms, no_payloads, more_payloads}
@@ -23,7 +23,7 @@ use Rattle.local_rules.proofs.Named.{id_is}
 use Rattle.model_read.specs.Declarations.{IsPayload, ArePayloads, IsSchema}
 use Rattle.canon_text.specs.Sorting.{sorted_by}
 use Rattle.canon_text.specs.Objects.{present, list_in_order}
-use Rattle.canon_text.specs.Canonical.{element_parts, enum_entry_pair, id_value, payload_pairs, payload_value, schema_value, value_schema}
+use Rattle.canon_text.specs.Canonical.{element_parts, enum_entry_pair, id_value, payload_pairs, payload_value, schema_value, value_schema_json}
 use Rattle.canon_text.specs.Machinery.Pairs.{pair_name, pair_value}
 use Rattle.canon_text.proofs.Told.{all_with, any_unmapped, sorted_any}
 use Rattle.canon_laws.proofs.Tables.{at, first_some, found, id_told}
@@ -51,7 +51,7 @@ abbrev pub array_parts : SchemaTerm → Parts
 array_parts s = (codes "elementSchema", Some (schema_value s)) ∷ []
 
 abbrev pub enum_parts : Bool → List EnumEntry → Parts
-enum_parts a es = (codes "enumValues", Some (list_in_order (map enum_entry_pair es))) ∷ (codes "valueSchema", Some (value_schema a)) ∷ []
+enum_parts a es = (codes "enumValues", Some (list_in_order (map enum_entry_pair es))) ∷ (codes "valueSchema", Some (value_schema_json a)) ∷ []
 
 abbrev pub map_parts : PayloadTerm → PayloadTerm → Parts
 map_parts k e = (codes "mapKey", Some (payload_value k)) ∷ (codes "mapValue", Some (payload_value e)) ∷ []

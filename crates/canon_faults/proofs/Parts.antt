@@ -4,7 +4,7 @@ use Rattle.std.specs.Prelude.{codes, IfSome, is_some}
 use Rattle.std.specs.Option.{option_map}
 use Rattle.std.specs.List.{AllByRecursion, AllZip}
 use Rattle.std.proofs.lemmas.Bool.{false≢true, true_from_ne_false}
-use Rattle.dtmi_name.specs.Grammar.{Identifier}
+use Rattle.dt_base.specs.names.Grammar.{Identifier}
 use Rattle.json_decimal.specs.Number.{Number}
 use Rattle.json_tree.specs.Values.{Json, null, truth, number, text, array, object, Members, no_members, member, members_of}
 use Rattle.json_tree.specs.Places.{member_at}
@@ -25,7 +25,7 @@ use Rattle.local_rules.specs.declared.role.Localized.TheVariants as localized
 use Rattle.local_rules.specs.declared.role.Role.{Role}
 use Rattle.local_rules.specs.declared.role.Role.TheVariants as role
 use Rattle.model_read.specs.Declarations.{HasCommon, IsLocalized, IsLocalizedBy, IsTextOfLanguage}
-use Rattle.model_read.specs.Limits.{HasShortTexts, IsShortText}
+use Rattle.local_rules.specs.Limits.{HasShortTexts, IsShortText}
 use Rattle.model_read.proofs.Valid.{here}
 use Rattle.model_read.proofs.Standing.{BreaksNowhere, Stands, key_stands, part_stands, stands_valid}
 use Rattle.canon_text.specs.Sorting.{sorted_by}

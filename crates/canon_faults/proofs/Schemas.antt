@@ -7,7 +7,7 @@ use Rattle.json_decimal.specs.Number.{Number}
 use Rattle.json_decimal.specs.Comparing.{IsWhole}
 use Rattle.json_tree.specs.Values.{Json, number, text, array, object, Elements, no_elements, element, elements_of, Members}
 use Rattle.json_tree.specs.Places.{element_at}
-use Rattle.dtmi_name.specs.Grammar.{dtmi_text}
+use Rattle.dt_base.specs.names.Grammar.{dtmi_text}
 use Rattle.dtdl_terms.specs.Primitives.{primitive_name}
 use Rattle.dtdl_terms.specs.Terms.{SchemaTerm, primitive, named, array_of, enumeration, map_of, object_of, PayloadTerm, payload, PayloadTerms, no_payloads, more_payloads}
 use Rattle.dtdl_terms.specs.Distinct.{AreDistinct, PayloadIsDistinct, PayloadsAreDistinct, SchemaIsDistinct, payload_name, payload_names}
@@ -32,7 +32,7 @@ use Rattle.local_rules.specs.declared.role.Role.TheVariants as role
 use Rattle.local_rules.proofs.Wanted.{lacks_first}
 use Rattle.local_rules.specs.Kinds.{LacksKeyOf, needed_keys}
 use Rattle.model_read.specs.Declarations.{ArePayloads, HasCommon, IsPayload, IsSchema}
-use Rattle.model_read.specs.Limits.{HasShortTexts, PayloadIsWithin, PayloadsAreWithin, SchemaIsWithin}
+use Rattle.local_rules.specs.Limits.{HasShortTexts, PayloadIsWithin, PayloadsAreWithin, SchemaIsWithin}
 use Rattle.model_read.proofs.Valid.{here}
 use Rattle.model_read.proofs.Standing.{BreaksNowhere, Stands, entry_stands, key_stands, stands_valid}
 use Rattle.model_read.proofs.Within.{IsPayloadRole, IsSchemaRole, payload_element, payload_schema, schema_element}

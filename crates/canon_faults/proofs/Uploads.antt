@@ -8,18 +8,19 @@ use Rattle.dtdl_terms.specs.Distinct.{HasDeclaration}
 use Rattle.dtdl_terms.specs.declared.interface.Interface.{Interface}
 use Rattle.dtdl_terms.specs.declared.uploaded.Uploaded.{Uploaded}
 use Rattle.model_read.specs.Declarations.{DeclaresInterface}
-use Rattle.model_read.specs.Limits.{IsWithinLimits}
+use Rattle.local_rules.specs.Limits.{IsWithinLimits}
 use Rattle.model_read.specs.Uploads.{AreUploaded}
 use Rattle.model_read.proofs.Standing.{BreaksNowhere}
 use Rattle.model_read.proofs.Apart.{element_distinct, interface_apart}
 use Rattle.model_read.proofs.Documents.{each_is}
 use Rattle.model_read.proofs.Within.{interface_within}
-use Rattle.canon_laws.specs.Typed.{IsTyped}
+use Rattle.local_rules.specs.Typed.{IsTyped}
 use Rattle.canon_laws.proofs.Documents.{interface_typed}
 use Rattle.canon_faults.specs.Normal.{HasNormalNumbers}
 use Rattle.local_rules.specs.Breaches.{BreaksNoLocalRule}
 use Rattle.canon_faults.specs.Declared.{IsSoundlyDeclared}
-use Rattle.canon_faults.proofs.NormalForms.{element_normal, spelled_distinct, spelled_normal}
+use Rattle.json_tree.proofs.DistinctKeys.{spelled_distinct}
+use Rattle.canon_faults.proofs.NormalForms.{element_normal, spelled_normal}
 
 abbrev IsRead : Json → Type 0
 IsRead v = HasDistinctKeys v × HasNormalNumbers v

@@ -2,7 +2,7 @@
 
 ghost use Rattle.std.specs.Prelude.{ℕ, List, [], map};
 ghost use Rattle.std.specs.List.{AllByRecursion};
-ghost use Rattle.dtmi_name.specs.Grammar.{dtmi_text};
+ghost use Rattle.dt_base.specs.names.Grammar.{dtmi_text};
 ghost use Rattle.json_tree.specs.Grammar.{Spells};
 ghost use Rattle.dtdl_terms.specs.Distinct.{AreDistinct, HasDeclaration};
 ghost use Rattle.dtdl_terms.specs.Equality.{DeclareTheSame, SameElements};

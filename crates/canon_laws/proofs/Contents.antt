@@ -3,7 +3,7 @@ use Rattle.std.proofs.Common.{◌≡◌, ℕ, inl, inr, List, [], ◌∷◌, ◌
 use Rattle.std.specs.Prelude.{codes, IfSome}
 use Rattle.std.specs.Option.{option_and_then, option_map}
 use Rattle.std.specs.List.{AllByRecursion, AllZip}
-use Rattle.dtmi_name.specs.Grammar.{Identifier, dtmi_text}
+use Rattle.dt_base.specs.names.Grammar.{Identifier, dtmi_text}
 use Rattle.json_decimal.specs.Number.{Number}
 use Rattle.json_tree.specs.Values.{Json, text, array, object, Elements, no_elements, element, elements_of, Members, members_of}
 use Rattle.local_rules.specs.Members.{list_of, value_at}
@@ -20,11 +20,11 @@ use Rattle.dtdl_terms.specs.declared.common.Common.{Common}
 use Rattle.dtdl_terms.specs.declared.content.Content.{Content}
 use Rattle.dtdl_terms.specs.declared.interface.Interface.{Interface}
 use Rattle.dtdl_terms.specs.declared.schema.Schema.{Schema}
-use Rattle.model_read.specs.Declarations.{IsIdentifier, HasId, HasOptionalString, HasOptionalId, IsSemantic, type_of_kind, IsPropertyTerm, AreKind, IsContent, AreProperties, HasKindOf, IsContentEntry, HasParents, IsSchema, DeclaresInterface}
+use Rattle.model_read.specs.Declarations.{IsIdentifier, HasId, HasOptionalString, HasOptionalId, IsSemantic, AreKind, IsContent, AreProperties, HasKindOf, IsContentEntry, HasParents, IsSchema, DeclaresInterface}
+use Rattle.local_rules.specs.Typed.{type_of_kind, IsPropertyTerm, NamesNoType, KindIsTyped, ContentIsTyped, PropertiesAreTyped, IsTyped}
 use Rattle.canon_text.specs.Objects.{present, object_of_parts, list_in_order, unless_empty}
 use Rattle.canon_text.specs.Canonical.{id_value, localized_value, element_parts, schema_pair, typed, kind_type, writable_value, most_value, kind_parts, content_value, content_pairs, content_pair, parent_pair, interface_value, interface_pair}
 use Rattle.canon_text.proofs.Told.{all_with, all_mapped}
-use Rattle.canon_laws.specs.Typed.{NamesNoType, KindIsTyped, ContentIsTyped, PropertiesAreTyped, IsTyped}
 use Rattle.canon_laws.proofs.Tables.{Pairs, Parts, first_some, found, at, same_some, string_told, id_told, writable_back, most_back, PairBack, optional_back, localized_back, LacksCommon, type_at, element_back}
 use Rattle.canon_laws.proofs.Schemas.{schema_back, schema_part_back, optional_payload_back}
 

@@ -23,7 +23,7 @@ use Rattle.canon_text.specs.Identified.{InterfaceIsIdentified}
 use Rattle.canon_text.specs.Machinery.Pairs.{pair_name, pair_value}
 use Rattle.canon_text.proofs.Sets.{set_told}
 use Rattle.canon_text.proofs.Told.{all_sorted, all_mapped, all_with}
-use Rattle.canon_laws.specs.Typed.{NamesNoType, KindIsTyped, ContentIsTyped, PropertiesAreTyped, IsTyped}
+use Rattle.local_rules.specs.Typed.{NamesNoType, KindIsTyped, ContentIsTyped, PropertiesAreTyped, IsTyped}
 use Rattle.canon_laws.proofs.Tables.{Pairs, list_again}
 use Rattle.canon_laws.proofs.Contents.{interface_back}
 

@@ -3,7 +3,7 @@ use Rattle.std.proofs.Common.{◌≡◌, ℕ, zero, suc, ◌≤◌, List, [], �
 use Rattle.std.specs.Prelude.{codes, max, IfSome}
 use Rattle.std.specs.Option.{option_map}
 use Rattle.std.specs.List.{AllByRecursion}
-use Rattle.dtmi_name.specs.Grammar.{Identifier}
+use Rattle.dt_base.specs.names.Grammar.{Identifier}
 use Rattle.json_decimal.specs.Number.{Number}
 use Rattle.json_tree.specs.Values.{Json, null, truth, number, text, array, object, Elements, no_elements, element, elements_of, Members, no_members, member, members_of}
 use Rattle.json_tree.specs.Printing.{NestsWithin, ElementsNestWithin, MembersNestWithin}
@@ -17,14 +17,13 @@ use Rattle.dtdl_terms.specs.declared.enumeration.EnumValue.{EnumValue}
 use Rattle.dtdl_terms.specs.declared.enumeration.EnumValue.TheVariants as values
 use Rattle.dtdl_terms.specs.declared.interface.Interface.{Interface}
 use Rattle.local_rules.specs.declared.role.Position.TheVariants as position
-use Rattle.model_read.specs.Declarations.{IsPropertyTerm}
-use Rattle.model_read.specs.Limits.{levels, payload_levels, payloads_levels, OuterSchemaIsWithin, OuterPayloadIsWithin, KindIsWithin, ContentIsWithin, ContentsAreWithin, IsWithinLimits}
+use Rattle.local_rules.specs.Typed.{IsPropertyTerm, ContentIsTyped, PropertiesAreTyped, IsTyped}
+use Rattle.local_rules.specs.Limits.{levels, payload_levels, payloads_levels, OuterSchemaIsWithin, OuterPayloadIsWithin, KindIsWithin, ContentIsWithin, ContentsAreWithin, IsWithinLimits}
 use Rattle.canon_text.specs.Sorting.{sorted_by}
 use Rattle.canon_text.specs.Objects.{present, object_of_parts, members_in_order, list_in_order, unless_empty}
-use Rattle.canon_text.specs.Canonical.{id_value, entry_pair, localized_value, element_parts, enum_value, enum_entry_pair, value_schema, schema_value, payload_value, payload_pairs, schema_pair, typed, kind_type, writable_value, most_value, kind_parts, content_value, content_pairs, content_pair, parent_pair, interface_value, interface_pair, set_value}
+use Rattle.canon_text.specs.Canonical.{id_value, entry_pair, localized_value, element_parts, enum_value, enum_entry_pair, value_schema_json, schema_value, payload_value, payload_pairs, schema_pair, typed, kind_type, writable_value, most_value, kind_parts, content_value, content_pairs, content_pair, parent_pair, interface_value, interface_pair, set_value}
 use Rattle.canon_text.specs.Machinery.Pairs.{pair_name, pair_value}
 use Rattle.canon_text.proofs.Told.{all_with, all_mapped, all_sorted}
-use Rattle.canon_laws.specs.Typed.{ContentIsTyped, PropertiesAreTyped, IsTyped}
 use Rattle.canon_laws.proofs.Tables.{Pairs, Parts}
 use Rattle.canon_text.proofs.Elements.{all_both}
 
@@ -122,7 +121,7 @@ enum_entries_nest d (e ∷ es) = (
   enum_entries_nest d es,
 )
 
-value_schema_nests : (d : ℕ) (b : Bool) → NestsWithin d (value_schema b)
+value_schema_nests : (d : ℕ) (b : Bool) → NestsWithin d (value_schema_json b)
 value_schema_nests d true = tt
 value_schema_nests d false = tt
 
@@ -150,7 +149,7 @@ mutual
       let some = some_room n in
       let entries : AllByRecursion (λ e. PairNests (suc (room n)) (enum_entry_pair e)) es =
       subst (λ (r : ℕ). AllByRecursion (λ e. PairNests (suc r) (enum_entry_pair e)) es) (sym some.1) (enum_entries_nest some.0 es) in
-      let own : Parts = (codes "enumValues", Some (list_in_order (map enum_entry_pair es))) ∷ (codes "valueSchema", Some (value_schema a)) ∷ [] in
+      let own : Parts = (codes "enumValues", Some (list_in_order (map enum_entry_pair es))) ∷ (codes "valueSchema", Some (value_schema_json a)) ∷ [] in
       object_nests (suc (suc (room n))) (element_parts (Some (text (codes "Enum"))) c ++ own)
       (element_nests (suc (room n)) (Some (text (codes "Enum"))) c own tt
       (list_nests (suc (room n)) (map enum_entry_pair es) (all_mapped enum_entry_pair (PairNests (suc (room n))) es entries), (value_schema_nests (suc (suc (room n))) a, tt)))

@@ -21,7 +21,7 @@ use Rattle.model_read.specs.Declarations as declared
 use Rattle.model_read.proofs.Once.{is, form, form_in, primitive_form, has_form}
 use Rattle.canon_text.specs.Numbers.{whole}
 use Rattle.canon_text.specs.Objects.{present, object_of_parts, list_in_order}
-use Rattle.canon_text.specs.Canonical.{element_parts, enum_value, enum_entry_value, enum_entry_pair, value_schema, schema_object, schema_value, payload_value, payload_pairs, id_text, schema_pair}
+use Rattle.canon_text.specs.Canonical.{element_parts, enum_value, enum_entry_value, enum_entry_pair, value_schema_json, schema_object, schema_value, payload_value, payload_pairs, id_text, schema_pair}
 use Rattle.canon_text.specs.Machinery.Pairs.{pair_value}
 use Rattle.canon_text.proofs.Told.{all_mapped}
 use Rattle.canon_laws.proofs.Tables.{Pairs, Parts, first_some, found, at, same_some, number_back, PairBack, list_back, LacksCommon, id_words, words_of, type_at, ids_back, element_back}
@@ -46,10 +46,10 @@ enum_entry_back e f g =
     (λ i. (codes "enumValue", Some (value i)) ∷ (codes "name", Some (text (name i))) ∷ []) in
     λ i. (name i, whole_value i)
 
-value_schema_back : (a b : Bool) → Some (text (declared.value_schema b)) ≡ Some (value_schema a) → value_schema b ≡ value_schema a
-value_schema_back a b e = by b (same_some (text (declared.value_schema b)) (value_schema a) e)
+value_schema_back : (a b : Bool) → Some (text (declared.value_schema b)) ≡ Some (value_schema_json a) → value_schema_json b ≡ value_schema_json a
+value_schema_back a b e = by b (same_some (text (declared.value_schema b)) (value_schema_json a) e)
   where
-    by : (b : Bool) → text (declared.value_schema b) ≡ value_schema a → value_schema b ≡ value_schema a
+    by : (b : Bool) → text (declared.value_schema b) ≡ value_schema_json a → value_schema_json b ≡ value_schema_json a
     by true e = e
     by false e = e
 
@@ -63,7 +63,7 @@ own_form : (s : SchemaTerm) → form_in (schema_value s) ≡ form s
 own_form (primitive p) = λ i. is None (primitive_form p i)
 own_form (named id) = refl
 own_form (array_of c s) = complex_form (codes "Array") c ((codes "elementSchema", Some (schema_value s)) ∷ []) (refl, refl, refl, refl, refl)
-own_form (enumeration c a es) = complex_form (codes "Enum") c ((codes "enumValues", Some (list_in_order (map enum_entry_pair es))) ∷ (codes "valueSchema", Some (value_schema a)) ∷ []) (refl, refl, refl, refl, refl)
+own_form (enumeration c a es) = complex_form (codes "Enum") c ((codes "enumValues", Some (list_in_order (map enum_entry_pair es))) ∷ (codes "valueSchema", Some (value_schema_json a)) ∷ []) (refl, refl, refl, refl, refl)
 own_form (map_of c k v) = complex_form (codes "Map") c ((codes "mapKey", Some (payload_value k)) ∷ (codes "mapValue", Some (payload_value v)) ∷ []) (refl, refl, refl, refl, refl)
 own_form (object_of c ps) = complex_form (codes "Object") c ((codes "fields", Some (list_in_order (payload_pairs ps))) ∷ []) (refl, refl, refl, refl, refl)
 
@@ -131,14 +131,14 @@ mutual
       (λ i. (codes "elementSchema", Some (part i)) ∷ [])
   forms_back (array_of c s) other e = absurd cc
   forms_back (enumeration c a es) (enumeration d b fs) _ = λ g.
-      let own : Parts = (codes "enumValues", Some (list_in_order (map enum_entry_pair es))) ∷ (codes "valueSchema", Some (value_schema a)) ∷ [] in
+      let own : Parts = (codes "enumValues", Some (list_in_order (map enum_entry_pair es))) ∷ (codes "valueSchema", Some (value_schema_json a)) ∷ [] in
       let parts : Parts = element_parts (Some (text (codes "Enum"))) c ++ own in
       let list : array g.1 ≡ list_in_order (map enum_entry_pair es) = same_some (array g.1) (list_in_order (map enum_entry_pair es))
       (sym g.5 ∙ at (codes "enumValues") parts g.0 (Some (list_in_order (map enum_entry_pair es))) g.2.0 refl) in
       let entries = list_back IsEnumEntry enum_entry_pair (map enum_entry_pair es) g.1 fs (all_mapped enum_entry_pair (PairBack IsEnumEntry enum_entry_pair) es (each_entry_back es)) list g.6 in
-      let kinds = value_schema_back a b (sym g.4 ∙ at (codes "valueSchema") parts g.0 (Some (value_schema a)) g.2.0 refl) in
+      let kinds = value_schema_back a b (sym g.4 ∙ at (codes "valueSchema") parts g.0 (Some (value_schema_json a)) g.2.0 refl) in
       complex_back (codes "Enum") c own (refl, refl, refl, refl, refl) g.0 g.2.0 d g.3
-      ((codes "enumValues", Some (list_in_order (map enum_entry_pair fs))) ∷ (codes "valueSchema", Some (value_schema b)) ∷ [])
+      ((codes "enumValues", Some (list_in_order (map enum_entry_pair fs))) ∷ (codes "valueSchema", Some (value_schema_json b)) ∷ [])
       (λ i. (codes "enumValues", Some (entries i)) ∷ (codes "valueSchema", Some (kinds i)) ∷ [])
   forms_back (enumeration c a es) other e = absurd cc
   forms_back (map_of c k v) (map_of d l w) _ = λ g.

@@ -6,11 +6,11 @@ use Rattle.json_tree.specs.Grammar.{IsSpaces, Spells}
 use Rattle.json_tree.specs.Printing.{NestsWithin, printed}
 use Rattle.dtdl_terms.specs.Distinct.{HasDeclaration}
 use Rattle.dtdl_terms.specs.declared.interface.Interface.{Interface}
-use Rattle.model_read.specs.Limits.{IsWithinLimits}
+use Rattle.local_rules.specs.Limits.{IsWithinLimits}
 use Rattle.canon_text.specs.Canonical.{interface_pair, set_value, set_text}
 use Rattle.canon_text.proofs.Keys.{PairIsDistinct, list_distinct, interface_distinct}
 use Rattle.canon_text.proofs.Told.{all_with, all_mapped}
-use Rattle.canon_laws.specs.Typed.{IsTyped}
+use Rattle.local_rules.specs.Typed.{IsTyped}
 use Rattle.canon_laws.proofs.Nests.{set_nests}
 
 newline_is_space : IsSpaces (10 ∷ []) []

@@ -5,7 +5,7 @@ use Rattle.std.specs.Option.{option_map}
 use Rattle.std.specs.List.{AllByRecursion, AllZip}
 use Rattle.std.specs.Str.{bytes_eq}
 use Rattle.std.proofs.lemmas.Int.{ints}
-use Rattle.dtmi_name.specs.Grammar.{Identifier}
+use Rattle.dt_base.specs.names.Grammar.{Identifier}
 use Rattle.json_decimal.specs.Number.{Number}
 use Rattle.json_decimal.specs.Comparing.{above, IsWhole}
 use Rattle.json_decimal.specs.Machinery.Sizes.{IsSize}
@@ -16,7 +16,7 @@ use Rattle.local_rules.specs.Members.{list_of, pairs_of, value_at}
 use Rattle.dtdl_terms.specs.declared.common.Common.{Common}
 use Rattle.dtdl_terms.specs.declared.common.Entry.{Entry}
 use Rattle.dtdl_terms.specs.declared.common.Localized.{Localized}
-use Rattle.model_read.specs.Declarations.{HasOptionalString, HasOptionalId, IsWritable, IsTextOfLanguage, IsLocalizedBy, IsLocalized, HasLocalized, HasCommon, HasMax, AreEntriesOf}
+use Rattle.model_read.specs.Declarations.{HasOptionalString, HasOptionalId, DeclaresWritable, IsTextOfLanguage, IsLocalizedBy, IsLocalized, HasLocalized, HasCommon, HasMax, AreEntriesOf}
 use Rattle.canon_text.specs.Sorting.{sorted_by, put_by, is_before}
 use Rattle.canon_text.specs.Numbers.{without_zeros, sized, whole}
 use Rattle.canon_text.specs.Objects.{present, object_of_parts, members_in_order, list_in_order, unless_empty}
@@ -72,7 +72,7 @@ id_told key ms (Some id) g = g.1 ∙ ap Some g.2.0
 pub same_some : (v w : Json) → Some v ≡ Some w → v ≡ w
 same_some v w e = cc
 
-pub writable_back : (o : Bool) (v : Option Json) (w : Bool) → v ≡ writable_value o → IsWritable v w → writable_value w ≡ writable_value o
+pub writable_back : (o : Bool) (v : Option Json) (w : Bool) → v ≡ writable_value o → DeclaresWritable v w → writable_value w ≡ writable_value o
 writable_back true None w e g = absurd (let f : None ≡ Some (truth true) = e in cc)
 writable_back true (Some v) w e g =
     let f : Some v ≡ Some (truth true) = e in

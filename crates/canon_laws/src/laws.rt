@@ -9,7 +9,7 @@ ghost use Rattle.dtdl_terms.specs.declared.uploaded.Uploaded.{Uploaded};
 ghost use Rattle.model_read.specs.Uploads.{AreUploaded};
 ghost use Rattle.canon_text.specs.Canonical.{set_value, set_text};
 ghost use Rattle.canon_text.specs.Identified.{InterfaceIsIdentified};
-ghost use Rattle.canon_laws.specs.Typed.{IsTyped};
+ghost use Rattle.local_rules.specs.Typed.{IsTyped};
 
 use canon_text::{each_identified, identified};
 use dtdl_terms::{Interface, Uploaded};

@@ -9,16 +9,16 @@ ghost use Rattle.dtdl_terms.specs.Distinct.{AreDistinct, HasDeclaration};
 ghost use Rattle.dtdl_terms.specs.Equality.{DeclareTheSame, SameElements};
 ghost use Rattle.dtdl_terms.specs.declared.interface.Interface.{Interface};
 ghost use Rattle.dtdl_terms.specs.declared.uploaded.Uploaded.{Uploaded};
-ghost use Rattle.model_read.specs.Limits.{IsWithinLimits};
+ghost use Rattle.local_rules.specs.Limits.{IsWithinLimits};
 ghost use Rattle.model_read.specs.Uploads.{AreUploaded};
-ghost use Rattle.canon_text.specs.Canonical.{set_value, set_text};
-ghost use Rattle.canon_laws.specs.Typed.{IsTyped};
+ghost use Rattle.canon_text.specs.Canonical.{interface_text, interface_value, set_value, set_text};
+ghost use Rattle.local_rules.specs.Typed.{IsTyped};
 
 use crate::laws::prints_itself;
-use canon_text::{canon_set_tree, one_set_tree, same_set_text};
+use canon_text::{canon_set_tree, canon_tree, one_set_tree, one_tree, same_set_text};
 use dt_base::OutOfMemory;
 use dtdl_terms::Interface;
-use json_read::one_value;
+use json_read::{one_printed, one_value};
 use json_tree::reads_back_before_spaces;
 use std::alloc::Global;
 
@@ -38,7 +38,20 @@ pub fn reads_back(alloc: Global, interfaces: &[Interface]) -> Result<(), OutOfMe
     Ok(())
 }
 
-/// Two such sets, each of distinct identifiers, have one canonical text exactly where they declare the same. The call makes
+/// Two interfaces with declarations, whose canonical trees nest at most 64 deep, have one canonical text only where they
+/// declare the same. The call makes both trees, and fails only for want of memory.
+pub fn one_text(alloc: Global, one: &Interface, other: &Interface) -> Result<(), OutOfMemory>
+    ensures { IfOk result (λ done. HasDeclaration one.now → HasDeclaration other.now → NestsWithin 64 (interface_value one.now) → NestsWithin 64 (interface_value other.now)
+        → interface_text one.now ≡ interface_text other.now → DeclareTheSame one.now other.now) }
+{
+    one_tree(one, other);
+    let first = canon_tree(alloc, one)?;
+    let second = canon_tree(alloc, other)?;
+    one_printed(&first, &second);
+    Ok(())
+}
+
+/// Two sets as `reads_back` takes them, each of distinct identifiers, have one canonical text exactly where they declare the same. The call makes
 /// both trees, and fails only for want of memory.
 pub fn one_set_text(
     alloc: Global,

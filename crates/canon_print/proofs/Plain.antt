@@ -2,7 +2,7 @@
 use Rattle.std.proofs.Common.{◌≡◌, ℕ, suc, List, [], ◌∷◌, ◌++◌, true, refl, ap, ◌∙◌, arith}
 use Rattle.std.specs.List.{AllPass}
 use Rattle.std.proofs.lemmas.Bool.Decides.{nat_tests}
-use Rattle.dtmi_name.specs.Grammar.{NameText, is_name_byte}
+use Rattle.dt_base.specs.names.Grammar.{NameText, is_name_byte}
 use Rattle.json_tree.specs.Printing.{escaped_byte, escaped}
 
 plain_byte : (b : ℕ) → is_name_byte b ≡ true → escaped_byte b ≡ b ∷ []

@@ -1,14 +1,15 @@
 //! Contents of interfaces.
 
-ghost use Rattle.std.specs.Prelude.{◌≡◌, ◌++◌, ℕ, List, Bool, map, string_bytes, IfOk, OnOk};
-ghost use Rattle.json_tree.specs.Values.{elements_of};
+ghost use Rattle.std.specs.Prelude.{◌≡◌, ◌++◌, [], ◌∷◌, ℕ, List, Bool, false, Some, map, codes, string_bytes, IfOk, OnOk};
+ghost use Rattle.std.specs.Option.{option_map};
+ghost use Rattle.json_tree.specs.Values.{elements_of, text};
 ghost use Rattle.json_tree.specs.Printing.{printed, printed_elements};
 ghost use Rattle.dtdl_terms.specs.Terms.{content, relationship};
 ghost use Rattle.dtdl_terms.specs.TermViews.{content_term, contents_term};
-ghost use Rattle.canon_text.specs.Canonical.{content_value};
+ghost use Rattle.canon_text.specs.Canonical.{content_value, element_parts, most_value};
 ghost use Rattle.canon_text.specs.Machinery.Pairs.{content_named};
 ghost use Rattle.canon_text.specs.Objects.{list_in_order, unless_empty};
-ghost use Rattle.canon_print.specs.Machinery.Bodies.{head_text, IsPrinted};
+ghost use Rattle.canon_print.specs.Machinery.Bodies.{head_text, IsPrinted, IsBegun};
 
 use crate::elements::push_typed;
 use crate::heads::{push_head, push_separator};
@@ -17,9 +18,26 @@ use crate::marks::{push_most, push_writable};
 use crate::sorting::in_order;
 use crate::texts::{push_name, push_optional_id};
 use dt_base::OutOfMemory;
+use dt_base::names::{Dtmi, Name};
 use dtdl_terms::{Common, Content, ContentKind};
-use dtmi_name::{Dtmi, Name};
 use std::alloc::Global;
+
+/// Appends a relationship up to its name.
+fn push_relationship_head(
+    alloc: Global,
+    out: &mut String,
+    name: &Name,
+    common: &Common,
+    most: Option<u32>,
+) -> Result<(), OutOfMemory>
+    ensures { OnOk result (IsBegun (string_bytes out.old) (string_bytes out.new) false (element_parts (Some (text (codes "Relationship"))) common.now
+        ++ (codes "maxMultiplicity", option_map most_value most) ∷ (codes "name", Some (text name.now)) ∷ [])) }
+{
+    let first = push_typed(alloc, out, "\"@type\":\"Relationship\"", common)?;
+    let first = push_most(out, first, most)?;
+    push_name(out, first, "\"name\":", name)?;
+    Ok(())
+}
 
 /// Appends a relationship.
 #[cycle(contents)]
@@ -35,9 +53,7 @@ fn push_relationship(
 ) -> Result<(), OutOfMemory>
     ensures { OnOk result (string_bytes out.new ≡ string_bytes out.old ++ printed (content_value (content name.now common.now (relationship target.now (contents_term properties.now) most writable)))) }
 {
-    let first = push_typed(alloc, out, "\"@type\":\"Relationship\"", common)?;
-    let first = push_most(out, first, most)?;
-    push_name(out, first, "\"name\":", name)?;
+    push_relationship_head(alloc, out, name, common, most)?;
     let first = push_optional_contents(alloc, out, false, "\"properties\":", properties)?;
     let first = push_optional_id(out, first, "\"target\":", target)?;
     push_writable(out, first, writable)?;

@@ -12,8 +12,8 @@ use crate::heads::push_head;
 use crate::localized::push_localized;
 use crate::texts::{push_optional_id, push_optional_text, push_quoted_name};
 use dt_base::OutOfMemory;
+use dt_base::names::Name;
 use dtdl_terms::Common;
-use dtmi_name::Name;
 use std::alloc::Global;
 
 /// Appends the opening brace, and the identifier where there is one.

@@ -3,7 +3,7 @@
 ghost use Rattle.std.specs.Prelude.{◌≡◌, ◌++◌, Bool, false, Some, codes, map, string_bytes, OnOk};
 ghost use Rattle.json_tree.specs.Values.{elements_of};
 ghost use Rattle.json_tree.specs.Printing.{printed, printed_elements};
-ghost use Rattle.canon_text.specs.Canonical.{enum_value, enum_entry_value, enum_entry_pair, value_schema};
+ghost use Rattle.canon_text.specs.Canonical.{enum_value, enum_entry_value, enum_entry_pair, value_schema_json};
 ghost use Rattle.canon_text.specs.Objects.{list_in_order};
 ghost use Rattle.canon_print.specs.Machinery.Bodies.{IsPrinted};
 
@@ -76,7 +76,7 @@ pub(crate) fn push_value_schema(
     first: bool,
     of_text: bool,
 ) -> Result<(), OutOfMemory>
-    ensures { OnOk result (IsPrinted (string_bytes out.old) (string_bytes out.new) first false (codes "valueSchema") (Some (value_schema of_text))) }
+    ensures { OnOk result (IsPrinted (string_bytes out.old) (string_bytes out.new) first false (codes "valueSchema") (Some (value_schema_json of_text))) }
 {
     if of_text {
         push_head(out, first, "\"valueSchema\":\"string\"")

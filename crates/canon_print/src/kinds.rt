@@ -1,12 +1,13 @@
 //! Contents by their kinds.
 
-ghost use Rattle.std.specs.Prelude.{◌≡◌, ◌++◌, ℕ, List, Bool, string_bytes, IfOk, OnOk};
+ghost use Rattle.std.specs.Prelude.{◌≡◌, ◌++◌, [], ◌∷◌, ℕ, List, Bool, Some, codes, string_bytes, IfOk, OnOk};
 ghost use Rattle.std.specs.Option.{option_map};
-ghost use Rattle.json_tree.specs.Printing.{printed};
+ghost use Rattle.json_tree.specs.Printing.{printed, quoted};
+ghost use Rattle.json_tree.specs.Values.{text};
 ghost use Rattle.dtdl_terms.specs.Terms.{content, telemetry, property, command, component};
 ghost use Rattle.dtdl_terms.specs.TermViews.{schema_term, payload_term};
-ghost use Rattle.canon_text.specs.Canonical.{content_value, payload_value};
-ghost use Rattle.canon_print.specs.Machinery.Bodies.{head_text, IsPrinted};
+ghost use Rattle.canon_text.specs.Canonical.{content_value, element_parts, payload_value, schema_value, typed};
+ghost use Rattle.canon_print.specs.Machinery.Bodies.{head_text, IsPrinted, IsBegun};
 
 use crate::elements::{push_semantic, push_typed};
 use crate::heads::push_head;
@@ -14,9 +15,31 @@ use crate::marks::push_writable;
 use crate::schemas::{push_payload, push_schema};
 use crate::texts::{push_name, push_optional_name, push_text};
 use dt_base::OutOfMemory;
+use dt_base::names::{Dtmi, Name};
 use dtdl_terms::{Boxed, Content, Payload, Schema};
-use dtmi_name::{Dtmi, Name};
 use std::alloc::Global;
+
+/// Appends a telemetry or a property up to its unit, and answers whether no member was printed.
+fn push_measured(
+    alloc: Global,
+    out: &mut String,
+    quoted_kind: &str,
+    item: &Content,
+    of: &Schema,
+    semantic: &Option<Name>,
+    unit: &Option<Name>,
+) -> Result<bool, OutOfMemory>
+    ensures { IfOk result (λ after. (kind : List ℕ) → quoted_kind.now ≡ quoted kind
+        → IsBegun (string_bytes out.old) (string_bytes out.new) after (element_parts (Some (typed kind semantic.now)) item.now.common
+        ++ (codes "name", Some (text item.now.name)) ∷ (codes "schema", Some (schema_value (schema_term of.now))) ∷ (codes "unit", option_map text unit.now) ∷ [])) }
+{
+    let first = push_semantic(alloc, out, quoted_kind, semantic, &item.common)?;
+    push_name(out, first, "\"name\":", &item.name)?;
+    push_head(out, false, "\"schema\":")?;
+    push_schema(alloc, out, of)?;
+    let first = push_optional_name(out, false, "\"unit\":", unit)?;
+    Ok(first)
+}
 
 /// Appends a telemetry.
 pub(crate) fn push_telemetry(
@@ -29,11 +52,7 @@ pub(crate) fn push_telemetry(
 ) -> Result<(), OutOfMemory>
     ensures { OnOk result (string_bytes out.new ≡ string_bytes out.old ++ printed (content_value (content item.now.name item.now.common (telemetry (schema_term kind.now) semantic.now unit.now)))) }
 {
-    let first = push_semantic(alloc, out, "\"Telemetry\"", semantic, &item.common)?;
-    push_name(out, first, "\"name\":", &item.name)?;
-    push_head(out, false, "\"schema\":")?;
-    push_schema(alloc, out, kind)?;
-    push_optional_name(out, false, "\"unit\":", unit)?;
+    push_measured(alloc, out, "\"Telemetry\"", item, kind, semantic, unit)?;
     out.push_str("}")?;
     Ok(())
 }
@@ -50,11 +69,7 @@ pub(crate) fn push_property(
 ) -> Result<(), OutOfMemory>
     ensures { OnOk result (string_bytes out.new ≡ string_bytes out.old ++ printed (content_value (content item.now.name item.now.common (property (schema_term kind.now) semantic.now unit.now writable)))) }
 {
-    let first = push_semantic(alloc, out, "\"Property\"", semantic, &item.common)?;
-    push_name(out, first, "\"name\":", &item.name)?;
-    push_head(out, false, "\"schema\":")?;
-    push_schema(alloc, out, kind)?;
-    let first = push_optional_name(out, false, "\"unit\":", unit)?;
+    let first = push_measured(alloc, out, "\"Property\"", item, kind, semantic, unit)?;
     push_writable(out, first, writable)?;
     out.push_str("}")?;
     Ok(())

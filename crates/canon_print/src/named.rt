@@ -1,13 +1,13 @@
 //! What lists are put in order by.
 
 ghost use Rattle.std.specs.Prelude.{◌≡◌, ℕ, List};
-ghost use Rattle.dtmi_name.specs.Grammar.{dtmi_text};
+ghost use Rattle.dt_base.specs.names.Grammar.{dtmi_text};
 ghost use Rattle.dtdl_terms.specs.Distinct.{schema_id};
 ghost use Rattle.dtdl_terms.specs.TermViews.{schema_term};
 ghost use Rattle.canon_text.specs.Canonical.{id_text};
 
+use dt_base::names::Dtmi;
 use dtdl_terms::{Common, Content, Entry, EnumEntry, Interface, Payload, Schema};
-use dtmi_name::Dtmi;
 
 /// What stands in a list in the order of its name.
 pub(crate) trait Named {

@@ -10,7 +10,7 @@ ghost use Rattle.canon_print.specs.Machinery.Bodies.{IsPrinted};
 use crate::heads::{push_head, push_separator};
 use crate::sorting::in_order;
 use dt_base::OutOfMemory;
-use dtmi_name::Dtmi;
+use dt_base::names::Dtmi;
 use json_tree::push_quoted;
 use std::alloc::Global;
 

@@ -8,8 +8,8 @@ ghost use Rattle.canon_text.specs.Canonical.{id_value};
 ghost use Rattle.canon_print.specs.Machinery.Bodies.{head_text, IsPrinted};
 
 use crate::heads::push_head;
+use dt_base::names::{Dtmi, Name};
 use dt_base::{OutOfMemory, Text};
-use dtmi_name::{Dtmi, Name};
 use json_tree::push_quoted;
 
 /// Appends a member with a text.

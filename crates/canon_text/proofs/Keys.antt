@@ -5,7 +5,7 @@ use Rattle.std.specs.Option.{option_map}
 use Rattle.std.specs.List.{AllByRecursion}
 use Rattle.std.specs.Str.{bytes_eq}
 use Rattle.std.proofs.lemmas.Slice.Eq.{bytes_eq-Decides}
-use Rattle.dtmi_name.specs.Grammar.{Identifier}
+use Rattle.dt_base.specs.names.Grammar.{Identifier}
 use Rattle.json_tree.specs.Values.{Json, text, elements_of, members_of, LacksKey, HasDistinctKeys, ElementsHaveDistinctKeys, MembersHaveDistinctKeys}
 use Rattle.dtdl_terms.specs.Terms.{SchemaTerm, primitive, named, array_of, enumeration, map_of, object_of, PayloadTerm, payload, PayloadTerms, no_payloads, more_payloads, ContentTerm, content, telemetry, property, command, relationship, component, ContentTerms, no_contents, more_contents}
 use Rattle.dtdl_terms.specs.TermViews.{schema_term, content_term}
@@ -21,7 +21,7 @@ use Rattle.dtdl_terms.specs.declared.interface.Interface.{Interface}
 use Rattle.dtdl_terms.specs.declared.schema.Schema.{Schema}
 use Rattle.canon_text.specs.Sorting.{is_before, put_by, sorted_by}
 use Rattle.canon_text.specs.Objects.{present, members_in_order, list_in_order, unless_empty}
-use Rattle.canon_text.specs.Canonical.{id_value, entry_pair, localized_value, element_parts, enum_value, enum_entry_pair, value_schema, schema_value, payload_value, payload_pairs, schema_pair, typed, writable_value, most_value, kind_parts, content_value, content_pairs, content_pair, parent_pair, interface_value}
+use Rattle.canon_text.specs.Canonical.{id_value, entry_pair, localized_value, element_parts, enum_value, enum_entry_pair, value_schema_json, schema_value, payload_value, payload_pairs, schema_pair, typed, writable_value, most_value, kind_parts, content_value, content_pairs, content_pair, parent_pair, interface_value}
 use Rattle.canon_text.specs.Machinery.Pairs.{pair_name, pair_value}
 use Rattle.canon_text.proofs.Told.{all_with, all_mapped, all_unmapped, all_put, all_sorted, is_in, are_distinct, keys_of, no_both, and_first, and_second}
 use Rattle.canon_text.proofs.Elements.{names_mapped}
@@ -140,7 +140,7 @@ enum_entry_distinct e d =
     let own : Parts = (codes "enumValue", Some (enum_value e.value)) ∷ (codes "name", Some (text e.name)) ∷ [] in
     parts_distinct (element_parts None e.common ++ own) refl (element_distinct None e.common own tt d (enum_value_distinct e.value, (tt, tt)))
 
-value_schema_distinct : (b : Bool) → HasDistinctKeys (value_schema b)
+value_schema_distinct : (b : Bool) → HasDistinctKeys (value_schema_json b)
 value_schema_distinct true = tt
 value_schema_distinct false = tt
 
@@ -153,7 +153,7 @@ mutual
       parts_distinct (element_parts (Some (text (codes "Array"))) c ++ own) refl
       (element_distinct (Some (text (codes "Array"))) c own tt d.0 (schema_distinct s d.1, tt))
   schema_distinct (enumeration c a es) d =
-      let own : Parts = (codes "enumValues", Some (list_in_order (map enum_entry_pair es))) ∷ (codes "valueSchema", Some (value_schema a)) ∷ [] in
+      let own : Parts = (codes "enumValues", Some (list_in_order (map enum_entry_pair es))) ∷ (codes "valueSchema", Some (value_schema_json a)) ∷ [] in
       parts_distinct (element_parts (Some (text (codes "Enum"))) c ++ own) refl
       (element_distinct (Some (text (codes "Enum"))) c own tt d.0 (
         list_distinct (map enum_entry_pair es) (all_mapped enum_entry_pair PairIsDistinct es

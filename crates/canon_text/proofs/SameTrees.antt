@@ -3,9 +3,9 @@ use Rattle.std.proofs.Common.{◌≡◌, ◌≢◌, ℕ, List, [], ◌∷◌, �
 use Rattle.std.specs.Prelude.{codes, is_some, IfSome}
 use Rattle.std.specs.Option.{option_map}
 use Rattle.std.specs.List.{AllByRecursion}
-use Rattle.dtmi_name.specs.Grammar.{Identifier, dtmi_text}
-use Rattle.dtmi_name.proofs.Cuts.{HasDtmiForm-unique}
-use Rattle.dtmi_name.specs.Grammar.{HasDtmiForm}
+use Rattle.dt_base.specs.names.Grammar.{Identifier, dtmi_text}
+use Rattle.dt_base.proofs.names.Cuts.{HasDtmiForm-unique}
+use Rattle.dt_base.specs.names.Grammar.{HasDtmiForm}
 use Rattle.json_tree.specs.Values.{Json, text}
 use Rattle.dtdl_terms.specs.Terms.{SchemaTerm, primitive, named, array_of, enumeration, map_of, object_of, PayloadTerm, payload, PayloadTerms, no_payloads, more_payloads, ContentTerm, content, KindTerm, telemetry, property, command, relationship, component, ContentTerms, no_contents, more_contents}
 use Rattle.dtdl_terms.specs.TermViews.{schema_term, content_term}
@@ -20,7 +20,7 @@ use Rattle.dtdl_terms.specs.declared.enumeration.EnumEntry.{EnumEntry}
 use Rattle.dtdl_terms.specs.declared.interface.Interface.{Interface}
 use Rattle.dtdl_terms.proofs.SameDeclarations.{same_payloads, same_contents}
 use Rattle.canon_text.specs.Objects.{object_of_parts, list_in_order, unless_empty}
-use Rattle.canon_text.specs.Canonical.{id_value, entry_pair, localized_value, element_parts, enum_value, enum_entry_pair, value_schema, schema_object, schema_value, payload_value, payload_pairs, id_text, schema_pair, typed, kind_type, writable_value, most_value, kind_parts, content_pairs, content_pair, parent_pair, interface_value}
+use Rattle.canon_text.specs.Canonical.{id_value, entry_pair, localized_value, element_parts, enum_value, enum_entry_pair, value_schema_json, schema_object, schema_value, payload_value, payload_pairs, id_text, schema_pair, typed, kind_type, writable_value, most_value, kind_parts, content_pairs, content_pair, parent_pair, interface_value}
 use Rattle.canon_text.specs.Identified.{IsIdentified, InterfaceIsIdentified, SchemaIsIdentified}
 use Rattle.canon_text.specs.Machinery.Pairs.{pair_name}
 use Rattle.canon_text.proofs.Elements.{Gives, same_mapped, names_mapped, same_list, same_optional_list, same_optional_members}
@@ -120,9 +120,9 @@ mutual
   schema_same (enumeration c of_text es) (enumeration f of_texts fs) d e same =
       let list = enum_list_same es fs d.1 e.1 same.2 in
       complex_same (codes "Enum") c f
-      ((codes "enumValues", Some (list_in_order (map enum_entry_pair es))) ∷ (codes "valueSchema", Some (value_schema of_text)) ∷ [])
-      ((codes "enumValues", Some (list_in_order (map enum_entry_pair fs))) ∷ (codes "valueSchema", Some (value_schema of_texts)) ∷ [])
-      d.0 e.0 same.0 (λ i. (codes "enumValues", Some (list i)) ∷ (codes "valueSchema", Some (value_schema (same.1 i))) ∷ [])
+      ((codes "enumValues", Some (list_in_order (map enum_entry_pair es))) ∷ (codes "valueSchema", Some (value_schema_json of_text)) ∷ [])
+      ((codes "enumValues", Some (list_in_order (map enum_entry_pair fs))) ∷ (codes "valueSchema", Some (value_schema_json of_texts)) ∷ [])
+      d.0 e.0 same.0 (λ i. (codes "enumValues", Some (list i)) ∷ (codes "valueSchema", Some (value_schema_json (same.1 i))) ∷ [])
   schema_same (enumeration c of_text es) other d e same = absurd same
   schema_same (map_of c k v) (map_of f l w) d e same =
       let key = ap (λ (m : List ℕ × Json). m.1) (payload_same k d.1 l e.1 same.1) in

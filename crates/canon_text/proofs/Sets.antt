@@ -1,7 +1,7 @@
 -- Sets of interfaces, and their canonical trees.
 use Rattle.std.proofs.Common.{◌≡◌, ◌≢◌, List, [], ◌∷◌, map}
 use Rattle.std.specs.List.{AllByRecursion}
-use Rattle.dtmi_name.specs.Grammar.{dtmi_text}
+use Rattle.dt_base.specs.names.Grammar.{dtmi_text}
 use Rattle.dtdl_terms.specs.Distinct.{AreDistinct, HasDeclaration}
 use Rattle.dtdl_terms.specs.Equality.{SameElements, DeclareTheSame}
 use Rattle.dtdl_terms.specs.declared.interface.Interface.{Interface}

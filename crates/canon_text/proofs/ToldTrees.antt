@@ -5,7 +5,7 @@ use Rattle.std.specs.Option.{option_map}
 use Rattle.std.specs.List.{AllByRecursion, starts_with}
 use Rattle.std.specs.Str.{bytes_eq}
 use Rattle.std.proofs.lemmas.Simd.{map-map}
-use Rattle.dtmi_name.specs.Grammar.{Identifier}
+use Rattle.dt_base.specs.names.Grammar.{Identifier}
 use Rattle.json_decimal.specs.Number.{Number}
 use Rattle.json_tree.specs.Values.{Json, null, truth, number, text, array, object, Elements, no_elements, element, elements_of, Members, no_members, member, members_of}
 use Rattle.dtdl_terms.specs.Primitives.{primitive_name}
@@ -25,7 +25,7 @@ use Rattle.dtdl_terms.specs.declared.interface.Interface.{Interface}
 use Rattle.canon_text.specs.Sorting.{sorted_by}
 use Rattle.canon_text.specs.Numbers.{whole}
 use Rattle.canon_text.specs.Objects.{present, object_of_parts, members_in_order, list_in_order, unless_empty}
-use Rattle.canon_text.specs.Canonical.{id_value, entry_pair, localized_value, element_parts, enum_value, enum_entry_pair, value_schema, schema_value, payload_value, payload_pairs, schema_pair, typed, kind_type, writable_value, most_value, kind_parts, content_value, content_pairs, content_pair, parent_pair, interface_value}
+use Rattle.canon_text.specs.Canonical.{id_value, entry_pair, localized_value, element_parts, enum_value, enum_entry_pair, value_schema_json, schema_value, payload_value, payload_pairs, schema_pair, typed, kind_type, writable_value, most_value, kind_parts, content_value, content_pairs, content_pair, parent_pair, interface_value}
 use Rattle.canon_text.specs.Identified.{IsIdentified, CommonIsIdentified, SchemaIsIdentified, PayloadIsIdentified, PayloadsAreIdentified, KindIsIdentified, ContentIsIdentified, ContentsAreIdentified, InterfaceIsIdentified}
 use Rattle.canon_text.specs.Machinery.Pairs.{pair_name, pair_value}
 use Rattle.canon_text.proofs.Told.{any_with, all_with, all_mapped, any_unmapped, all_unmapped, each_told, are_distinct, keys_of, present_told}
@@ -220,7 +220,7 @@ enum_entry_told e h f g same =
       value = enum_value_told e.value f.value (ap (λ (ps : Parts). or_null (part 5 ps)) table);
     }
 
-value_schema_told : (a b : Bool) → value_schema a ≡ value_schema b → a ≡ b
+value_schema_told : (a b : Bool) → value_schema_json a ≡ value_schema_json b → a ≡ b
 value_schema_told true true e = refl
 value_schema_told true false e = absurd (let f : codes "string" ≡ codes "integer" = ap text_in e in cc)
 value_schema_told false true e = absurd (let f : codes "integer" ≡ codes "string" = ap text_in e in cc)
@@ -287,7 +287,7 @@ form_seen : (s : SchemaTerm) → form_in (schema_value s) ≡ form s
 form_seen (primitive p) = primitive_form p
 form_seen (named id) = refl
 form_seen (array_of c s) = ap complex (type_of_parts (text (codes "Array")) c ((codes "elementSchema", Some (schema_value s)) ∷ []))
-form_seen (enumeration c a es) = ap complex (type_of_parts (text (codes "Enum")) c ((codes "enumValues", Some (list_in_order (map enum_entry_pair es))) ∷ (codes "valueSchema", Some (value_schema a)) ∷ []))
+form_seen (enumeration c a es) = ap complex (type_of_parts (text (codes "Enum")) c ((codes "enumValues", Some (list_in_order (map enum_entry_pair es))) ∷ (codes "valueSchema", Some (value_schema_json a)) ∷ []))
 form_seen (map_of c k v) = ap complex (type_of_parts (text (codes "Map")) c ((codes "mapKey", Some (payload_value k)) ∷ (codes "mapValue", Some (payload_value v)) ∷ []))
 form_seen (object_of c ps) = ap complex (type_of_parts (text (codes "Object")) c ((codes "fields", Some (list_in_order (payload_pairs ps))) ∷ []))
 
@@ -366,8 +366,8 @@ mutual
       (common_told type type c d own more h.0 g.0 table, schema_told s t (same_form s t inner) h.1 g.1 inner)
   schema_told (array_of c s) other f = absurd cc
   schema_told (enumeration c a es) (enumeration d b fs) _ = λ h g e.
-      let own : Parts = (codes "enumValues", Some (list_in_order (map enum_entry_pair es))) ∷ (codes "valueSchema", Some (value_schema a)) ∷ [] in
-      let more : Parts = (codes "enumValues", Some (list_in_order (map enum_entry_pair fs))) ∷ (codes "valueSchema", Some (value_schema b)) ∷ [] in
+      let own : Parts = (codes "enumValues", Some (list_in_order (map enum_entry_pair es))) ∷ (codes "valueSchema", Some (value_schema_json a)) ∷ [] in
+      let more : Parts = (codes "enumValues", Some (list_in_order (map enum_entry_pair fs))) ∷ (codes "valueSchema", Some (value_schema_json b)) ∷ [] in
       let type : Option Json = Some (text (codes "Enum")) in
       let table = table_told (element_parts type c ++ own) (element_parts type d ++ more) refl refl e in (
         common_told type type c d own more h.0 g.0 table,

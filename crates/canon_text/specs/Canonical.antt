@@ -1,7 +1,7 @@
 -- The canonical text of interfaces: a function of what their records declare, which never sees a source text.
 use Rattle.std.specs.Prelude.{ℕ, List, [], ◌∷◌, ◌++◌, map, Bool, true, false, Option, Some, None, codes, pos}
 use Rattle.std.specs.Option.{option_map}
-use Rattle.dtmi_name.specs.Grammar.{Identifier, dtmi_text}
+use Rattle.dt_base.specs.names.Grammar.{Identifier, dtmi_text}
 use Rattle.json_tree.specs.Values.{Json, truth, number, text, array, elements_of}
 use Rattle.json_tree.specs.Printing.{printed}
 use Rattle.dtdl_terms.specs.Primitives.{primitive_name}
@@ -52,9 +52,9 @@ abbrev pub enum_entry_pair : EnumEntry → List ℕ × Json
 enum_entry_pair e = (e.name, enum_entry_value e)
 
 -- `valueSchema` is `string` or `integer`.
-abbrev pub value_schema : Bool → Json
-value_schema true = text (codes "string")
-value_schema false = text (codes "integer")
+abbrev pub value_schema_json : Bool → Json
+value_schema_json true = text (codes "string")
+value_schema_json false = text (codes "integer")
 
 -- ---- schemas and payloads
 -- A complex schema: its type, what every element may have, and what it has of its own.
@@ -68,7 +68,7 @@ abbrev mutual
   schema_value (named id) = id_value id
   schema_value (array_of c s) = schema_object (codes "Array") c ((codes "elementSchema", Some (schema_value s)) ∷ [])
   schema_value (enumeration c of_text es) = schema_object (codes "Enum") c ((codes "enumValues", Some (list_in_order (map enum_entry_pair es)))
-      ∷ (codes "valueSchema", Some (value_schema of_text)) ∷ [])
+      ∷ (codes "valueSchema", Some (value_schema_json of_text)) ∷ [])
   schema_value (map_of c key value) = schema_object (codes "Map") c ((codes "mapKey", Some (payload_value key)) ∷ (codes "mapValue", Some (payload_value value)) ∷ [])
   schema_value (object_of c fields) = schema_object (codes "Object") c ((codes "fields", Some (list_in_order (payload_pairs fields))) ∷ [])
 

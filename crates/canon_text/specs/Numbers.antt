@@ -1,4 +1,4 @@
--- Whole numbers as numbers of JSON.
+-- Whole numbers of JSON.
 use Rattle.std.specs.Prelude.{ℕ, zero, suc, ◌/◌, ◌%◌, ◌==◌, if◌then◌else◌, Bool, true, false, ℤ, pos, negsuc}
 use Rattle.json_decimal.specs.Number.{Number, zero_number}
 

@@ -7,9 +7,9 @@ ghost use Rattle.json_tree.specs.View.{view, member_view};
 ghost use Rattle.canon_text.specs.Canonical.{id_value, localized_value, entry_pair};
 
 use crate::sorting::optional_object;
+use dt_base::names::{Dtmi, Name};
 use dt_base::{OutOfMemory, Text};
 use dtdl_terms::{Entry, Localized};
-use dtmi_name::{Dtmi, Name};
 use json_tree::{Member, Tree};
 use std::alloc::Global;
 

@@ -2,12 +2,12 @@
 
 ghost use Rattle.std.specs.Prelude.{◌≡◌, map, IfOk};
 ghost use Rattle.json_tree.specs.View.{view, member_view};
-ghost use Rattle.canon_text.specs.Canonical.{enum_value, enum_entry_value, enum_entry_pair, value_schema};
+ghost use Rattle.canon_text.specs.Canonical.{enum_value, enum_entry_value, enum_entry_pair, value_schema_json};
 ghost use Rattle.canon_text.specs.Objects.{list_in_order};
 
 use crate::common::text;
 use crate::numbers::of_integer;
-use crate::parts::{element, object, put};
+use crate::parts::{element, object, put, put_text};
 use crate::sorting::list_in_order;
 use dt_base::{OutOfMemory, Text};
 use dtdl_terms::{EnumEntry, EnumValue};
@@ -29,10 +29,9 @@ fn enum_entry(alloc: Global, entry: &EnumEntry) -> Result<Tree, OutOfMemory>
     ensures { IfOk result (λ tree. view tree ≡ enum_entry_value entry.now) }
 {
     let value = enum_value(alloc, &entry.value)?;
-    let name = text(alloc, entry.name.as_str())?;
     let mut members = element(alloc, None, &entry.common)?;
     put(alloc, &mut members, "enumValue", Some(value))?;
-    put(alloc, &mut members, "name", Some(name))?;
+    put_text(alloc, &mut members, "name", entry.name.as_str())?;
     Ok(object(members))
 }
 
@@ -59,7 +58,7 @@ pub(crate) fn enum_entries(alloc: Global, entries: &[EnumEntry]) -> Result<Tree,
 
 /// The name of the schema of an enumeration's values.
 pub(crate) fn value_schema(alloc: Global, of_text: bool) -> Result<Tree, OutOfMemory>
-    ensures { IfOk result (λ tree. view tree ≡ value_schema of_text) }
+    ensures { IfOk result (λ tree. view tree ≡ value_schema_json of_text) }
 {
     if of_text {
         text(alloc, "string")

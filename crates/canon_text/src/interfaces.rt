@@ -1,17 +1,22 @@
 //! Interfaces, as trees and as texts.
 
-ghost use Rattle.std.specs.Prelude.{◌≡◌, map, IfOk};
+ghost use Rattle.std.specs.Prelude.{◌≡◌, [], ◌∷◌, map, Some, codes, IfOk, OnOk};
+ghost use Rattle.std.specs.Option.{option_map};
+ghost use Rattle.json_tree.specs.Values.{text};
 ghost use Rattle.json_tree.specs.View.{view, member_view};
-ghost use Rattle.canon_text.specs.Canonical.{interface_value, interface_text, parent_pair};
+ghost use Rattle.canon_text.specs.Canonical.{interface_value, interface_text, parent_pair, schema_pair, id_value};
+ghost use Rattle.dtdl_terms.specs.TermViews.{schema_term};
+ghost use Rattle.canon_text.specs.Objects.{present, list_in_order, unless_empty};
+ghost use Rattle.canon_text.specs.Machinery.Pairs.{IsPut};
 
-use crate::common::{id, localized, optional_text, text};
-use crate::contents::named_contents;
-use crate::parts::{object, put};
+use crate::common::id;
+use crate::contents::put_contents;
+use crate::parts::{object, put, put_localized, put_optional_text, put_text};
 use crate::schemas::named_schemas;
 use crate::sorting::optional_list;
+use dt_base::names::Dtmi;
 use dt_base::{List, OutOfMemory, Text};
-use dtdl_terms::Interface;
-use dtmi_name::Dtmi;
+use dtdl_terms::{Interface, Schema};
 use json_tree::{Member, Tree, print};
 use std::alloc::Global;
 
@@ -28,34 +33,66 @@ fn named_parents(alloc: Global, items: &[Dtmi]) -> Result<Vec<Member>, OutOfMemo
     Ok(members)
 }
 
+/// Adds a member with identifiers, where there are such.
+fn put_parents(
+    alloc: Global,
+    members: &mut Vec<Member>,
+    key: &str,
+    items: &[Dtmi],
+) -> Result<(), OutOfMemory>
+    ensures { OnOk result (IsPut (map member_view members.old.items) (map member_view members.new.items) key.now (unless_empty list_in_order (map parent_pair items.now))) }
+{
+    let values = named_parents(alloc, items)?;
+    let list = optional_list(alloc, values)?;
+    put(alloc, members, key, list)?;
+    Ok(())
+}
+
+/// Adds a member with named schemas, where there are such.
+fn put_schemas(
+    alloc: Global,
+    members: &mut Vec<Member>,
+    key: &str,
+    items: &[Schema],
+) -> Result<(), OutOfMemory>
+    ensures { OnOk result (IsPut (map member_view members.old.items) (map member_view members.new.items) key.now (unless_empty list_in_order (map (λ s. schema_pair (schema_term s)) items.now))) }
+{
+    let values = named_schemas(alloc, items)?;
+    let list = optional_list(alloc, values)?;
+    put(alloc, members, key, list)?;
+    Ok(())
+}
+
+/// The members of an interface up to its comment.
+fn opening(alloc: Global, interface: &Interface) -> Result<Vec<Member>, OutOfMemory>
+    ensures { IfOk result (λ members. map member_view members.items ≡ present ((codes "@context", Some (text (codes "dtmi:dtdl:context;2")))
+        ∷ (codes "@id", Some (id_value interface.now.id)) ∷ (codes "@type", Some (text (codes "Interface"))) ∷ (codes "comment", option_map text interface.now.comment) ∷ [])) }
+{
+    let mut members = Vec::with_capacity(alloc, 9)?;
+    put_text(alloc, &mut members, "@context", "dtmi:dtdl:context;2")?;
+    put_text(alloc, &mut members, "@id", interface.id.as_str())?;
+    put_text(alloc, &mut members, "@type", "Interface")?;
+    put_optional_text(alloc, &mut members, "comment", &interface.comment)?;
+    Ok(members)
+}
+
 /// The canonical tree of an interface, of which `canon_interface` gives the text. The members of each object in it stand
 /// in the order of their keys. That this form is canonical is this project's own. Fails only for want of memory. The
 /// call goes down as deep as schemas lie in one another.
 pub fn canon_tree(alloc: Global, interface: &Interface) -> Result<Tree, OutOfMemory>
     ensures { IfOk result (λ tree. view tree ≡ interface_value interface.now) }
 {
-    let context = text(alloc, "dtmi:dtdl:context;2")?;
-    let own_id = id(alloc, &interface.id)?;
-    let kind = text(alloc, "Interface")?;
-    let comment = optional_text(alloc, &interface.comment)?;
-    let contents = named_contents(alloc, interface.contents.as_slice())?;
-    let contents = optional_list(alloc, contents)?;
-    let description = localized(alloc, &interface.description)?;
-    let display_name = localized(alloc, &interface.display_name)?;
-    let parents = named_parents(alloc, interface.parents.as_slice())?;
-    let parents = optional_list(alloc, parents)?;
-    let schemas = named_schemas(alloc, interface.schemas.as_slice())?;
-    let schemas = optional_list(alloc, schemas)?;
-    let mut members = Vec::with_capacity(alloc, 9)?;
-    put(alloc, &mut members, "@context", Some(context))?;
-    put(alloc, &mut members, "@id", Some(own_id))?;
-    put(alloc, &mut members, "@type", Some(kind))?;
-    put(alloc, &mut members, "comment", comment)?;
-    put(alloc, &mut members, "contents", contents)?;
-    put(alloc, &mut members, "description", description)?;
-    put(alloc, &mut members, "displayName", display_name)?;
-    put(alloc, &mut members, "extends", parents)?;
-    put(alloc, &mut members, "schemas", schemas)?;
+    let mut members = opening(alloc, interface)?;
+    put_contents(
+        alloc,
+        &mut members,
+        "contents",
+        interface.contents.as_slice(),
+    )?;
+    put_localized(alloc, &mut members, "description", &interface.description)?;
+    put_localized(alloc, &mut members, "displayName", &interface.display_name)?;
+    put_parents(alloc, &mut members, "extends", interface.parents.as_slice())?;
+    put_schemas(alloc, &mut members, "schemas", interface.schemas.as_slice())?;
     Ok(object(members))
 }
 

@@ -1,20 +1,23 @@
 //! Contents by their kinds, as trees.
 
-ghost use Rattle.std.specs.Prelude.{◌≡◌, IfOk};
+ghost use Rattle.std.specs.Prelude.{◌≡◌, [], ◌∷◌, ◌++◌, map, Some, codes, IfOk, OnOk};
 ghost use Rattle.std.specs.Option.{option_map};
-ghost use Rattle.json_tree.specs.View.{view};
+ghost use Rattle.json_tree.specs.View.{view, member_view};
+ghost use Rattle.json_tree.specs.Values.{text};
 ghost use Rattle.dtdl_terms.specs.Terms.{content, telemetry, property, command, component};
 ghost use Rattle.dtdl_terms.specs.TermViews.{schema_term, payload_term};
-ghost use Rattle.canon_text.specs.Canonical.{content_value, typed, writable_value, payload_value, most_value};
+ghost use Rattle.canon_text.specs.Canonical.{element_parts, content_value, schema_value, typed, writable_value, payload_value, most_value};
+ghost use Rattle.canon_text.specs.Objects.{present};
+ghost use Rattle.canon_text.specs.Machinery.Pairs.{IsPut};
 
-use crate::common::{id, optional_name, text};
+use crate::common::text;
 use crate::numbers::of_size;
-use crate::parts::{element, object, put};
+use crate::parts::{element, object, put, put_optional_name, put_text};
 use crate::schemas::{payload, schema};
+use dt_base::names::{Dtmi, Name};
 use dt_base::{List, OutOfMemory};
 use dtdl_terms::{Boxed, Content, Payload, Schema};
-use dtmi_name::{Dtmi, Name};
-use json_tree::Tree;
+use json_tree::{Member, Tree};
 use std::alloc::Global;
 
 /// A type, or a list of it and the semantic type.
@@ -53,6 +56,35 @@ pub(crate) fn most(most: Option<u32>) -> Option<Tree>
     }
 }
 
+/// The members of a content up to its name.
+fn named(alloc: Global, kind: Tree, item: &Content) -> Result<Vec<Member>, OutOfMemory>
+    ensures { IfOk result (λ members. map member_view members.items ≡ present (element_parts (Some (view kind)) item.now.common ++ (codes "name", Some (text item.now.name)) ∷ [])) }
+{
+    let mut members = element(alloc, Some(kind), &item.common)?;
+    put_text(alloc, &mut members, "name", item.name.as_str())?;
+    Ok(members)
+}
+
+/// The members of a telemetry or a property up to its unit.
+fn measured(
+    alloc: Global,
+    kind: &str,
+    item: &Content,
+    of: &Schema,
+    semantic: &Option<Name>,
+    unit: &Option<Name>,
+) -> Result<Vec<Member>, OutOfMemory>
+    ensures { IfOk result (λ members. map member_view members.items ≡ present (element_parts (Some (typed kind.now semantic.now)) item.now.common
+        ++ (codes "name", Some (text item.now.name)) ∷ (codes "schema", Some (schema_value (schema_term of.now))) ∷ (codes "unit", option_map text unit.now) ∷ [])) }
+{
+    let kind = typed(alloc, kind, semantic)?;
+    let mut members = named(alloc, kind, item)?;
+    let of = schema(alloc, of)?;
+    put(alloc, &mut members, "schema", Some(of))?;
+    put_optional_name(alloc, &mut members, "unit", unit)?;
+    Ok(members)
+}
+
 /// A telemetry.
 pub(crate) fn telemetry(
     alloc: Global,
@@ -63,14 +95,7 @@ pub(crate) fn telemetry(
 ) -> Result<Tree, OutOfMemory>
     ensures { IfOk result (λ tree. view tree ≡ content_value (content item.now.name item.now.common (telemetry (schema_term kind.now) semantic.now unit.now))) }
 {
-    let name = text(alloc, item.name.as_str())?;
-    let kind = schema(alloc, kind)?;
-    let unit = optional_name(alloc, unit)?;
-    let typed = typed(alloc, "Telemetry", semantic)?;
-    let mut members = element(alloc, Some(typed), &item.common)?;
-    put(alloc, &mut members, "name", Some(name))?;
-    put(alloc, &mut members, "schema", Some(kind))?;
-    put(alloc, &mut members, "unit", unit)?;
+    let members = measured(alloc, "Telemetry", item, kind, semantic, unit)?;
     Ok(object(members))
 }
 
@@ -85,14 +110,7 @@ pub(crate) fn property(
 ) -> Result<Tree, OutOfMemory>
     ensures { IfOk result (λ tree. view tree ≡ content_value (content item.now.name item.now.common (property (schema_term kind.now) semantic.now unit.now marked))) }
 {
-    let name = text(alloc, item.name.as_str())?;
-    let kind = schema(alloc, kind)?;
-    let unit = optional_name(alloc, unit)?;
-    let typed = typed(alloc, "Property", semantic)?;
-    let mut members = element(alloc, Some(typed), &item.common)?;
-    put(alloc, &mut members, "name", Some(name))?;
-    put(alloc, &mut members, "schema", Some(kind))?;
-    put(alloc, &mut members, "unit", unit)?;
+    let mut members = measured(alloc, "Property", item, kind, semantic, unit)?;
     put(alloc, &mut members, "writable", writable(marked))?;
     Ok(object(members))
 }
@@ -110,6 +128,20 @@ fn optional_payload(
     }
 }
 
+/// Adds a member with a payload, where there is one.
+fn put_payload(
+    alloc: Global,
+    members: &mut Vec<Member>,
+    key: &str,
+    value: &Option<Boxed<Payload>>,
+) -> Result<(), OutOfMemory>
+    ensures { OnOk result (IsPut (map member_view members.old.items) (map member_view members.new.items) key.now (option_map payload_value (option_map payload_term value.now))) }
+{
+    let value = optional_payload(alloc, value)?;
+    put(alloc, members, key, value)?;
+    Ok(())
+}
+
 /// A command.
 pub(crate) fn command(
     alloc: Global,
@@ -119,14 +151,10 @@ pub(crate) fn command(
 ) -> Result<Tree, OutOfMemory>
     ensures { IfOk result (λ tree. view tree ≡ content_value (content item.now.name item.now.common (command (option_map payload_term request.now) (option_map payload_term response.now)))) }
 {
-    let name = text(alloc, item.name.as_str())?;
-    let request = optional_payload(alloc, request)?;
-    let response = optional_payload(alloc, response)?;
-    let typed = text(alloc, "Command")?;
-    let mut members = element(alloc, Some(typed), &item.common)?;
-    put(alloc, &mut members, "name", Some(name))?;
-    put(alloc, &mut members, "request", request)?;
-    put(alloc, &mut members, "response", response)?;
+    let kind = text(alloc, "Command")?;
+    let mut members = named(alloc, kind, item)?;
+    put_payload(alloc, &mut members, "request", request)?;
+    put_payload(alloc, &mut members, "response", response)?;
     Ok(object(members))
 }
 
@@ -134,11 +162,8 @@ pub(crate) fn command(
 pub(crate) fn component(alloc: Global, item: &Content, of: &Dtmi) -> Result<Tree, OutOfMemory>
     ensures { IfOk result (λ tree. view tree ≡ content_value (content item.now.name item.now.common (component of.now))) }
 {
-    let name = text(alloc, item.name.as_str())?;
-    let of = id(alloc, of)?;
-    let typed = text(alloc, "Component")?;
-    let mut members = element(alloc, Some(typed), &item.common)?;
-    put(alloc, &mut members, "name", Some(name))?;
-    put(alloc, &mut members, "schema", Some(of))?;
+    let kind = text(alloc, "Component")?;
+    let mut members = named(alloc, kind, item)?;
+    put_text(alloc, &mut members, "schema", of.as_str())?;
     Ok(object(members))
 }

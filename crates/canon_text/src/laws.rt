@@ -1,18 +1,13 @@
 //! Laws of canonical trees and texts.
 
-ghost use Rattle.std.specs.Prelude.{◌≡◌, ◌↔◌, map, IfOk};
+ghost use Rattle.std.specs.Prelude.{◌≡◌, ◌↔◌, map};
 ghost use Rattle.std.specs.List.{AllByRecursion};
-ghost use Rattle.json_tree.specs.Printing.{NestsWithin};
 ghost use Rattle.dtdl_terms.specs.Distinct.{AreDistinct, HasDeclaration};
 ghost use Rattle.dtdl_terms.specs.Equality.{SameElements, DeclareTheSame};
 ghost use Rattle.canon_text.specs.Canonical.{interface_value, interface_text, set_value, set_text};
 
-use crate::interfaces::canon_tree;
 use crate::own_ids::{each_identified, identified};
-use dt_base::OutOfMemory;
 use dtdl_terms::Interface;
-use json_read::one_printed;
-use std::alloc::Global;
 
 /// Two interfaces with declarations have one canonical tree exactly where they declare the same. The call walks over both,
 /// and takes no memory.
@@ -31,19 +26,6 @@ pub fn same_text(one: &Interface, other: &Interface)
         → interface_text one.now ≡ interface_text other.now }
 {
     one_tree(one, other);
-}
-
-/// Two interfaces with declarations, whose canonical trees nest at most 64 deep, have one canonical text only where they
-/// declare the same. The call makes both trees, and fails only for want of memory.
-pub fn one_text(alloc: Global, one: &Interface, other: &Interface) -> Result<(), OutOfMemory>
-    ensures { IfOk result (λ done. HasDeclaration one.now → HasDeclaration other.now → NestsWithin 64 (interface_value one.now) → NestsWithin 64 (interface_value other.now)
-        → interface_text one.now ≡ interface_text other.now → DeclareTheSame one.now other.now) }
-{
-    one_tree(one, other);
-    let first = canon_tree(alloc, one)?;
-    let second = canon_tree(alloc, other)?;
-    one_printed(&first, &second);
-    Ok(())
 }
 
 /// Two sets of interfaces with declarations, each of distinct identifiers, have one canonical tree exactly where each

@@ -15,7 +15,7 @@ mod set_texts;
 mod sorting;
 
 pub use interfaces::{canon_interface, canon_tree};
-pub use laws::{one_set_tree, one_text, one_tree, same_set_text, same_text};
+pub use laws::{one_set_tree, one_tree, same_set_text, same_text};
 pub use numbers::{of_integer, of_size};
 pub use own_ids::{each_identified, identified};
 pub use set_texts::{canon, canon_set_tree};

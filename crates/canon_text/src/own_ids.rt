@@ -6,8 +6,8 @@ ghost use Rattle.std.specs.Option.{option_map};
 ghost use Rattle.dtdl_terms.specs.TermViews.{schema_term, payload_term, payloads_term, kind_term, content_term, contents_term};
 ghost use Rattle.canon_text.specs.Identified.{IsIdentified, CommonIsIdentified, SchemaIsIdentified, PayloadIsIdentified, PayloadsAreIdentified, KindIsIdentified, ContentIsIdentified, ContentsAreIdentified, InterfaceIsIdentified};
 
+use dt_base::names::Dtmi;
 use dtdl_terms::{Boxed, Common, Content, ContentKind, EnumEntry, Interface, Payload, Schema};
-use dtmi_name::Dtmi;
 
 fn of_id(id: &Dtmi)
     ensures { IsIdentified id.now }

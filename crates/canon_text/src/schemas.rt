@@ -1,32 +1,21 @@
 //! Schemas and payloads, as trees.
 
 ghost use Rattle.std.specs.Prelude.{◌≡◌, [], ◌∷◌, map, Some, codes, IfOk};
-ghost use Rattle.json_tree.specs.Values.{text};
 ghost use Rattle.json_tree.specs.View.{view, member_view};
 ghost use Rattle.dtdl_terms.specs.Terms.{array_of, enumeration, object_of};
 ghost use Rattle.dtdl_terms.specs.Distinct.{schema_id};
 ghost use Rattle.dtdl_terms.specs.TermViews.{schema_term, payload_term, payloads_term};
-ghost use Rattle.canon_text.specs.Canonical.{schema_value, schema_object, payload_value, schema_pair, id_text, element_parts};
+ghost use Rattle.canon_text.specs.Canonical.{schema_value, schema_object, payload_value, schema_pair, id_text};
 ghost use Rattle.canon_text.specs.Machinery.Pairs.{payload_named};
-ghost use Rattle.canon_text.specs.Objects.{present};
 
 use crate::common::{id, text};
 use crate::enums::{enum_entries, value_schema};
-use crate::parts::{element, object, put};
+use crate::parts::{element, object, put, put_text, typed_element};
 use crate::sorting::list_in_order;
 use dt_base::{OutOfMemory, Text};
 use dtdl_terms::{Boxed, Common, EnumEntry, Payload, Schema};
 use json_tree::{Member, Tree};
 use std::alloc::Global;
-
-/// The members that a complex schema of this type may have as an element.
-fn complex(alloc: Global, kind: &str, common: &Common) -> Result<Vec<Member>, OutOfMemory>
-    ensures { IfOk result (λ members. map member_view members.items ≡ present (element_parts (Some (text kind.now)) common.now)) }
-{
-    let kind = text(alloc, kind)?;
-    let members = element(alloc, Some(kind), common)?;
-    Ok(members)
-}
 
 /// An enumeration.
 fn enumeration(
@@ -39,7 +28,7 @@ fn enumeration(
 {
     let values = enum_entries(alloc, values)?;
     let kind = value_schema(alloc, of_text)?;
-    let mut members = complex(alloc, "Enum", common)?;
+    let mut members = typed_element(alloc, "Enum", common)?;
     put(alloc, &mut members, "enumValues", Some(values))?;
     put(alloc, &mut members, "valueSchema", Some(kind))?;
     Ok(object(members))
@@ -51,7 +40,7 @@ fn array(alloc: Global, common: &Common, part: &Schema) -> Result<Tree, OutOfMem
     ensures { IfOk result (λ tree. view tree ≡ schema_value (array_of common.now (schema_term part.now))) }
 {
     let part = schema(alloc, part)?;
-    let mut members = complex(alloc, "Array", common)?;
+    let mut members = typed_element(alloc, "Array", common)?;
     put(alloc, &mut members, "elementSchema", Some(part))?;
     Ok(object(members))
 }
@@ -60,7 +49,7 @@ fn array(alloc: Global, common: &Common, part: &Schema) -> Result<Tree, OutOfMem
 fn map_schema(alloc: Global, common: &Common, key: Tree, value: Tree) -> Result<Tree, OutOfMemory>
     ensures { IfOk result (λ tree. view tree ≡ schema_object (codes "Map") common.now ((codes "mapKey", Some (view key)) ∷ (codes "mapValue", Some (view value)) ∷ [])) }
 {
-    let mut members = complex(alloc, "Map", common)?;
+    let mut members = typed_element(alloc, "Map", common)?;
     put(alloc, &mut members, "mapKey", Some(key))?;
     put(alloc, &mut members, "mapValue", Some(value))?;
     Ok(object(members))
@@ -73,7 +62,7 @@ fn object_schema(alloc: Global, common: &Common, fields: &[Payload]) -> Result<T
 {
     let fields = payloads(alloc, fields)?;
     let fields = list_in_order(alloc, fields)?;
-    let mut members = complex(alloc, "Object", common)?;
+    let mut members = typed_element(alloc, "Object", common)?;
     put(alloc, &mut members, "fields", Some(fields))?;
     Ok(object(members))
 }
@@ -109,10 +98,9 @@ pub(crate) fn schema(alloc: Global, value: &Schema) -> Result<Tree, OutOfMemory>
 pub(crate) fn payload(alloc: Global, item: &Payload) -> Result<Tree, OutOfMemory>
     ensures { IfOk result (λ tree. view tree ≡ payload_value (payload_term item.now)) }
 {
-    let name = text(alloc, item.name.as_str())?;
     let kind = schema(alloc, &item.schema)?;
     let mut members = element(alloc, None, &item.common)?;
-    put(alloc, &mut members, "name", Some(name))?;
+    put_text(alloc, &mut members, "name", item.name.as_str())?;
     put(alloc, &mut members, "schema", Some(kind))?;
     Ok(object(members))
 }

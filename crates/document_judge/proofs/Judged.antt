@@ -12,7 +12,7 @@ use Rattle.dtdl_terms.specs.declared.uploaded.Uploaded.{Uploaded}
 use Rattle.model_read.specs.Uploads.{AreUploaded}
 use Rattle.dtdl_terms.specs.declared.interface.Interface.{Interface}
 use Rattle.dtdl_terms.specs.declared.spot.Spot.{Spot}
-use Rattle.extend_resolve.specs.Breaches.{IsFirstBreach, IsSound, RefusesSet}
+use Rattle.extend_resolve.specs.Breaches.{IsFirstSetBreach, IsSound, RefusesSet}
 use Rattle.extend_resolve.specs.declared.end.SetEnd.{SetEnd}
 use Rattle.extend_resolve.specs.declared.end.SetEnd.TheVariants as ends
 use Rattle.extend_resolve.specs.declared.rule.SetRule.{SetRule}
@@ -118,7 +118,7 @@ pub still_sound : (set : List Interface) (uploads : List Uploaded) → set ≡ [
 still_sound set uploads none sound = subst (λ (s : List Interface). IsSound s uploads) none sound
 
 pub first_set_breach : (set : List Interface) (uploads : List Uploaded) (e : SetEnd) (index : ℕ) (spot : Spot) (rule : SetRule) → set ≡ [] → e ≡ ends.Fault index spot rule
-    → RefusesSet set uploads e → IsFirstBreach [] uploads (record { index = index; rule = rule; spot = spot })
+    → RefusesSet set uploads e → IsFirstSetBreach [] uploads (record { index = index; rule = rule; spot = spot })
 first_set_breach set uploads e index spot rule none is h =
     let on : RefusesSet [] uploads e = subst (λ (s : List Interface). RefusesSet s uploads e) none h in
     subst (RefusesSet [] uploads) is on

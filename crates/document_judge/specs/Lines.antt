@@ -14,7 +14,7 @@ use Rattle.local_rules.specs.Breaches.{IsFirstBreach}
 use Rattle.local_rules.specs.declared.rule.LocalRule.{LocalRule}
 use Rattle.dtdl_terms.specs.Spots.{spot_text}
 use Rattle.dtdl_terms.specs.declared.uploaded.Uploaded.{Uploaded}
-use Rattle.extend_resolve.specs.Breaches.{Breach, IsFirstBreach as IsFirstSetBreach, rule_code as set_rule_code}
+use Rattle.extend_resolve.specs.Breaches.{Breach, IsFirstSetBreach, set_rule_code}
 
 -- `refused`, the number of a document, a pointer as a JSON text, and a code.
 abbrev pub pointer_line : ℕ → List ℕ → List ℕ → List ℕ

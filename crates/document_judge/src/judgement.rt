@@ -8,7 +8,7 @@ ghost use Rattle.json_tree.specs.Grammar.{Spells};
 ghost use Rattle.model_read.specs.Uploads.{AreUploaded};
 ghost use Rattle.dtdl_terms.specs.Spots.{spot_text};
 ghost use Rattle.dtdl_terms.specs.declared.uploaded.Uploaded.{Uploaded};
-ghost use Rattle.extend_resolve.specs.Breaches.{IsSound, rule_code as set_rule_code};
+ghost use Rattle.extend_resolve.specs.Breaches.{IsSound, set_rule_code};
 ghost use Rattle.document_judge.specs.Lines.{IsBreachLine, IsJsonFaultLine, IsSetBreachLine, pointer_line};
 ghost use Rattle.document_judge.specs.FirstFaults.{AllUploaded, Declare, HasFirstFault, HasJsonFault, HasLocalFault};
 ghost use Rattle.document_judge.specs.Machinery.Documents.{AreFaultless, HasDocumentFault};

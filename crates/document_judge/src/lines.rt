@@ -8,7 +8,7 @@ ghost use Rattle.json_read.specs.Faults.{IsFault};
 ghost use Rattle.json_tree.specs.View.{view};
 ghost use Rattle.local_rules.specs.Breaches.{IsFirstBreach};
 ghost use Rattle.dtdl_terms.specs.Spots.{spot_text};
-ghost use Rattle.extend_resolve.specs.Breaches.{rule_code as set_rule_code};
+ghost use Rattle.extend_resolve.specs.Breaches.{set_rule_code};
 ghost use Rattle.document_judge.specs.Lines.{IsBreachLine, IsFaultLine, IsPlaceLine, pointer_line};
 
 use dt_base::{List, OutOfMemory, Text};

@@ -4,3 +4,4 @@ pub mod Files
 pub mod Pieces
 pub mod Shelves
 pub mod Texts
+pub mod names

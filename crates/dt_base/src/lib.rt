@@ -1,6 +1,6 @@
 //! What every crate of Celdaurki stands on: texts and lists as plain values, want of memory, and the
 //! traits of what is handed in: a source and a sink of bytes, a shelf of named files, and an object that
-//! is asked one ask at a time.
+//! is asked one ask at a time. In `names` names of contents and identifiers of models, read and compared.
 #![tactic(auto)]
 
 mod file_shelf;
@@ -11,6 +11,7 @@ mod mem_shelf;
 mod mem_sink;
 mod mem_source;
 mod memory;
+pub mod names;
 mod object;
 mod reads;
 mod shelf;

@@ -2,23 +2,24 @@
 use Rattle.std.proofs.Common.{◌≡◌, ◌≢◌, ℕ, zero, suc, ◌+◌, ◌<◌, List, [], ◌∷◌, Some, take, map, refl, sym, ap, subst, ◌∙◌, arith}
 use Rattle.std.specs.Prelude.{Contains, slice_get}
 use Rattle.std.specs.List.{AllByRecursion, AllZip}
+use Rattle.std.proofs.lemmas.Option.{same_Some}
 use Rattle.local_rules.specs.Breaches.{BreaksNoLocalRule}
 use Rattle.json_tree.specs.Values.{HasDistinctKeys, Json}
 use Rattle.json_tree.specs.Grammar.{Spells}
-use Rattle.dtmi_name.specs.Grammar.{Identifier, dtmi_text}
+use Rattle.dt_base.specs.names.Grammar.{Identifier, dtmi_text}
 use Rattle.dtdl_terms.specs.Distinct.{AreDistinct, HasDeclaration}
 use Rattle.dtdl_terms.specs.declared.interface.Interface.{Interface}
 use Rattle.dtdl_terms.specs.declared.uploaded.Uploaded.{Uploaded}
-use Rattle.model_read.specs.Limits.{IsWithinLimits}
+use Rattle.local_rules.specs.Limits.{IsWithinLimits}
 use Rattle.model_read.specs.Uploads.{AreUploaded}
-use Rattle.canon_laws.specs.Typed.{IsTyped}
+use Rattle.local_rules.specs.Typed.{IsTyped}
 use Rattle.model_read.proofs.Documents.{all_have_declarations, all_within}
 use Rattle.extend_resolve.specs.Breaches.{IsSound}
 use Rattle.extend_resolve.specs.declared.rule.SetRule.TheVariants as rules
 use Rattle.dtdl_terms.specs.declared.spot.Spot.TheVariants as spots
 use Rattle.document_judge.specs.FirstFaults.{AllUploaded, Declare}
-use Rattle.dtdl_cmd.specs.Answers.{interfaces_of}
-use Rattle.canon_faults.proofs.NormalForms.{spelled_distinct}
+use Rattle.dtdl_cmd.specs.Answers.{uploaded_interfaces}
+use Rattle.json_tree.proofs.DistinctKeys.{spelled_distinct}
 use Rattle.model_read.proofs.Pairs.{distinct_pairs, mapped_back}
 use Rattle.dtdl_cmd.proofs.Ordinals.{all_append}
 
@@ -52,18 +53,16 @@ types told n (v ∷ vs) us (first, rest, h, t, e) =
     subst (AllByRecursion (λ u. IsTyped u.interface)) (sym e)
     (all_append (λ u. IsTyped u.interface) first rest (told v n first h) (types told (n + 1) vs rest t))
 
-pub without_places : (P : Interface → Type 0) (us : List Uploaded) → AllByRecursion (λ u. P u.interface) us → AllByRecursion P (interfaces_of us)
+pub without_places : (P : Interface → Type 0) (us : List Uploaded) → AllByRecursion (λ u. P u.interface) us → AllByRecursion P (uploaded_interfaces us)
 without_places P [] all = tt
 without_places P (u ∷ us) all = (all.0, without_places P us all.1)
 
 -- ---- their identifiers
-same_some : {A : Type 0} (x y : A) → Some x ≡ Some y → x ≡ y
-same_some x y e = cc
 
 among : (us : List Uploaded) (k l : ℕ) (u : Uploaded) → k < l → slice_get us k ≡ Some u → Contains (map (λ v. v.interface) (take l us)) u.interface
 among [] k l u less at = absurd cc
 among (w ∷ ws) k zero u less at = absurd (omega (arith, less))
-among (w ∷ ws) zero (suc l) u less at = (0, omega arith, ap (λ v. v.interface) (same_some w u at))
+among (w ∷ ws) zero (suc l) u less at = (0, omega arith, ap (λ v. v.interface) (same_Some w u at))
 among (w ∷ ws) (suc k) (suc l) u less at =
     let lesser : k < l = omega (arith, less) in
     let rest = among ws k l u lesser at in
@@ -71,10 +70,10 @@ among (w ∷ ws) (suc k) (suc l) u less at =
     (suc rest.0, omega (arith, within), rest.2)
 
 -- their texts are apart
-pub texts_apart : (us : List Uploaded) → IsSound [] us → AreDistinct (map (λ i. dtmi_text i.id) (interfaces_of us))
-texts_apart us sound = distinct_pairs (map (λ i. dtmi_text i.id) (interfaces_of us)) (λ k l x y less first second same.
-    let (i, i_at, i_is) = mapped_back (λ (h : Interface). dtmi_text h.id) (interfaces_of us) k x first in
-    let (j, j_at, j_is) = mapped_back (λ (h : Interface). dtmi_text h.id) (interfaces_of us) l y second in
+pub texts_apart : (us : List Uploaded) → IsSound [] us → AreDistinct (map (λ i. dtmi_text i.id) (uploaded_interfaces us))
+texts_apart us sound = distinct_pairs (map (λ i. dtmi_text i.id) (uploaded_interfaces us)) (λ k l x y less first second same.
+    let (i, i_at, i_is) = mapped_back (λ (h : Interface). dtmi_text h.id) (uploaded_interfaces us) k x first in
+    let (j, j_at, j_is) = mapped_back (λ (h : Interface). dtmi_text h.id) (uploaded_interfaces us) l y second in
     let (u, u_at, u_is) = mapped_back (λ (w : Uploaded). w.interface) us k i i_at in
     let (v, v_at, v_is) = mapped_back (λ (w : Uploaded). w.interface) us l j j_at in
     sound (record { index = l; rule = rules.RepeatedId; spot = spots.Id }) (
@@ -91,11 +90,11 @@ sound_apart us sound k l u v first second less e =
     sound (record { index = l; rule = rules.RepeatedId; spot = spots.Id }) (v, second, (u.interface, among us k l u less first, ap dtmi_text e))
 
 none_later : (id : Identifier) (us : List Uploaded) → ((l : ℕ) (v : Uploaded) → slice_get us l ≡ Some v → id ≡ v.interface.id → ⊥)
-    → AllByRecursion (λ k. id ≢ k) (map (λ i. i.id) (interfaces_of us))
+    → AllByRecursion (λ k. id ≢ k) (map (λ i. i.id) (uploaded_interfaces us))
 none_later id [] apart = tt
 none_later id (u ∷ us) apart = ((λ e. apart 0 u refl e), none_later id us (λ l v at e. apart (suc l) v at e))
 
-distinct_ids : (us : List Uploaded) → Apart us → AreDistinct (map (λ i. i.id) (interfaces_of us))
+distinct_ids : (us : List Uploaded) → Apart us → AreDistinct (map (λ i. i.id) (uploaded_interfaces us))
 distinct_ids [] apart = tt
 distinct_ids (u ∷ us) apart = (
   none_later u.interface.id us (λ l v at e. apart 0 (suc l) u v refl at (omega arith) e),
@@ -103,8 +102,8 @@ distinct_ids (u ∷ us) apart = (
 )
 
 pub declared_set : TypesAreTold → (documents : List (List ℕ)) (us : List Uploaded) → Declare documents us
-    → AllByRecursion HasDeclaration (interfaces_of us) × AllByRecursion IsWithinLimits (interfaces_of us)
-    × AllByRecursion IsTyped (interfaces_of us) × AreDistinct (map (λ i. i.id) (interfaces_of us))
+    → AllByRecursion HasDeclaration (uploaded_interfaces us) × AllByRecursion IsWithinLimits (uploaded_interfaces us)
+    × AllByRecursion IsTyped (uploaded_interfaces us) × AreDistinct (map (λ i. i.id) (uploaded_interfaces us))
 declared_set told documents us d = (
   without_places HasDeclaration us (declarations 1 d.values us (distinct_keys documents d.values d.spelled) d.unbroken d.uploaded),
   without_places IsWithinLimits us (limits 1 d.values us d.unbroken d.uploaded),

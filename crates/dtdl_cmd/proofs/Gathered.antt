@@ -11,9 +11,9 @@ use Rattle.std.specs.declared.alloc.Global.{Global}
 use Rattle.dt_base.specs.Files.{Fetches, file_named}
 use Rattle.dt_base.specs.declared.shelf.Fetched.TheVariants.{TooLong}
 use Rattle.dt_base.specs.Faults.{Rose}
-use Rattle.dtdl_cmd.specs.Documents.{AreFound, HasUnder, Held, IsMissing, IsTooLong, MAX_BYTES, ShelfChange, StreamChange, total}
+use Rattle.dtdl_cmd.specs.Documents.{AreFound, HasUnder, Held, IsMissing, AreTooLong, MAX_BYTES, ShelfChange, StreamChange, documents_bytes}
 use Rattle.dtdl_cmd.specs.Runs.{HasReadFault}
-use Rattle.dtdl_cmd.specs.Machinery.Gathering.{IsFetched, IsGathered}
+use Rattle.dtdl_cmd.specs.Machinery.Gathering.{IsFetched, AreDocumentsGathered}
 use Rattle.dtdl_cmd.specs.declared.documents.NoDocuments.{NoDocuments}
 use Rattle.dtdl_cmd.specs.declared.documents.NoDocuments.TheVariants as ends
 
@@ -31,7 +31,7 @@ zipped R [] (y ∷ ys) us vs all rest = absurd all
 zipped R (x ∷ xs) [] us vs all rest = absurd all
 zipped R (x ∷ xs) (y ∷ ys) us vs all rest = (all.0, zipped R xs ys us vs all.1 rest)
 
-total_more : (documents : List (List ℕ)) (bytes : List ℕ) → total (documents ++ bytes ∷ []) ≡ total documents + length bytes
+total_more : (documents : List (List ℕ)) (bytes : List ℕ) → documents_bytes (documents ++ bytes ∷ []) ≡ documents_bytes documents + length bytes
 total_more documents bytes =
     let more = sum_by-append length documents (bytes ∷ []) in
     let one : sum_by length (bytes ∷ []) ≡ length bytes = omega arith in
@@ -63,28 +63,28 @@ module _ (files : Files) (names : List (String Global)) (k : ℕ) (name : String
       let same = length-map documents (λ (b : List ℕ). Some b) in
       omega (arith, front, long, same)
 
-  missing_at : total documents ≤ MAX_BYTES → HasUnder files (string_bytes name) None → (found : List (Option (List ℕ))) × AllZip (Under files) names found × IsMissing found (k + 1)
+  missing_at : documents_bytes documents ≤ MAX_BYTES → HasUnder files (string_bytes name) None → (found : List (Option (List ℕ))) × AllZip (Under files) names found × IsMissing found (k + 1)
   missing_at less has =
       let f = found_at None has in
       (map Some documents ++ None ∷ f.0, f.1, (documents, f.0, refl, less, number_of))
 
-  too_long_at : total documents ≤ MAX_BYTES → (bytes : List ℕ) → MAX_BYTES < total documents + length bytes → HasUnder files (string_bytes name) (Some bytes)
-      → (found : List (Option (List ℕ))) × AllZip (Under files) names found × IsTooLong found (k + 1)
+  too_long_at : documents_bytes documents ≤ MAX_BYTES → (bytes : List ℕ) → MAX_BYTES < documents_bytes documents + length bytes → HasUnder files (string_bytes name) (Some bytes)
+      → (found : List (Option (List ℕ))) × AllZip (Under files) names found × AreTooLong found (k + 1)
   too_long_at less bytes more has =
       let f = found_at (Some bytes) has in
       (map Some documents ++ Some bytes ∷ f.0, f.1, (documents, bytes, f.0, refl, less, more, number_of))
 
   -- the end of a fetch is that of the gathering
-  pub ended : (room : ℕ) (e : NoDocuments) (Fails Failed : Type 0) → (Fails → Failed) → total documents + room ≡ MAX_BYTES
-      → IsFetched files (string_bytes name) (k + 1) room Fails (Err e) → IsGathered (AllZip (Under files) names) Failed (Err e)
+  pub ended : (room : ℕ) (e : NoDocuments) (Fails Failed : Type 0) → (Fails → Failed) → documents_bytes documents + room ≡ MAX_BYTES
+      → IsFetched files (string_bytes name) (k + 1) room Fails (Err e) → AreDocumentsGathered (AllZip (Under files) names) Failed (Err e)
   ended room (ends.Missing n) Fails Failed on sum h =
-      let less : total documents ≤ MAX_BYTES = omega (arith, sum) in
+      let less : documents_bytes documents ≤ MAX_BYTES = omega (arith, sum) in
       subst (λ (m : ℕ). (found : List (Option (List ℕ))) × AllZip (Under files) names found × IsMissing found m) (sym h.0) (missing_at less h.1)
   ended room (ends.TooLong n) Fails Failed on sum h =
-      let less : total documents ≤ MAX_BYTES = omega (arith, sum) in
+      let less : documents_bytes documents ≤ MAX_BYTES = omega (arith, sum) in
       let past = h.1.2 in
-      let more : MAX_BYTES < total documents + length h.1.0 = omega (arith, sum, past) in
-      subst (λ (m : ℕ). (found : List (Option (List ℕ))) × AllZip (Under files) names found × IsTooLong found m) (sym h.0) (too_long_at less h.1.0 more h.1.1)
+      let more : MAX_BYTES < documents_bytes documents + length h.1.0 = omega (arith, sum, past) in
+      subst (λ (m : ℕ). (found : List (Option (List ℕ))) × AllZip (Under files) names found × AreTooLong found m) (sym h.0) (too_long_at less h.1.0 more h.1.1)
   ended room ends.ReadFault Fails Failed on sum h = on h
   ended room ends.OutOfMemory Fails Failed on sum h = tt
 
@@ -94,8 +94,8 @@ module _ (files : Files) (names : List (String Global)) (k : ℕ) (name : String
       let front : take (k + 1) names ≡ take k names ++ name ∷ [] = take_more names k name within ∙ ap (λ (n : String Global). take k names ++ n ∷ []) (sym is) in
       rw (front, map-append (λ (b : List ℕ). Some b) documents (bytes ∷ [])) (all_zipped_more (Under files) (take k names) (map Some documents) name (Some bytes) all has)
 
-pub room_less : (documents : List (List ℕ)) (bytes : List ℕ) (room : ℕ) → total documents + room ≡ MAX_BYTES → length bytes ≤ room
-    → total (documents ++ bytes ∷ []) + (room - length bytes) ≡ MAX_BYTES
+pub room_less : (documents : List (List ℕ)) (bytes : List ℕ) (room : ℕ) → documents_bytes documents + room ≡ MAX_BYTES → length bytes ≤ room
+    → documents_bytes (documents ++ bytes ∷ []) + (room - length bytes) ≡ MAX_BYTES
 room_less documents bytes room sum within = let more = total_more documents bytes in omega (arith, more, sum, within)
 
 -- ---- counts
@@ -128,13 +128,13 @@ held_too_much input None is long =
     (zeros (MAX_BYTES + 1), longer MAX_BYTES, inr (longer MAX_BYTES, subst (λ (b : Option (List ℕ)). IfSome b (λ told. zeros (MAX_BYTES + 1) ≡ told)) (sym is) tt))
 
 pub source_too_long : (input : StreamChange) → IfSome input.before (λ bytes. MAX_BYTES < length bytes)
-    → (found : List (Option (List ℕ))) × ((bytes : List ℕ) × (found ≡ Some bytes ∷ []) × Held input bytes) × IsTooLong found 1
+    → (found : List (Option (List ℕ))) × ((bytes : List ℕ) × (found ≡ Some bytes ∷ []) × Held input bytes) × AreTooLong found 1
 source_too_long input long =
     let h = held_too_much input input.before refl long in
     let past = h.1 in
-    let none : total [] ≡ 0 = refl in
-    let within : total [] ≤ MAX_BYTES = omega (arith, none) in
-    let more : MAX_BYTES < total [] + length h.0 = omega (arith, none, past) in
+    let none : documents_bytes [] ≡ 0 = refl in
+    let within : documents_bytes [] ≤ MAX_BYTES = omega (arith, none) in
+    let more : MAX_BYTES < documents_bytes [] + length h.0 = omega (arith, none, past) in
     (Some h.0 ∷ [], (h.0, refl, h.2), ([], h.0, [], refl, within, more, refl))
 
 -- ---- the names of the shelf, by their bytes
@@ -146,8 +146,8 @@ by_bytes files (name ∷ names) (f ∷ found) all = (all.0, by_bytes files names
 
 -- what was gathered from the shelf for some names
 pub shelf_gathered : (input : StreamChange) (shelf : ShelfChange) (names : List (String Global)) (r : Result (List (List ℕ)) NoDocuments) → (names ≡ [] → ⊥)
-    → IsGathered (AllZip (Under shelf.before) names) (Rose shelf.faults_before shelf.faults_after) r
-    → IsGathered (AreFound input shelf (map string_bytes names)) (HasReadFault input shelf (map string_bytes names)) r
+    → AreDocumentsGathered (AllZip (Under shelf.before) names) (Rose shelf.faults_before shelf.faults_after) r
+    → AreDocumentsGathered (AreFound input shelf (map string_bytes names)) (HasReadFault input shelf (map string_bytes names)) r
 shelf_gathered input shelf [] r some h = absurd (some refl)
 shelf_gathered input shelf (name ∷ names) (Ok documents) some h = (by_bytes shelf.before (name ∷ names) (map Some documents) h.0, h.1)
 shelf_gathered input shelf (name ∷ names) (Err (ends.Missing n)) some (found, all, is) = (found, by_bytes shelf.before (name ∷ names) found all, is)

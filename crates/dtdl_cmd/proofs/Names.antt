@@ -4,18 +4,18 @@ use Rattle.std.specs.Prelude.{string_bytes, IsTrue, ◌↔◌}
 use Rattle.std.specs.List.{AllByRecursion}
 use Rattle.std.proofs.lemmas.List.{take_more, map-append}
 use Rattle.std.specs.declared.alloc.Global.{Global}
-use Rattle.dtdl_cmd.specs.Words.{IsName}
+use Rattle.dtdl_cmd.specs.Words.{IsDocumentName}
 use Rattle.document_judge.proofs.Firsts.{all_more}
 
-pub more_names : (words : List (String Global)) (k : ℕ) (word : String Global) → k < length words → word ≡ get_or words k word → AllByRecursion IsName (map string_bytes (take k words)) → IsName (string_bytes word)
-    → AllByRecursion IsName (map string_bytes (take (k + 1) words))
+pub more_names : (words : List (String Global)) (k : ℕ) (word : String Global) → k < length words → word ≡ get_or words k word → AllByRecursion IsDocumentName (map string_bytes (take k words)) → IsDocumentName (string_bytes word)
+    → AllByRecursion IsDocumentName (map string_bytes (take (k + 1) words))
 more_names words k word within is all one =
     let front : take (k + 1) words ≡ take k words ++ word ∷ [] = take_more words k word within ∙ ap (λ (w : String Global). take k words ++ w ∷ []) (sym is) in
-    rw (front, map-append string_bytes (take k words) (word ∷ [])) (all_more IsName (map string_bytes (take k words)) (string_bytes word) all one)
+    rw (front, map-append string_bytes (take k words) (word ∷ [])) (all_more IsDocumentName (map string_bytes (take k words)) (string_bytes word) all one)
 
-pub name_at : (words : List (String Global)) (k : ℕ) (word : String Global) → k < length words → word ≡ get_or words k word → AllByRecursion IsName (map string_bytes words) → IsName (string_bytes word)
+pub name_at : (words : List (String Global)) (k : ℕ) (word : String Global) → k < length words → word ≡ get_or words k word → AllByRecursion IsDocumentName (map string_bytes words) → IsDocumentName (string_bytes word)
 name_at [] k word within is all = absurd (omega (arith, within))
-name_at (w ∷ ws) zero word within is all = subst (λ (v : String Global). IsName (string_bytes v)) (sym is) all.0
+name_at (w ∷ ws) zero word within is all = subst (λ (v : String Global). IsDocumentName (string_bytes v)) (sym is) all.0
 name_at (w ∷ ws) (suc k) word within is all =
     let less : k < length ws = omega (arith, within) in
     name_at ws k word less is all.1

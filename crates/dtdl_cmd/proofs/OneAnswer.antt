@@ -3,6 +3,7 @@ use Rattle.std.proofs.Common.{◌≡◌, ◌⊎◌, ℕ, ◌+◌, List, [], ◌�
 use Rattle.std.specs.Prelude.{codes, slice_get}
 use Rattle.std.specs.List.{AllByRecursion, AllZip}
 use Rattle.std.specs.declared.alloc.Global.{Global}
+use Rattle.std.proofs.lemmas.Option.{same_Some}
 use Rattle.local_rules.specs.Breaches.{BreaksNoLocalRule}
 use Rattle.json_tree.specs.Values.{Json, Raw}
 use Rattle.json_tree.specs.Grammar.{Spells}
@@ -21,13 +22,13 @@ use Rattle.dtdl_terms.specs.Spots.{spot_text}
 use Rattle.dtdl_terms.specs.declared.interface.Interface.{Interface}
 use Rattle.dtdl_terms.specs.declared.uploaded.Uploaded.{Uploaded}
 use Rattle.model_read.proofs.OnceUploads.{document_once}
-use Rattle.extend_resolve.specs.Breaches.{Breach, HasOrdinals, IsBreach, rule_code as set_rule_code}
+use Rattle.extend_resolve.specs.Breaches.{Breach, HasOrdinals, IsSetBreach, set_rule_code}
 use Rattle.extend_resolve.proofs.FirstBreaches.{one_first}
 use Rattle.dtdl_cmd.specs.Words.{command_word}
 use Rattle.document_judge.specs.Lines.{IsBreachLine, IsFaultLine, IsJsonFaultLine, IsPlaceLine, IsSetBreachLine, pointer_line}
 use Rattle.dtdl_cmd.specs.Lines.{missing_line, too_long_line}
 use Rattle.document_judge.specs.FirstFaults.{AllUploaded, Declare, HasFirstFault, HasLocalFault, HasSetFault, IsJson}
-use Rattle.dtdl_cmd.specs.Answers.{Answers, AnswersDocuments, AnswersFound, Prints, interfaces_of}
+use Rattle.dtdl_cmd.specs.Answers.{AnswersWords, AnswersDocuments, AnswersFound, Prints, uploaded_interfaces}
 use Rattle.dtdl_cmd.specs.declared.command.Command.{Command}
 use Rattle.dtdl_cmd.specs.declared.command.Command.TheVariants as commands
 use Rattle.dtdl_cmd.specs.declared.status.Status.{Status}
@@ -79,13 +80,10 @@ one_uploaded n [] us ws h g = h ∙ sym g
 one_uploaded n (v ∷ vs) us ws (first, rest, h, t, e) (other, more, g, s, f) =
     e ∙ ap₂ (λ (xs ys : List Uploaded). xs ++ ys) (document_once v n first other h g) (one_uploaded (n + 1) vs rest more t s) ∙ sym f
 
-same_some : {A : Type 0} (x y : A) → Some x ≡ Some y → x ≡ y
-same_some x y e = cc
-
 one_set_line : (us : List Uploaded) (line text : List ℕ) → AllByRecursion HasOrdinals us → IsSetBreachLine us line → IsSetBreachLine us text → line ≡ text
 one_set_line us line text told (b, u, first, at, x) (c, w, least, stands, y) =
     let same : b ≡ c = one_first [] us told b c first least in
-    let ones : u ≡ w = same_some u w (sym at ∙ subst (λ (d : Breach). slice_get us d.index ≡ Some w) (sym same) stands) in
+    let ones : u ≡ w = same_Some u w (sym at ∙ subst (λ (d : Breach). slice_get us d.index ≡ Some w) (sym same) stands) in
     x ∙ ap₂ (λ (z : Uploaded) (d : Breach). pointer_line z.document (z.base ++ spot_text z.parents_as_text d.spot) (set_rule_code d.rule)) ones same ∙ sym y
 
 -- ---- documents
@@ -117,7 +115,7 @@ one_first_fault number documents line text (inr (vs, spelled, h)) (inr (ws, spel
     one_fault_of ws line text (subst (λ (xs : List Json). HasLocalFault xs line ⊎ HasSetFault xs line) same h) g
 
 -- documents with a fault declare nothing
-no_fault_of : (values : List Json) (line : List ℕ) (us : List Uploaded) → AllByRecursion BreaksNoLocalRule values → AllUploaded 1 values us → ((b : Breach) → IsBreach [] us b → ⊥)
+no_fault_of : (values : List Json) (line : List ℕ) (us : List Uploaded) → AllByRecursion BreaksNoLocalRule values → AllUploaded 1 values us → ((b : Breach) → IsSetBreach [] us b → ⊥)
     → HasLocalFault values line ⊎ HasSetFault values line → ⊥
 no_fault_of values line us unbroken are sound (inl h) = none_first BreaksNoLocalRule IsBreachLine breached values 1 line unbroken h
 no_fault_of values line us unbroken are sound (inr (ws, also, have, h)) =
@@ -152,7 +150,7 @@ one_document_answer number command documents s t line text (inl (p, x)) (inr (us
 one_document_answer number command documents s t line text (inr (us, d, x)) (inl (q, y)) = absurd (fault_or_declared number documents text us y d)
 one_document_answer number command documents s t line text (inr (us, d, x)) (inr (ws, e, y)) =
     let same : us ≡ ws = one_declared number documents us ws d e in
-    one_print command (interfaces_of ws) s t line text (subst (λ (xs : List Uploaded). Prints command (interfaces_of xs) s line) same x) y
+    one_print command (uploaded_interfaces ws) s t line text (subst (λ (xs : List Uploaded). Prints command (uploaded_interfaces xs) s line) same x) y
 
 -- ---- what is found
 one_found : OneNumber → (command : Command) (found : List (Option (List ℕ))) (s t : Status) (line text : List ℕ) → AnswersFound command found s line → AnswersFound command found t text
@@ -182,8 +180,8 @@ same_command commands.Canon commands.Canon names more is = refl
 same_command commands.Check commands.Canon names more is = absurd (other_words names more is)
 same_command commands.Canon commands.Check names more is = absurd (other_words more names (sym is))
 
-pub one_answer : OneNumber → (words : List (String Global)) (found : List (Option (List ℕ))) (line text : List ℕ) (s t : Status) → Answers words found s line
-    → Answers words found t text → (s ≡ t) × (line ≡ text)
+pub one_answer : OneNumber → (words : List (String Global)) (found : List (Option (List ℕ))) (line text : List ℕ) (s t : Status) → AnswersWords words found s line
+    → AnswersWords words found t text → (s ≡ t) × (line ≡ text)
 one_answer number words found line text s t (inl (p, none, x)) (inl (q, nothing, y)) = (p ∙ sym q, x ∙ sym y)
 one_answer number words found line text s t (inl (p, none, x)) (inr (command, names, is, y)) = absurd (none.0 (command, names, is))
 one_answer number words found line text s t (inr (command, names, is, x)) (inl (q, none, y)) = absurd (none.0 (command, names, is))

@@ -6,20 +6,20 @@ use Rattle.dt_base.specs.Faults.{Rose}
 use Rattle.http_session.specs.Uniqueness.{IsDecided as EndIsDecided}
 use Rattle.http_session.specs.declared.ends.SessionEnd.{SessionEnd}
 use Rattle.http_session.specs.declared.ends.SessionEnd.TheVariants as ends
-use Rattle.graph_server.specs.Replays.{IsReplay, OneReplay}
-use Rattle.graph_server.proofs.Unique.{replay_weaker}
+use Rattle.dtdl_cmd.specs.serving.Replays.{IsReplay, OneReplay}
+use Rattle.dtdl_cmd.proofs.serving.Unique.{replay_weaker}
 use Rattle.dtdl_cmd.specs.Words.{AreReplay}
 use Rattle.dtdl_cmd.specs.Documents.{ShelfChange, StreamChange}
-use Rattle.dtdl_cmd.specs.Runs.{Ends, EndsReplay, IsDecided, status_of}
+use Rattle.dtdl_cmd.specs.Runs.{RunEnds, EndsReplay, IsDecidedStatus, exit_status}
 use Rattle.dtdl_cmd.specs.declared.status.Status.{Status}
 use Rattle.dtdl_cmd.proofs.OtherWords.{none_ended, replays_no_documents, replays_or_makes}
 
-replayed : (words : List (String Global)) (input : StreamChange) (shelf : ShelfChange) (output : StreamChange) (s : Status) → AreReplay words → Ends words input shelf output s → EndsReplay input output s
+replayed : (words : List (String Global)) (input : StreamChange) (shelf : ShelfChange) (output : StreamChange) (s : Status) → AreReplay words → RunEnds words input shelf output s → EndsReplay input output s
 replayed words input shelf output s replays (inl h) = absurd (none_ended words (λ none. none.1 replays) (replays_no_documents words replays) input shelf output s h)
 replayed words input shelf output s replays (inr (inl h)) = h.1
 replayed words input shelf output s replays (inr (inr (n, are, h))) = absurd (replays_or_makes words n replays are)
 
-decided : (end : SessionEnd) → IsDecided (status_of end) → EndIsDecided end
+decided : (end : SessionEnd) → IsDecidedStatus (exit_status end) → EndIsDecided end
 decided ends.Closed h = tt
 decided ends.Refused h = tt
 decided ends.Full h = tt
@@ -46,12 +46,12 @@ same_after before one other after last out text is has same h k =
 
 pub one_replay : OneReplay → (words : List (String Global)) (input other : StreamChange) (shelf files : ShelfChange) (output sink : StreamChange) (all before : List ℕ) (s t : Status)
     → AreReplay words → input.before ≡ Some all → other.before ≡ Some all → output.before ≡ Some before → sink.before ≡ Some before
-    → Ends words input shelf output s → Ends words other files sink t → IsDecided s → IsDecided t → (s ≡ t) × (output.after ≡ sink.after)
+    → RunEnds words input shelf output s → RunEnds words other files sink t → IsDecidedStatus s → IsDecidedStatus t → (s ≡ t) × (output.after ≡ sink.after)
 one_replay law words input other shelf files output sink all before s t replays is has from too one two done also =
     let h = replayed words input shelf output s replays one in
     let k = replayed words other files sink t replays two in
     let same = law all input.after other.after h.end k.end h.out k.out (known input output s all h is) (known other sink t all k has)
-    (decided h.end (subst IsDecided h.status done)) (decided k.end (subst IsDecided k.status also)) in (
-      h.status ∙ ap status_of same.0 ∙ sym k.status,
+    (decided h.end (subst IsDecidedStatus h.status done)) (decided k.end (subst IsDecidedStatus k.status also)) in (
+      h.status ∙ ap exit_status same.0 ∙ sym k.status,
       same_after before output.before sink.before output.after sink.after h.out k.out from too same.2 h.appended k.appended,
     )

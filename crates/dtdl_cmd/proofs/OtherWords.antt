@@ -5,7 +5,7 @@ use Rattle.std.proofs.lemmas.Fmt.{decimal_injective}
 use Rattle.std.specs.declared.alloc.Global.{Global}
 use Rattle.dtdl_cmd.specs.Words.{AreMake, AreNone, AreReplay, IsCommand, command_word}
 use Rattle.dtdl_cmd.specs.Documents.{ShelfChange, StreamChange}
-use Rattle.dtdl_cmd.specs.Answers.{Answers}
+use Rattle.dtdl_cmd.specs.Answers.{AnswersWords}
 use Rattle.dtdl_cmd.specs.Runs.{EndsAnswer}
 use Rattle.dtdl_cmd.specs.declared.command.Command.{Command}
 use Rattle.dtdl_cmd.specs.declared.command.Command.TheVariants as commands
@@ -51,7 +51,7 @@ same_rooms words n m (word, are, (is, low, high)) (other, have, (has, least, mos
 
 -- ---- what documents are answered does not answer such words
 module _ (words : List (String Global)) (some : AreNone words → ⊥) (no_documents : (command : Command) (names : List (List ℕ)) → IsCommand words command names → ⊥) where
-  none_answered : (found : List (Option (List ℕ))) (s : Status) (line : List ℕ) → Answers words found s line → ⊥
+  none_answered : (found : List (Option (List ℕ))) (s : Status) (line : List ℕ) → AnswersWords words found s line → ⊥
   none_answered found s line (inl h) = some h.1
   none_answered found s line (inr (command, names, is, h)) = no_documents command names is
 

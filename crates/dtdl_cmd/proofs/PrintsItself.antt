@@ -20,7 +20,7 @@ use Rattle.dtdl_cmd.specs.Words.{IsCommand}
 use Rattle.dtdl_cmd.specs.Documents.{MAX_BYTES}
 use Rattle.document_judge.specs.Lines.{IsBreachLine, IsJsonFaultLine}
 use Rattle.document_judge.specs.FirstFaults.{AllUploaded, Declare, HasFirstFault, HasLocalFault, HasSetFault, IsJson}
-use Rattle.dtdl_cmd.specs.Answers.{Answers, AnswersDocuments, AnswersFound, Prints, interfaces_of}
+use Rattle.dtdl_cmd.specs.Answers.{AnswersWords, AnswersDocuments, AnswersFound, Prints, uploaded_interfaces}
 use Rattle.dtdl_cmd.specs.declared.command.Command.{Command}
 use Rattle.dtdl_cmd.specs.declared.command.Command.TheVariants as commands
 use Rattle.dtdl_cmd.specs.declared.status.Status.{Status}
@@ -41,27 +41,27 @@ soundly n (d ∷ ds) (v ∷ vs) us spelled unbroken (first, rest, h, t, e) =
     subst (AllByRecursion (λ u. IsSoundlyDeclared u.interface)) (sym e)
     (all_append (λ u. IsSoundlyDeclared u.interface) first rest (all_soundly d v n first spelled.0 unbroken.0 h) (soundly (n + 1) ds vs rest spelled.1 unbroken.1 t))
 
-pub declared_soundly : (documents : List (List ℕ)) (us : List Uploaded) → Declare documents us → AllByRecursion IsSoundlyDeclared (interfaces_of us)
+pub declared_soundly : (documents : List (List ℕ)) (us : List Uploaded) → Declare documents us → AllByRecursion IsSoundlyDeclared (uploaded_interfaces us)
 declared_soundly documents us d = without_places IsSoundlyDeclared us (soundly 1 documents d.values us d.spelled d.unbroken d.uploaded)
 
 -- ---- one document, of canonical bytes
-module _ (number : OneNumber) (documents : List (List ℕ)) (us : List Uploaded) (d : Declare documents us) (spelled : Spells (set_text (interfaces_of us)) (set_value (interfaces_of us)))
-    (unbroken : BreaksNoLocalRule (set_value (interfaces_of us)))
-    (same_text : (v : Json) (nth : ℕ) (ws : List Uploaded) → Spells (set_text (interfaces_of us)) v → AreUploaded v nth ws → set_text (interfaces_of ws) ≡ set_text (interfaces_of us))
-    (short : length (set_text (interfaces_of us)) ≤ MAX_BYTES) where
+module _ (number : OneNumber) (documents : List (List ℕ)) (us : List Uploaded) (d : Declare documents us) (spelled : Spells (set_text (uploaded_interfaces us)) (set_value (uploaded_interfaces us)))
+    (unbroken : BreaksNoLocalRule (set_value (uploaded_interfaces us)))
+    (same_text : (v : Json) (nth : ℕ) (ws : List Uploaded) → Spells (set_text (uploaded_interfaces us)) v → AreUploaded v nth ws → set_text (uploaded_interfaces ws) ≡ set_text (uploaded_interfaces us))
+    (short : length (set_text (uploaded_interfaces us)) ≤ MAX_BYTES) where
   abbrev bytes : List ℕ
-  bytes = set_text (interfaces_of us)
+  bytes = set_text (uploaded_interfaces us)
 
   abbrev value : Json
-  value = set_value (interfaces_of us)
+  value = set_value (uploaded_interfaces us)
 
   -- what it declares breaks no rule on sets
   sound_again : (nth : ℕ) (ws : List Uploaded) → AreUploaded value nth ws → IsSound [] ws
   sound_again nth ws g =
       let sound = declared_soundly documents us d in
       let apart = texts_apart us d.sound in
-      sound_alike us ws (same_set (interfaces_of us) nth ws sound g) (all_with IsSoundlyDeclared _ declared_once (interfaces_of us) sound)
-      (has_declarations bytes (interfaces_of us) nth ws sound spelled g) apart (apart_set (interfaces_of us) nth ws sound g apart) d.sound
+      sound_alike us ws (same_set (uploaded_interfaces us) nth ws sound g) (all_with IsSoundlyDeclared _ declared_once (uploaded_interfaces us) sound)
+      (has_declarations bytes (uploaded_interfaces us) nth ws sound spelled g) apart (apart_set (uploaded_interfaces us) nth ws sound g apart) d.sound
 
   -- the interfaces of one document
   one_document : (ws : List Uploaded) → AllUploaded 1 (value ∷ []) ws → AreUploaded value 1 ws
@@ -78,7 +78,7 @@ module _ (number : OneNumber) (documents : List (List ℕ)) (us : List Uploaded)
       by vs same (inr (ws, also, are, breaks)) =
           sound_again 1 ws (one_document ws (subst (λ (xs : List Json). AllUploaded 1 xs ws) same are)) breaks.0 breaks.2.breach
 
-  prints_bytes : (ws : List Uploaded) (s : Status) (line : List ℕ) → AreUploaded value 1 ws → Prints commands.Canon (interfaces_of ws) s line → (s ≡ status.Ok) × (line ≡ bytes)
+  prints_bytes : (ws : List Uploaded) (s : Status) (line : List ℕ) → AreUploaded value 1 ws → Prints commands.Canon (uploaded_interfaces ws) s line → (s ≡ status.Ok) × (line ≡ bytes)
   prints_bytes ws s line g (inl (ok, within, is)) = (ok, is ∙ same_text value 1 ws spelled g)
   prints_bytes ws s line g (inr (long, more, is)) = let sizes = ap length (same_text value 1 ws spelled g) in absurd (omega (arith, more, short))
 
@@ -96,7 +96,7 @@ module _ (number : OneNumber) (documents : List (List ℕ)) (us : List Uploaded)
       to_documents s line (subst (λ (xs : List (List ℕ)). AnswersDocuments commands.Canon xs s line) same answers)
 
   pub to_words : (words : List (String Global)) (names : List (List ℕ)) → IsCommand words commands.Canon names → (s : Status) (line : List ℕ)
-      → Answers words (Some bytes ∷ []) s line → (s ≡ status.Ok) × (line ≡ bytes)
+      → AnswersWords words (Some bytes ∷ []) s line → (s ≡ status.Ok) × (line ≡ bytes)
   to_words words names is s line (inl (usage, none, x)) = absurd (none.0 (commands.Canon, names, is))
   to_words words names is s line (inr (command, more, has, answers)) =
       let same : command ≡ commands.Canon = same_command command commands.Canon more names (sym has.0 ∙ is.0) in
@@ -105,11 +105,11 @@ module _ (number : OneNumber) (documents : List (List ℕ)) (us : List Uploaded)
 -- ---- of any list of these interfaces
 abbrev PrintsAgain : List Interface → Type 0
 PrintsAgain is = Spells (set_text is) (set_value is) → BreaksNoLocalRule (set_value is)
-    → ((v : Json) (nth : ℕ) (ws : List Uploaded) → Spells (set_text is) v → AreUploaded v nth ws → set_text (interfaces_of ws) ≡ set_text is)
+    → ((v : Json) (nth : ℕ) (ws : List Uploaded) → Spells (set_text is) v → AreUploaded v nth ws → set_text (uploaded_interfaces ws) ≡ set_text is)
     → length (set_text is) ≤ MAX_BYTES
     → (words : List (String Global)) (names : List (List ℕ)) → IsCommand words commands.Canon names → (s : Status) (line : List ℕ)
-    → Answers words (Some (set_text is) ∷ []) s line → (s ≡ status.Ok) × (line ≡ set_text is)
+    → AnswersWords words (Some (set_text is) ∷ []) s line → (s ≡ status.Ok) × (line ≡ set_text is)
 
-pub prints_itself : OneNumber → (documents : List (List ℕ)) (us : List Uploaded) → Declare documents us → (is : List Interface) → is ≡ interfaces_of us → PrintsAgain is
+pub prints_itself : OneNumber → (documents : List (List ℕ)) (us : List Uploaded) → Declare documents us → (is : List Interface) → is ≡ uploaded_interfaces us → PrintsAgain is
 prints_itself number documents us d is same =
     subst PrintsAgain (sym same) (λ spelled unbroken same_text short. to_words number documents us d spelled unbroken same_text short)

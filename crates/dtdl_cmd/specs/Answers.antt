@@ -6,7 +6,7 @@ use Rattle.dtdl_terms.specs.declared.interface.Interface.{Interface}
 use Rattle.dtdl_terms.specs.declared.uploaded.Uploaded.{Uploaded}
 use Rattle.canon_text.specs.Canonical.{set_text}
 use Rattle.dtdl_cmd.specs.Words.{AreNone, IsCommand}
-use Rattle.dtdl_cmd.specs.Documents.{AreThere, IsMissing, IsTooLong, MAX_BYTES}
+use Rattle.dtdl_cmd.specs.Documents.{AreAllFound, IsMissing, AreTooLong, MAX_BYTES}
 use Rattle.document_judge.specs.FirstFaults.{Declare, HasFirstFault}
 use Rattle.dtdl_cmd.specs.Lines.{accepted_line, missing_line, too_long_line, too_long_text_line, usage_line}
 use Rattle.dtdl_cmd.specs.declared.command.Command.{Command}
@@ -26,8 +26,8 @@ status_number status.Missing = 7
 status_number status.SessionFull = 8
 
 -- the interfaces that were uploaded, without their places
-abbrev pub interfaces_of : List Uploaded → List Interface
-interfaces_of uploads = map (λ u. u.interface) uploads
+abbrev pub uploaded_interfaces : List Uploaded → List Interface
+uploaded_interfaces uploads = map (λ u. u.interface) uploads
 
 -- What a command prints of interfaces that break no rule: how many there are, or their canonical text within its limit.
 abbrev pub Prints : Command → List Interface → Status → List ℕ → Type 0
@@ -38,15 +38,15 @@ Prints commands.Canon is s line = ((s ≡ status.Ok) × (length (set_text is) �
 -- To documents: the line of their first fault, or what the command makes of the interfaces that they declare.
 abbrev pub AnswersDocuments : Command → List (List ℕ) → Status → List ℕ → Type 0
 AnswersDocuments command documents s line = ((s ≡ status.Refused) × HasFirstFault documents line)
-    ⊎ ((uploads : List Uploaded) × Declare documents uploads × Prints command (interfaces_of uploads) s line)
+    ⊎ ((uploads : List Uploaded) × Declare documents uploads × Prints command (uploaded_interfaces uploads) s line)
 
 -- To what is found: the first document that is missing, or with which the limit is passed, comes before every fault.
 abbrev pub AnswersFound : Command → List (Option (List ℕ)) → Status → List ℕ → Type 0
 AnswersFound command found s line = ((s ≡ status.Missing) × ((number : ℕ) × IsMissing found number × (line ≡ missing_line number)))
-    ⊎ ((s ≡ status.TooLong) × ((number : ℕ) × IsTooLong found number × (line ≡ too_long_line number)))
-    ⊎ ((documents : List (List ℕ)) × AreThere found documents × AnswersDocuments command documents s line)
+    ⊎ ((s ≡ status.TooLong) × ((number : ℕ) × AreTooLong found number × (line ≡ too_long_line number)))
+    ⊎ ((documents : List (List ℕ)) × AreAllFound found documents × AnswersDocuments command documents s line)
 
 -- To the words, and to what is found of the documents that they name.
-abbrev pub Answers : List (String Global) → List (Option (List ℕ)) → Status → List ℕ → Type 0
-Answers words found s line = ((s ≡ status.Usage) × AreNone words × (line ≡ usage_line))
+abbrev pub AnswersWords : List (String Global) → List (Option (List ℕ)) → Status → List ℕ → Type 0
+AnswersWords words found s line = ((s ≡ status.Usage) × AreNone words × (line ≡ usage_line))
     ⊎ ((command : Command) × (names : List (List ℕ)) × IsCommand words command names × AnswersFound command found s line)

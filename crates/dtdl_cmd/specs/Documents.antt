@@ -8,23 +8,23 @@ use Rattle.dt_base.specs.Files.{file_named}
 abbrev pub MAX_BYTES : ℕ
 MAX_BYTES = 16777216
 
-abbrev pub total : List (List ℕ) → ℕ
-total documents = sum_by length documents
+abbrev pub documents_bytes : List (List ℕ) → ℕ
+documents_bytes documents = sum_by length documents
 
 -- ---- what is found: the bytes of each document, and None where a name has none
 -- All documents are there, within the limit.
-abbrev pub AreThere : List (Option (List ℕ)) → List (List ℕ) → Type 0
-AreThere found documents = (found ≡ map Some documents) × (total documents ≤ MAX_BYTES)
+abbrev pub AreAllFound : List (Option (List ℕ)) → List (List ℕ) → Type 0
+AreAllFound found documents = (found ≡ map Some documents) × (documents_bytes documents ≤ MAX_BYTES)
 
 -- The document of this number, counted from 1, is missing, and those before it are there within the limit.
 abbrev pub IsMissing : List (Option (List ℕ)) → ℕ → Type 0
 IsMissing found number = (before : List (List ℕ)) × (after : List (Option (List ℕ)))
-    × (found ≡ map Some before ++ None ∷ after) × (total before ≤ MAX_BYTES) × (number ≡ length before + 1)
+    × (found ≡ map Some before ++ None ∷ after) × (documents_bytes before ≤ MAX_BYTES) × (number ≡ length before + 1)
 
 -- With the document of this number the sum first passes the limit.
-abbrev pub IsTooLong : List (Option (List ℕ)) → ℕ → Type 0
-IsTooLong found number = (before : List (List ℕ)) × (bytes : List ℕ) × (after : List (Option (List ℕ)))
-    × (found ≡ map Some before ++ Some bytes ∷ after) × (total before ≤ MAX_BYTES) × (MAX_BYTES < total before + length bytes) × (number ≡ length before + 1)
+abbrev pub AreTooLong : List (Option (List ℕ)) → ℕ → Type 0
+AreTooLong found number = (before : List (List ℕ)) × (bytes : List ℕ) × (after : List (Option (List ℕ)))
+    × (found ≡ map Some before ++ Some bytes ∷ after) × (documents_bytes before ≤ MAX_BYTES) × (MAX_BYTES < documents_bytes before + length bytes) × (number ≡ length before + 1)
 
 -- ---- where it is found
 -- What is known of a source or a sink before and after a run: the bytes that it tells, and its count of faults.

@@ -4,3 +4,5 @@ pub mod Lines
 pub mod Answers
 pub mod Runs
 pub mod Machinery
+pub mod serving
+pub mod making

@@ -5,11 +5,11 @@ use Rattle.std.specs.Io.KnownBytes.{Appends, Keeps}
 use Rattle.dt_base.specs.Faults.{Rose}
 use Rattle.http_session.specs.declared.ends.SessionEnd.{SessionEnd}
 use Rattle.http_session.specs.declared.ends.SessionEnd.TheVariants as ends
-use Rattle.graph_server.specs.Replays.{IsReplay}
-use Rattle.graph_make.specs.Made.{IsMade}
+use Rattle.dtdl_cmd.specs.serving.Replays.{IsReplay}
+use Rattle.dtdl_cmd.specs.making.Made.{IsMade}
 use Rattle.dtdl_cmd.specs.Words.{AreCommand, AreMake, AreReplay, IsCommand}
 use Rattle.dtdl_cmd.specs.Documents.{AreFound, ShelfChange, StreamChange}
-use Rattle.dtdl_cmd.specs.Answers.{Answers}
+use Rattle.dtdl_cmd.specs.Answers.{AnswersWords}
 use Rattle.dtdl_cmd.specs.declared.command.Command.{Command}
 use Rattle.dtdl_cmd.specs.declared.status.Status.{Status}
 use Rattle.dtdl_cmd.specs.declared.status.Status.TheVariants as status
@@ -18,7 +18,7 @@ use Rattle.dtdl_cmd.specs.declared.status.Status.TheVariants as status
 pub record AnswersInput (words : List (String Global)) (input : StreamChange) (shelf : ShelfChange) (s : Status) (line : List ℕ) : Type 0 where
   pub found : List (Option (List ℕ))
   pub held : (command : Command) (names : List (List ℕ)) → IsCommand words command names → AreFound input shelf names found
-  pub answers : Answers words found s line
+  pub answers : AnswersWords words found s line
 
 -- A proper prefix of the answer was written.
 pub record BreaksOff (words : List (String Global)) (input : StreamChange) (shelf : ShelfChange) (output : StreamChange) : Type 0 where
@@ -43,20 +43,20 @@ EndsAnswer words input shelf output s = ((line : List ℕ) × AnswersInput words
     × Keeps output.before output.after)
     ⊎ ((s ≡ status.OutOfMemory) × AreCommand words × Keeps output.before output.after)
 
-abbrev pub status_of : SessionEnd → Status
-status_of ends.Closed = status.Ok
-status_of ends.Refused = status.Refused
-status_of ends.Full = status.SessionFull
-status_of ends.ReadFault = status.ReadFault
-status_of ends.WriteFault = status.WriteFault
-status_of ends.OutOfMemory = status.OutOfMemory
+abbrev pub exit_status : SessionEnd → Status
+exit_status ends.Closed = status.Ok
+exit_status ends.Refused = status.Refused
+exit_status ends.Full = status.SessionFull
+exit_status ends.ReadFault = status.ReadFault
+exit_status ends.WriteFault = status.WriteFault
+exit_status ends.OutOfMemory = status.OutOfMemory
 
 -- Of a replay: the input's bytes were answered as a session over a graph that is empty at first, and the output took what
 -- was written. A read or a write failed only where the count rose.
 pub record EndsReplay (input output : StreamChange) (s : Status) : Type 0 where
   pub end : SessionEnd
   pub out : List ℕ
-  pub status : s ≡ status_of end
+  pub status : s ≡ exit_status end
   pub replay : IsReplay (Rose output.faults_before output.faults_after) end input.before input.after out
   pub appended : Appends output.before output.after out
   pub read_cause : end ≡ ends.ReadFault → Rose input.faults_before input.faults_after
@@ -70,14 +70,14 @@ EndsMake n output s = ((s ≡ status.Ok) × ((text : List ℕ) × IsMade n text 
     × ((text : List ℕ) × IsMade n text × ((written : ℕ) × (written < length text) × Appends output.before output.after (take written text))))
     ⊎ ((s ≡ status.OutOfMemory) × Keeps output.before output.after)
 
-abbrev pub Ends : List (String Global) → StreamChange → ShelfChange → StreamChange → Status → Type 0
-Ends words input shelf output s = EndsAnswer words input shelf output s
+abbrev pub RunEnds : List (String Global) → StreamChange → ShelfChange → StreamChange → Status → Type 0
+RunEnds words input shelf output s = EndsAnswer words input shelf output s
     ⊎ (AreReplay words × EndsReplay input output s)
     ⊎ ((n : ℕ) × AreMake words n × EndsMake n output s)
 
 -- The words of a replay and the input's bytes decide such a status.
-abbrev pub IsDecided : Status → Type 0
-IsDecided status.Ok = Unit {0}
-IsDecided status.Refused = Unit {0}
-IsDecided status.SessionFull = Unit {0}
-IsDecided other = ⊥
+abbrev pub IsDecidedStatus : Status → Type 0
+IsDecidedStatus status.Ok = Unit {0}
+IsDecidedStatus status.Refused = Unit {0}
+IsDecidedStatus status.SessionFull = Unit {0}
+IsDecidedStatus other = ⊥

@@ -11,12 +11,12 @@ command_word commands.Check = codes "check"
 command_word commands.Canon = codes "canon"
 
 -- A name is not empty and does not begin with `-`.
-abbrev pub IsName : List ℕ → Type 0
-IsName name = (first : ℕ) × (more : List ℕ) × (name ≡ first ∷ more) × (first ≢ 45)
+abbrev pub IsDocumentName : List ℕ → Type 0
+IsDocumentName name = (first : ℕ) × (more : List ℕ) × (name ≡ first ∷ more) × (first ≢ 45)
 
 -- There are at most 4,096 names.
 abbrev pub AreNames : List (List ℕ) → Type 0
-AreNames names = AllByRecursion IsName names × (length names ≤ 4096)
+AreNames names = AllByRecursion IsDocumentName names × (length names ≤ 4096)
 
 -- The words are the word of this command and these names.
 abbrev pub IsCommand : List (String Global) → Command → List (List ℕ) → Type 0

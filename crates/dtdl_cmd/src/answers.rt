@@ -1,7 +1,7 @@
 //! What a command answers: a status, and the line or text that is written with it.
 
 ghost use Rattle.std.specs.Prelude.{◌≡◌, ◌≤◌, [], length, string_bytes, IfOk};
-ghost use Rattle.dtdl_cmd.specs.Answers.{AnswersDocuments, Prints, interfaces_of};
+ghost use Rattle.dtdl_cmd.specs.Answers.{AnswersDocuments, Prints, uploaded_interfaces};
 ghost use Rattle.dtdl_cmd.specs.Lines.{accepted_line, missing_line, too_long_line};
 ghost use Rattle.dtdl_cmd.specs.declared.command.Command.{Command};
 ghost use Rattle.dtdl_cmd.specs.declared.status.Status.{Status};
@@ -48,7 +48,7 @@ pub fn too_long(alloc: Global, number: usize) -> Result<Answer, OutOfMemory>
 
 /// The interfaces without their places, in their order.
 fn without_places(alloc: Global, uploads: Vec<Uploaded>) -> Result<Vec<Interface>, OutOfMemory>
-    ensures { IfOk result (λ interfaces. interfaces.items ≡ interfaces_of uploads.items) }
+    ensures { IfOk result (λ interfaces. interfaces.items ≡ uploaded_interfaces uploads.items) }
 {
     let mut interfaces = Vec::with_capacity(alloc, uploads.len())?;
     let mut left = uploads;
@@ -106,7 +106,7 @@ fn canonical(
     uploads: Vec<Uploaded>,
     documents: List<List<u8>>,
 ) -> Result<Answer, OutOfMemory>
-    ensures { IfOk result (λ answer. Prints Command.Canon (interfaces_of uploads.items) answer.status answer.line) }
+    ensures { IfOk result (λ answer. Prints Command.Canon (uploaded_interfaces uploads.items) answer.status answer.line) }
 {
     let interfaces = without_places(alloc, uploads)?;
     let mut text = room_of(alloc, documents);

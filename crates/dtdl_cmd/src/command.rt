@@ -1,7 +1,7 @@
 //! The commands by their words.
 
 ghost use Rattle.std.specs.Prelude.{◌≡◌, ◌↔◌, ℕ, ◌<◌, List, drop, get_or, map, codes, string_bytes, IsTrue, MatchOption};
-ghost use Rattle.dtdl_cmd.specs.Words.{AreMake, AreNames, AreReplay, IsCommand, IsName, IsRooms, command_word};
+ghost use Rattle.dtdl_cmd.specs.Words.{AreMake, AreNames, AreReplay, IsCommand, IsDocumentName, IsRooms, command_word};
 ghost use Rattle.dtdl_cmd.specs.declared.command.Command.{Command};
 
 /// How many names a command takes.
@@ -31,7 +31,7 @@ fn command_named(word: &str) -> Option<Command>
 
 /// Whether a word may name a file: it is not empty and does not begin with `-`.
 fn is_name(word: &str) -> bool
-    ensures { IsTrue result ↔ IsName word.now }
+    ensures { IsTrue result ↔ IsDocumentName word.now }
 {
     let bytes = word.as_bytes();
     !bytes.is_empty() && bytes[0] != b'-'

@@ -5,7 +5,7 @@ ghost use Rattle.std.specs.List.{AllZip};
 ghost use Rattle.dt_base.specs.Faults.{Rose};
 ghost use Rattle.dtdl_cmd.specs.Documents.{AreFound, HasUnder, Held};
 ghost use Rattle.dtdl_cmd.specs.Runs.{HasReadFault};
-ghost use Rattle.dtdl_cmd.specs.Machinery.Gathering.{IsFetched, IsGathered};
+ghost use Rattle.dtdl_cmd.specs.Machinery.Gathering.{IsFetched, AreDocumentsGathered};
 ghost use Rattle.dtdl_cmd.specs.declared.documents.NoDocuments.{NoDocuments};
 
 use dt_base::{Fetched, List, OutOfMemory, ReadEnd, Shelf, ShelfEnd, Source, read_all};
@@ -67,7 +67,7 @@ fn documents_named<F: Shelf>(
     names: &[String],
     shelf: &mut F,
 ) -> Result<List<List<u8>>, NoDocuments>
-    ensures gathered { IsGathered (AllZip (λ name document. HasUnder (F.files shelf.old) (string_bytes name) document) names.now) (Rose (F.faults shelf.old) (F.faults shelf.new)) result }
+    ensures gathered { AreDocumentsGathered (AllZip (λ name document. HasUnder (F.files shelf.old) (string_bytes name) document) names.now) (Rose (F.faults shelf.old) (F.faults shelf.new)) result }
     ensures count { F.faults shelf.old ≤ F.faults shelf.new }
     ensures same { F.files shelf.new ≡ F.files shelf.old }
 {
@@ -83,7 +83,7 @@ fn documents_named<F: Shelf>(
 
 /// The one document that the input is.
 fn document_read<S: Source>(alloc: Global, input: &mut S) -> Result<List<List<u8>>, NoDocuments>
-    ensures gathered { IsGathered (λ found. (bytes : List ℕ) × (found ≡ Some bytes ∷ [])
+    ensures gathered { AreDocumentsGathered (λ found. (bytes : List ℕ) × (found ≡ Some bytes ∷ [])
         × Held (record { before = S.left input.old; after = S.left input.new; faults_before = S.faults input.old; faults_after = S.faults input.new }) bytes)
         (Rose (S.faults input.old) (S.faults input.new)) result }
     ensures count { S.faults input.old ≤ S.faults input.new }
@@ -108,7 +108,7 @@ pub fn documents_of<S: Source, F: Shelf>(
     input: &mut S,
     shelf: &mut F,
 ) -> Result<List<List<u8>>, NoDocuments>
-    ensures gathered { IsGathered
+    ensures gathered { AreDocumentsGathered
         (AreFound (record { before = S.left input.old; after = S.left input.new; faults_before = S.faults input.old; faults_after = S.faults input.new })
         (record { before = F.files shelf.old; after = F.files shelf.new; faults_before = F.faults shelf.old; faults_after = F.faults shelf.new })
         (map string_bytes names.now))

@@ -6,15 +6,15 @@ ghost use Rattle.std.specs.declared.alloc.Global.{Global};
 ghost use Rattle.dtdl_terms.specs.Distinct.{AreDistinct, HasDeclaration};
 ghost use Rattle.dtdl_terms.specs.Equality.{DeclareTheSame, SameElements};
 ghost use Rattle.dtdl_terms.specs.declared.uploaded.Uploaded.{Uploaded};
-ghost use Rattle.model_read.specs.Limits.{IsWithinLimits};
+ghost use Rattle.local_rules.specs.Limits.{IsWithinLimits};
 ghost use Rattle.canon_text.specs.Canonical.{set_text};
-ghost use Rattle.canon_laws.specs.Typed.{IsTyped};
+ghost use Rattle.local_rules.specs.Typed.{IsTyped};
 ghost use Rattle.dtdl_cmd.specs.Words.{IsCommand};
 ghost use Rattle.dtdl_cmd.specs.Documents.{AreFound, MAX_BYTES, ShelfChange, StreamChange, documents_of};
 ghost use Rattle.document_judge.specs.FirstFaults.{Declare};
-ghost use Rattle.dtdl_cmd.specs.Answers.{Answers, interfaces_of};
+ghost use Rattle.dtdl_cmd.specs.Answers.{AnswersWords, uploaded_interfaces};
 ghost use Rattle.dtdl_cmd.specs.declared.command.Command.TheVariants as commands;
-ghost use Rattle.dtdl_cmd.specs.Runs.{Ends, EndsMake, IsDecided};
+ghost use Rattle.dtdl_cmd.specs.Runs.{RunEnds, EndsMake, IsDecidedStatus};
 ghost use Rattle.dtdl_cmd.specs.Words.{AreMake, AreReplay};
 ghost use Rattle.dtdl_cmd.specs.declared.status.Status.{Status};
 ghost use Rattle.dtdl_cmd.specs.declared.status.Status.TheVariants as status;
@@ -30,7 +30,7 @@ use std::alloc::Global;
 /// of them.
 pub fn one_answer()
     ensures { (words : List (String Global)) (found : List (Option (List ℕ))) (line text : List ℕ) (s t : Status)
-        → Answers words found s line → Answers words found t text → (s ≡ t) × (line ≡ text) }
+        → AnswersWords words found s line → AnswersWords words found t text → (s ≡ t) × (line ≡ text) }
 {
     one_number();
 }
@@ -47,17 +47,17 @@ pub fn one_input()
 pub fn one_replay()
     ensures { (words : List (String Global)) (input other : StreamChange) (shelf files : ShelfChange) (output sink : StreamChange) (all before : List ℕ) (s t : Status)
         → AreReplay words → input.before ≡ Some all → other.before ≡ Some all → output.before ≡ Some before → sink.before ≡ Some before
-        → Ends words input shelf output s → Ends words other files sink t → IsDecided s → IsDecided t
+        → RunEnds words input shelf output s → RunEnds words other files sink t → IsDecidedStatus s → IsDecidedStatus t
         → (s ≡ t) × (output.after ≡ sink.after) }
 {
-    graph_server::one_replay();
+    crate::serving::one_replay();
 }
 
 /// Words that make a graph of so many rooms end in one of three ways and in no other: its counts were written whole; the
 /// sink's count of faults rose after a proper prefix of them; or no memory was found and nothing was written.
 pub fn make_ends()
     ensures { (words : List (String Global)) (input : StreamChange) (shelf : ShelfChange) (output : StreamChange) (n : ℕ) (s : Status)
-        → AreMake words n → Ends words input shelf output s → EndsMake n output s }
+        → AreMake words n → RunEnds words input shelf output s → EndsMake n output s }
 {}
 
 /// Of two graphs that are made for the same words, and written whole, two outputs with the same before have the same bytes in
@@ -65,17 +65,17 @@ pub fn make_ends()
 pub fn one_make()
     ensures { (words : List (String Global)) (input other : StreamChange) (shelf files : ShelfChange) (output sink : StreamChange) (n : ℕ) (before : List ℕ)
         → AreMake words n → output.before ≡ Some before → sink.before ≡ Some before
-        → Ends words input shelf output status.Ok → Ends words other files sink status.Ok → output.after ≡ sink.after }
+        → RunEnds words input shelf output status.Ok → RunEnds words other files sink status.Ok → output.after ≡ sink.after }
 {
-    graph_make::one_text();
+    crate::making::one_text();
 }
 
 /// The interfaces that documents without faults declare each have a declaration, are within the limits, have types that
 /// their canonical trees tell, and no two of them have one identifier.
 pub fn declared_set()
     ensures { (documents : List (List ℕ)) (uploads : List Uploaded) → Declare documents uploads
-        → AllByRecursion HasDeclaration (interfaces_of uploads) × AllByRecursion IsWithinLimits (interfaces_of uploads)
-        × AllByRecursion IsTyped (interfaces_of uploads) × AreDistinct (map (λ i. i.id) (interfaces_of uploads)) }
+        → AllByRecursion HasDeclaration (uploaded_interfaces uploads) × AllByRecursion IsWithinLimits (uploaded_interfaces uploads)
+        × AllByRecursion IsTyped (uploaded_interfaces uploads) × AreDistinct (map (λ i. i.id) (uploaded_interfaces uploads)) }
 {
     have_types();
 }
@@ -84,7 +84,7 @@ pub fn declared_set()
 /// same. The call makes the trees of both, and fails only for want of memory.
 pub fn equal_texts(alloc: Global, one: &[Interface], other: &[Interface]) -> Result<(), OutOfMemory>
     ensures { IfOk result (λ done. (documents others : List (List ℕ)) (uploads more : List Uploaded) → Declare documents uploads → Declare others more
-        → one.now ≡ interfaces_of uploads → other.now ≡ interfaces_of more
+        → one.now ≡ uploaded_interfaces uploads → other.now ≡ uploaded_interfaces more
         → (set_text one.now ≡ set_text other.now) ↔ SameElements DeclareTheSame one.now other.now) }
 {
     declared_set();
@@ -96,9 +96,9 @@ pub fn equal_texts(alloc: Global, one: &[Interface], other: &[Interface]) -> Res
 /// limit, whatever answers the words of `canon` that find this text as their one document is status 0 and the same bytes.
 /// The call makes the tree of the interfaces, and fails only for want of memory.
 pub fn prints_itself(alloc: Global, interfaces: &[Interface]) -> Result<(), OutOfMemory>
-    ensures { IfOk result (λ done. (documents : List (List ℕ)) (uploads : List Uploaded) → Declare documents uploads → interfaces.now ≡ interfaces_of uploads
+    ensures { IfOk result (λ done. (documents : List (List ℕ)) (uploads : List Uploaded) → Declare documents uploads → interfaces.now ≡ uploaded_interfaces uploads
         → length (set_text interfaces.now) ≤ MAX_BYTES → (words : List (String Global)) (names : List (List ℕ)) → IsCommand words commands.Canon names
-        → (s : Status) (line : List ℕ) → Answers words (Some (set_text interfaces.now) ∷ []) s line → (s ≡ status.Ok) × (line ≡ set_text interfaces.now)) }
+        → (s : Status) (line : List ℕ) → AnswersWords words (Some (set_text interfaces.now) ∷ []) s line → (s ≡ status.Ok) × (line ≡ set_text interfaces.now)) }
 {
     one_number();
     declared_set();

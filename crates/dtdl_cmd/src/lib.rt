@@ -1,4 +1,5 @@
-//! The commands of `dtdl`, over the traits of the outside.
+//! The commands of `dtdl`, over the traits of the outside; who answers the requests of a session (`serving`), and the graph
+//! of so many rooms that `make` counts (`making`).
 #![tactic(auto)]
 
 mod answers;
@@ -6,8 +7,10 @@ mod command;
 mod documents;
 mod laws;
 mod makes;
+pub mod making;
 mod replays;
 mod run;
+pub mod serving;
 mod status;
 
 pub use laws::{

@@ -3,10 +3,10 @@
 ghost use Rattle.std.specs.Prelude.{◌≡◌, ◌≤◌};
 ghost use Rattle.dtdl_cmd.specs.Runs.{EndsMake};
 
+use crate::making::make;
 use crate::run::say;
 use crate::status::Status;
 use dt_base::{OutOfMemory, Sink};
-use graph_make::make;
 use std::alloc::Global;
 
 /// Makes a graph of so many rooms, and writes its counts.

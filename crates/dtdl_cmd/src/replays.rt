@@ -1,17 +1,17 @@
 //! The command that answers a session of HTTP.
 
 ghost use Rattle.std.specs.Prelude.{◌≡◌, ◌≤◌};
-ghost use Rattle.dtdl_cmd.specs.Runs.{EndsReplay, status_of};
+ghost use Rattle.dtdl_cmd.specs.Runs.{EndsReplay, exit_status};
 
+use crate::serving::replay;
 use crate::status::Status;
 use dt_base::{Sink, Source};
-use graph_server::replay;
 use http_session::SessionEnd;
 use std::alloc::Global;
 
 /// The status of a replay that ended so.
 fn status_of(end: SessionEnd) -> Status
-    ensures { result ≡ status_of end }
+    ensures { result ≡ exit_status end }
 {
     match end {
         SessionEnd::Closed => Status::Ok,

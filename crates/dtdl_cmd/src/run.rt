@@ -6,7 +6,7 @@ ghost use Rattle.dt_base.specs.Faults.{Rose};
 ghost use Rattle.dtdl_cmd.specs.Words.{AreReplay, IsCommand};
 ghost use Rattle.dtdl_cmd.specs.Documents.{AreFound};
 ghost use Rattle.dtdl_cmd.specs.Answers.{AnswersFound};
-ghost use Rattle.dtdl_cmd.specs.Runs.{Ends, HasReadFault};
+ghost use Rattle.dtdl_cmd.specs.Runs.{RunEnds, HasReadFault};
 ghost use Rattle.dtdl_cmd.specs.declared.command.Command.{Command};
 
 use crate::answers::{Answer, answer_to_documents, missing, too_long};
@@ -109,7 +109,7 @@ pub fn run_plain<S: Source, K: Sink, F: Shelf>(
     output: &mut K,
     shelf: &mut F,
 ) -> Status
-    ensures ends { Ends words.now
+    ensures ends { RunEnds words.now
         (record { before = S.left input.old; after = S.left input.new; faults_before = S.faults input.old; faults_after = S.faults input.new })
         (record { before = F.files shelf.old; after = F.files shelf.new; faults_before = F.faults shelf.old; faults_after = F.faults shelf.new })
         (record { before = K.taken output.old; after = K.taken output.new; faults_before = K.faults output.old; faults_after = K.faults output.new }) result }

@@ -6,7 +6,7 @@ use Rattle.std.specs.List.{filter}
 use Rattle.std.specs.List.Sorted.{IsStrictlySortedBy}
 use Rattle.std.specs.Map.{lookup, remove_entry, values_of}
 use Rattle.std.specs.BTreeMap.{is_at, insert_entry}
-use Rattle.dtmi_name.specs.Grammar.{Identifier, id_cmp}
+use Rattle.dt_base.specs.names.Grammar.{Identifier, id_cmp}
 use Rattle.dtdl_terms.specs.declared.interface.Interface.{Interface}
 
 -- each interface under its identifier

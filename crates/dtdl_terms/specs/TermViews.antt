@@ -13,9 +13,9 @@ abbrev pub payloads_of : List PayloadTerm → PayloadTerms
 payloads_of [] = no_payloads
 payloads_of (p ∷ ps) = more_payloads p (payloads_of ps)
 
-abbrev pub contents_of : List ContentTerm → ContentTerms
-contents_of [] = no_contents
-contents_of (c ∷ cs) = more_contents c (contents_of cs)
+abbrev pub content_terms_of : List ContentTerm → ContentTerms
+content_terms_of [] = no_contents
+content_terms_of (c ∷ cs) = more_contents c (content_terms_of cs)
 
 -- one level of a schema, with each schema and payload inside already seen
 abbrev pub schema_step : Schema-F SchemaTerm PayloadTerm → SchemaTerm
@@ -44,7 +44,7 @@ abbrev pub kind_step : ContentKind-F KindTerm ContentTerm → KindTerm
 kind_step (ContentKind-F.Telemetry schema semantic unit) = telemetry (schema_term schema) semantic unit
 kind_step (ContentKind-F.Property schema semantic unit writable) = property (schema_term schema) semantic unit writable
 kind_step (ContentKind-F.Command request response) = command (option_map payload_term request) (option_map payload_term response)
-kind_step (ContentKind-F.Relationship target properties most writable) = relationship target (contents_of properties) most writable
+kind_step (ContentKind-F.Relationship target properties most writable) = relationship target (content_terms_of properties) most writable
 kind_step (ContentKind-F.Component of) = component of
 
 abbrev pub content_step : Content-F KindTerm ContentTerm → ContentTerm
@@ -58,4 +58,4 @@ abbrev pub content_term : Content → ContentTerm
 content_term c = content c.name c.common (kind_term c.kind)
 
 abbrev pub contents_term : List Content → ContentTerms
-contents_term cs = contents_of (map content_term cs)
+contents_term cs = content_terms_of (map content_term cs)

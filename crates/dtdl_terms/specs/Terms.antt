@@ -1,6 +1,6 @@
 -- What schemas and contents declare, as plain data: a `Schema` or a `Content` without where it lies in memory.
 use Rattle.std.specs.Prelude.{ℕ, List, Bool, Option}
-use Rattle.dtmi_name.specs.Grammar.{Identifier}
+use Rattle.dt_base.specs.names.Grammar.{Identifier}
 use Rattle.dtdl_terms.specs.declared.common.Common.{Common}
 use Rattle.dtdl_terms.specs.declared.primitive.Primitive.{Primitive}
 use Rattle.dtdl_terms.specs.declared.enumeration.EnumEntry.{EnumEntry}

@@ -3,8 +3,8 @@
 ghost use Rattle.std.specs.Prelude.{◌≡◌, IfOk};
 
 use crate::options::{copy_id, copy_text};
+use dt_base::names::Dtmi;
 use dt_base::{List, OutOfMemory, Text};
-use dtmi_name::Dtmi;
 use std::alloc::Global;
 
 /// A text in one language (DTDL v2, "Internationalization").

@@ -6,8 +6,8 @@ use crate::boxed::Boxed;
 use crate::common::Common;
 use crate::options::{copy_id, copy_name};
 use crate::schema::{Payload, Schema};
+use dt_base::names::{Dtmi, Name};
 use dt_base::{List, OutOfMemory};
-use dtmi_name::{Dtmi, Name};
 use std::alloc::Global;
 
 /// A content of an interface (DTDL v2, "Interface", the property `contents`), or a property of a

@@ -3,8 +3,8 @@
 ghost use Rattle.std.specs.Prelude.{◌≡◌, IfOk};
 
 use crate::common::Common;
+use dt_base::names::Name;
 use dt_base::{List, OutOfMemory, Text};
-use dtmi_name::Name;
 use std::alloc::Global;
 
 /// The value of an entry of an enumeration (DTDL v2, "EnumValue", the property `enumValue`).

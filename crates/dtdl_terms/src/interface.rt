@@ -6,8 +6,8 @@ use crate::common::Localized;
 use crate::content::{Content, copy_contents};
 use crate::options::copy_text;
 use crate::schema::Schema;
+use dt_base::names::Dtmi;
 use dt_base::{List, OutOfMemory, Text};
-use dtmi_name::Dtmi;
 use std::alloc::Global;
 
 /// An interface (DTDL v2, "Interface").

@@ -7,7 +7,7 @@ ghost use Rattle.dtdl_terms.specs.Sets.{keyed, InOrder, interface_at, with_inter
 
 use crate::interface::Interface;
 use dt_base::OutOfMemory;
-use dtmi_name::Dtmi;
+use dt_base::names::Dtmi;
 use std::alloc::Global;
 use std::collections::BTreeMap;
 use std::collections::btree_map::Range;
@@ -28,7 +28,7 @@ impl Model for ModelSet {
     ghost use Rattle.dtdl_terms.specs.contracts.interface.Interface as interface;
     ghost use Rattle.std.specs.Map.{values_of};
     ghost use Rattle.std.specs.BTreeMap.{IsOrdered};
-    ghost use Rattle.dtmi_name.specs.Grammar.{id_cmp};
+    ghost use Rattle.dt_base.specs.names.Grammar.{id_cmp};
     ghost use Rattle.dtdl_terms.specs.declared.interface.Interface.{Interface};
     ghost use Rattle.dtdl_terms.specs.Sets.{keyed};
 

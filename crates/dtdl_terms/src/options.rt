@@ -2,8 +2,8 @@
 
 ghost use Rattle.std.specs.Prelude.{◌≡◌, IfOk};
 
+use dt_base::names::{Dtmi, Name};
 use dt_base::{OutOfMemory, Text};
-use dtmi_name::{Dtmi, Name};
 use std::alloc::Global;
 
 /// An equal text, where there is one.

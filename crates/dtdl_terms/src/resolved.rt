@@ -5,8 +5,8 @@ ghost use Rattle.std.specs.Prelude.{◌≡◌, IfOk};
 use crate::content::Content;
 use crate::interface::{copy_ids, copy_schemas};
 use crate::schema::Schema;
+use dt_base::names::Dtmi;
 use dt_base::{List, OutOfMemory};
-use dtmi_name::Dtmi;
 use std::alloc::Global;
 
 /// An interface with all that it inherits (DTDL v2, "Interface", the property `extends`) and with what its components

@@ -6,8 +6,8 @@ use crate::boxed::Boxed;
 use crate::common::Common;
 use crate::enumeration::{EnumEntry, copy_enum_entries};
 use crate::primitive::Primitive;
+use dt_base::names::{Dtmi, Name};
 use dt_base::{List, OutOfMemory};
-use dtmi_name::{Dtmi, Name};
 use std::alloc::Global;
 
 /// A schema (DTDL v2, "Schemas").
@@ -65,7 +65,7 @@ impl Schema {
                 Ok(Schema::Named(id))
             }
             Schema::Array { common, element } => {
-                let common = Boxed::new(alloc, common.get().copy(alloc)?)?;
+                let common = copy_common(alloc, common)?;
                 let element = Boxed::new(alloc, element.get().copy(alloc)?)?;
                 Ok(Schema::Array { common, element })
             }
@@ -73,23 +73,15 @@ impl Schema {
                 common,
                 of_text,
                 values,
-            } => {
-                let common = Boxed::new(alloc, common.get().copy(alloc)?)?;
-                let values = copy_enum_entries(alloc, values.as_slice())?;
-                Ok(Schema::Enumeration {
-                    common,
-                    of_text: *of_text,
-                    values,
-                })
-            }
+            } => copy_enumeration(alloc, common, *of_text, values),
             Schema::Map { common, key, value } => {
-                let common = Boxed::new(alloc, common.get().copy(alloc)?)?;
+                let common = copy_common(alloc, common)?;
                 let key = Boxed::new(alloc, key.get().copy(alloc)?)?;
                 let value = Boxed::new(alloc, value.get().copy(alloc)?)?;
                 Ok(Schema::Map { common, key, value })
             }
             Schema::Object { common, fields } => {
-                let common = Boxed::new(alloc, common.get().copy(alloc)?)?;
+                let common = copy_common(alloc, common)?;
                 let fields = copy_payloads(alloc, fields.as_slice())?;
                 Ok(Schema::Object { common, fields })
             }
@@ -114,6 +106,7 @@ impl Payload {
     }
 }
 
+/// A list of equal payloads.
 #[cycle(schema_copies)]
 fn copy_payloads(alloc: Global, payloads: &[Payload]) -> Result<List<Payload>, OutOfMemory>
     ensures { IfOk result (λ copies. copies ≡ payloads.now) }
@@ -123,4 +116,30 @@ fn copy_payloads(alloc: Global, payloads: &[Payload]) -> Result<List<Payload>, O
         copies.push(payload.copy(alloc)?)?;
     }
     Ok(List::from_vec(copies))
+}
+
+/// What is said of a schema, equal and in a box of its own.
+fn copy_common(alloc: Global, common: &Boxed<Common>) -> Result<Boxed<Common>, OutOfMemory>
+    ensures { IfOk result (λ copy. copy ≡ common.now) }
+{
+    let copy = common.get().copy(alloc)?;
+    Boxed::new(alloc, copy)
+}
+
+/// An enumeration with equal parts.
+fn copy_enumeration(
+    alloc: Global,
+    common: &Boxed<Common>,
+    of_text: bool,
+    values: &List<EnumEntry>,
+) -> Result<Schema, OutOfMemory>
+    ensures { IfOk result (λ copy. copy ≡ Schema.Enumeration common.now of_text values.now) }
+{
+    let common = copy_common(alloc, common)?;
+    let values = copy_enum_entries(alloc, values.as_slice())?;
+    Ok(Schema::Enumeration {
+        common,
+        of_text,
+        values,
+    })
 }

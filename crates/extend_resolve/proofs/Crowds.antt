@@ -4,7 +4,8 @@ use Rattle.std.specs.Prelude.{slice_get, sum}
 use Rattle.std.specs.List.{AllByRecursion, IsDistinct, sum_by}
 use Rattle.std.proofs.lemmas.List.Sums.{sum_by-cons, sum_by_more}
 use Rattle.std.proofs.lemmas.Option.{same_Some, none-some}
-use Rattle.dtmi_name.specs.Grammar.{Identifier, dtmi_text}
+use Rattle.std.proofs.lemmas.Bool.{and_from, and_parts}
+use Rattle.dt_base.specs.names.Grammar.{Identifier, dtmi_text}
 use Rattle.dtdl_terms.specs.Distinct.{AreDistinct}
 use Rattle.dtdl_terms.specs.declared.interface.Interface.{Interface}
 use Rattle.extend_resolve.specs.Chains.{IsAncestor}
@@ -12,7 +13,7 @@ use Rattle.extend_resolve.specs.SetRules.{HasTooManyContents}
 use Rattle.extend_resolve.specs.Machinery.Links.{IsIn, links_at, IsWay, way_end, Arrives}
 use Rattle.extend_resolve.specs.Machinery.Numbers.{kept_at}
 use Rattle.extend_resolve.specs.Machinery.Worlds.{IsWorld}
-use Rattle.extend_resolve.specs.Machinery.Judges.{AreBehind, counts, is_rest_of, counted}
+use Rattle.extend_resolve.specs.Machinery.Judges.{AreBehind, counts, is_rest_of, counted_rest}
 use Rattle.extend_resolve.proofs.Members.{equal_numbers, same_number, other_number, in_head, in_tail, in_cons, one_of}
 use Rattle.extend_resolve.proofs.Worlds.{ancestor_arrives, arrives_ancestor, kept_by_text}
 use Rattle.extend_resolve.proofs.Judged.{own_stands, kept_reached}
@@ -58,14 +59,6 @@ module _ (g : ℕ → ℕ) where
       let first = drop_sum y zs all.0 in
       let rest = sum_within ys (drop_one y zs) distinct.1 (all_dropped y ys zs all.1 distinct.0) in
       omega (arith, first, rest, sum_by-cons g y ys)
-
-and_parts : (a b : Bool) → (a && b) ≡ true → (a ≡ true) × (b ≡ true)
-and_parts true b h = (refl, h)
-and_parts false b h = absurd (true≢false (sym h))
-
-and_both : (a b : Bool) → a ≡ true → b ≡ true → (a && b) ≡ true
-and_both true b h g = g
-and_both false b h g = h
 
 differs : (a b : ℕ) → not (nat_eq a b) ≡ true → a ≢ b
 differs a b h e = true≢false (sym h ∙ ap not (same_number a b e))
@@ -168,7 +161,7 @@ module _ (set new nodes : List Interface) (numbers : List (Identifier × ℕ)) (
       let not_index : at.0 ≢ index = λ e. others.0 (ap text_of (same_Some i b (sym here ∙ sym (ap (slice_get nodes) e) ∙ at.2))) in
       let not_own : at.0 ≢ own = λ e. others.0 (sym z.2 ∙ ap text_of (same_Some z.0 b (sym z.1 ∙ sym (ap (slice_get nodes) e) ∙ at.2))) in
       let rest : (not (nat_eq at.0 index) && not (nat_eq at.0 own)) ≡ true =
-      and_both (not (nat_eq at.0 index)) (not (nat_eq at.0 own)) (ap not (other_number at.0 index not_index)) (ap not (other_number at.0 own not_own)) in
+      and_from (not (nat_eq at.0 index)) (not (nat_eq at.0 own)) (ap not (other_number at.0 index not_index)) (ap not (other_number at.0 own not_own)) in
       let size : of_rest at.0 ≡ size_of b = ap (λ t. cond t (counts (slice_get nodes at.0)) 0) rest ∙ ap counts at.2 in
       let sums = more.4 in (
         at.0 ∷ more.0,
@@ -178,9 +171,9 @@ module _ (set new nodes : List Interface) (numbers : List (Identifier × ℕ)) (
         (let e : of_rest at.0 + sum_by of_rest more.0 ≡ size_of b + sum (map size_of bs) = omega (arith, size, sums) in sum_by-cons of_rest at.0 more.0 ∙ e ∙ sym (sum_by-cons (λ x. x) (size_of b) (map size_of bs))),
       )
 
-  pub crowd_tells : (found : List ℕ) → AreBehind links index found → (3000 < counted nodes index (kept_at i.id numbers) found + length i.contents) ↔ HasTooManyContents set i
+  pub crowd_tells : (found : List ℕ) → AreBehind links index found → (3000 < counted_rest nodes index (kept_at i.id numbers) found + length i.contents) ↔ HasTooManyContents set i
   crowd_tells found behind =
-      let same : counted nodes index (kept_at i.id numbers) found ≡ sum_by of_rest found = ap (λ o. counted nodes index o found) kept in (
+      let same : counted_rest nodes index (kept_at i.id numbers) found ≡ sum_by of_rest found = ap (λ o. counted_rest nodes index o found) kept in (
         λ over.
             let p = pick found behind.distinct (λ y h. (behind.each y).0 h) in
             let sums = p.3 in
@@ -194,14 +187,14 @@ module _ (set new nodes : List Interface) (numbers : List (Identifier × ℕ)) (
 
 -- ---- contents that are counted one by one
 module _ (nodes : List Interface) (index : ℕ) (own : Option ℕ) (numbers : List ℕ) (k y : ℕ) (low : k < length numbers) (is : get_or numbers k 0 ≡ y) where
-  pub counted_more : (a : Interface) → is_rest_of index own y ≡ true → slice_get nodes y ≡ Some a → counted nodes index own (take (k + 1) numbers) ≡ counted nodes index own (take k numbers) + length a.contents
+  pub counted_more : (a : Interface) → is_rest_of index own y ≡ true → slice_get nodes y ≡ Some a → counted_rest nodes index own (take (k + 1) numbers) ≡ counted_rest nodes index own (take k numbers) + length a.contents
   counted_more a rest at =
       sum_by_more (λ z. cond (is_rest_of index own z) (counts (slice_get nodes z)) 0) numbers k 0 low
-      ∙ ap (λ n. counted nodes index own (take k numbers) + n) (ap (λ z. cond (is_rest_of index own z) (counts (slice_get nodes z)) 0) is ∙ ap (λ t. cond t (counts (slice_get nodes y)) 0) rest ∙ ap counts at)
+      ∙ ap (λ n. counted_rest nodes index own (take k numbers) + n) (ap (λ z. cond (is_rest_of index own z) (counts (slice_get nodes z)) 0) is ∙ ap (λ t. cond t (counts (slice_get nodes y)) 0) rest ∙ ap counts at)
 
-  pub counted_same : is_rest_of index own y ≡ false → counted nodes index own (take (k + 1) numbers) ≡ counted nodes index own (take k numbers)
+  pub counted_same : is_rest_of index own y ≡ false → counted_rest nodes index own (take (k + 1) numbers) ≡ counted_rest nodes index own (take k numbers)
   counted_same rest =
-      let e : counted nodes index own (take k numbers) + 0 ≡ counted nodes index own (take k numbers) = omega arith in
+      let e : counted_rest nodes index own (take k numbers) + 0 ≡ counted_rest nodes index own (take k numbers) = omega arith in
       sum_by_more (λ z. cond (is_rest_of index own z) (counts (slice_get nodes z)) 0) numbers k 0 low
-      ∙ ap (λ n. counted nodes index own (take k numbers) + n) (ap (λ z. cond (is_rest_of index own z) (counts (slice_get nodes z)) 0) is ∙ ap (λ t. cond t (counts (slice_get nodes y)) 0) rest)
+      ∙ ap (λ n. counted_rest nodes index own (take k numbers) + n) (ap (λ z. cond (is_rest_of index own z) (counts (slice_get nodes z)) 0) is ∙ ap (λ t. cond t (counts (slice_get nodes y)) 0) rest)
       ∙ e

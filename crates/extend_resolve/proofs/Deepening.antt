@@ -9,7 +9,7 @@ use Rattle.std.proofs.lemmas.List.{get_or-set_same, get_or-set_other, take-appen
 use Rattle.std.proofs.lemmas.Map.Keys.{IsDistinct-push}
 use Rattle.std.proofs.lemmas.Map.Steps.{length-le_from_distinct_below}
 use Rattle.std.proofs.lemmas.Option.{none-some, same_Some}
-use Rattle.extend_resolve.specs.Machinery.Links.{IsIn, links_at, IsWay, AreWithin}
+use Rattle.extend_resolve.specs.Machinery.Links.{IsIn, links_at, IsWay, AreLinksWithin}
 use Rattle.extend_resolve.specs.Machinery.Worlds.{DepthAt, AreDepths}
 use Rattle.extend_resolve.specs.Machinery.Deepening.{depth_over, IsOut, IsDeepening, Grows, IsTried, with_child, LeadBack}
 use Rattle.extend_resolve.proofs.Opening.{equal_numbers, same_number, in_left, in_last, all_in, all_from, all_push, all_map}
@@ -138,10 +138,10 @@ module _ (links : List (List ℕ)) where
     back = λ x y low. absurd (omega (arith, low));
   }
 
-  pub low_links : AreWithin links → (children : List (List ℕ)) (at : ℕ) → length children ≡ length links → AllByRecursion (λ y. y < length children) (links_at links at)
+  pub low_links : AreLinksWithin links → (children : List (List ℕ)) (at : ℕ) → length children ≡ length links → AllByRecursion (λ y. y < length children) (links_at links at)
   low_links within children at same = all_from (λ y. y < length children) (links_at links at) (λ y link. subst (λ n. y < n) (sym same) (within at y link))
 
-  pub back_step : AreWithin links → (children : List (List ℕ)) (at : ℕ) → at < length links → LeadBack links children at
+  pub back_step : AreLinksWithin links → (children : List (List ℕ)) (at : ℕ) → at < length links → LeadBack links children at
       → LeadBack links (with_child children at (links_at links at)) (at + 1)
   back_step within children at low so_far =
       let all : AllByRecursion (λ y. y < length children) (links_at links at) = low_links within children at so_far.same in
@@ -326,14 +326,14 @@ module _ (links : List (List ℕ)) where
       }
 
     -- from a number that is not told, where each such has a link to another, lead ways of every length
-    endless : AreWithin links → ((x : ℕ) → x < length links → IsTried links ended ended x) → (d x : ℕ) → x < length links → IsOut x ended → (ys : List ℕ) × IsWay links x ys × (length ys ≡ d)
+    endless : AreLinksWithin links → ((x : ℕ) → x < length links → IsTried links ended ended x) → (d x : ℕ) → x < length links → IsOut x ended → (ys : List ℕ) × IsWay links x ys × (length ys ≡ d)
     endless within tried zero x low out = ([], tt, refl)
     endless within tried (suc d) x low out =
         let y = tried x low out in
         let more = endless within tried d y.0 (within x y.0 y.1) y.2 in
         (y.0 ∷ more.0, (y.1, more.1), ap suc more.2)
 
-    pub depths_told : AreWithin links → ((x : ℕ) → x < length links → IsTried links ended ended x) → AreDepths links depths
+    pub depths_told : AreLinksWithin links → ((x : ℕ) → x < length links → IsTried links ended ended x) → AreDepths links depths
     depths_told within tried = record {
       same = so_far.same;
       each = λ x low. elim (get_or depths x None) as (λ o. get_or depths x None ≡ o → DepthAt links x o) [

@@ -15,7 +15,7 @@ use Rattle.dtdl_terms.specs.declared.spot.Spot.TheVariants as spots
 use Rattle.dtdl_terms.specs.declared.uploaded.Uploaded.{Uploaded}
 use Rattle.extend_resolve.specs.declared.rule.SetRule.{SetRule}
 use Rattle.extend_resolve.specs.declared.rule.SetRule.TheVariants as rules
-use Rattle.extend_resolve.specs.Breaches.{rule_number, Breaks, parent_place, place_in, place_of, place_at, Breach, breach_cmp, IsBreach, IsFirstBreach, HasOrdinals}
+use Rattle.extend_resolve.specs.Breaches.{set_rule_number, BreaksSetRule, parent_place, place_in, place_of, place_at, Breach, breach_cmp, IsSetBreach, IsFirstSetBreach, HasOrdinals}
 use Rattle.extend_resolve.specs.SetRules.{together}
 
 -- ---- positions
@@ -41,7 +41,7 @@ nth (suc k) (r ∷ rs) = nth k rs
 abbrev rule_of : ℕ → SetRule
 rule_of n = nth n (rules.TooManyResolved ∷ rules.RepeatedId ∷ rules.AbsentReference ∷ rules.Cycle ∷ rules.LongChain ∷ rules.NameClash ∷ rules.ComponentInComponent ∷ [])
 
-rule_back : (r : SetRule) → rule_of (rule_number r) ≡ r
+rule_back : (r : SetRule) → rule_of (set_rule_number r) ≡ r
 rule_back rules.RepeatedId = refl
 rule_back rules.AbsentReference = refl
 rule_back rules.Cycle = refl
@@ -73,49 +73,49 @@ abbrev AtContent : Interface → Spot → Type 0
 AtContent i s = (k : ℕ) × (s ≡ spots.ContentSchema k) × (k < length i.contents)
 
 module _ (set earlier : List Interface) (i : Interface) where
-  of_repeated : (s : Spot) → Breaks set earlier i rules.RepeatedId s → s ≡ spots.Id
+  of_repeated : (s : Spot) → BreaksSetRule set earlier i rules.RepeatedId s → s ≡ spots.Id
   of_repeated spots.Whole h = absurd h
   of_repeated spots.Id h = refl
   of_repeated spots.Parents h = absurd h
   of_repeated (spots.Parent k) h = absurd h
   of_repeated (spots.ContentSchema k) h = absurd h
 
-  of_long : (s : Spot) → Breaks set earlier i rules.LongChain s → s ≡ spots.Parents
+  of_long : (s : Spot) → BreaksSetRule set earlier i rules.LongChain s → s ≡ spots.Parents
   of_long spots.Whole h = absurd h
   of_long spots.Id h = absurd h
   of_long spots.Parents h = refl
   of_long (spots.Parent k) h = absurd h
   of_long (spots.ContentSchema k) h = absurd h
 
-  of_many : (s : Spot) → Breaks set earlier i rules.TooManyResolved s → s ≡ spots.Whole
+  of_many : (s : Spot) → BreaksSetRule set earlier i rules.TooManyResolved s → s ≡ spots.Whole
   of_many spots.Whole h = refl
   of_many spots.Id h = absurd h
   of_many spots.Parents h = absurd h
   of_many (spots.Parent k) h = absurd h
   of_many (spots.ContentSchema k) h = absurd h
 
-  of_cycle : (s : Spot) → Breaks set earlier i rules.Cycle s → AtParent i s
+  of_cycle : (s : Spot) → BreaksSetRule set earlier i rules.Cycle s → AtParent i s
   of_cycle spots.Whole h = absurd h
   of_cycle spots.Id h = absurd h
   of_cycle spots.Parents h = absurd h
   of_cycle (spots.Parent k) h = (k, refl, slice_get_within i.parents k h.1.0 h.1.1)
   of_cycle (spots.ContentSchema k) h = absurd h
 
-  of_clash : (s : Spot) → Breaks set earlier i rules.NameClash s → AtParent i s
+  of_clash : (s : Spot) → BreaksSetRule set earlier i rules.NameClash s → AtParent i s
   of_clash spots.Whole h = absurd h
   of_clash spots.Id h = absurd h
   of_clash spots.Parents h = absurd h
   of_clash (spots.Parent k) h = (k, refl, slice_get_within i.parents k h.3.0 h.3.1)
   of_clash (spots.ContentSchema k) h = absurd h
 
-  of_component : (s : Spot) → Breaks set earlier i rules.ComponentInComponent s → AtContent i s
+  of_component : (s : Spot) → BreaksSetRule set earlier i rules.ComponentInComponent s → AtContent i s
   of_component spots.Whole h = absurd h
   of_component spots.Id h = absurd h
   of_component spots.Parents h = absurd h
   of_component (spots.Parent k) h = absurd h
   of_component (spots.ContentSchema k) h = (k, refl, slice_get_within i.contents k h.2.1.0 h.2.1.1)
 
-  of_absent : (s : Spot) → Breaks set earlier i rules.AbsentReference s → AtParent i s ⊎ AtContent i s
+  of_absent : (s : Spot) → BreaksSetRule set earlier i rules.AbsentReference s → AtParent i s ⊎ AtContent i s
   of_absent spots.Whole h = absurd h
   of_absent spots.Id h = absurd h
   of_absent spots.Parents h = absurd h
@@ -145,7 +145,7 @@ module _ (u : Uploaded) (told : HasOrdinals u) where
   same_absent s t (inr a) (inl b) p = absurd (never_both t s b a (sym p))
   same_absent s t (inr a) (inr b) p = same_contents s t a b p
 
-  same_spot : (set earlier : List Interface) (r : SetRule) (s t : Spot) → Breaks set earlier u.interface r s → Breaks set earlier u.interface r t → place_in u s ≡ place_in u t → s ≡ t
+  same_spot : (set earlier : List Interface) (r : SetRule) (s t : Spot) → BreaksSetRule set earlier u.interface r s → BreaksSetRule set earlier u.interface r t → place_in u s ≡ place_in u t → s ≡ t
   same_spot set earlier rules.RepeatedId s t h g p = of_repeated set earlier u.interface s h ∙ sym (of_repeated set earlier u.interface t g)
   same_spot set earlier rules.AbsentReference s t h g p = same_absent s t (of_absent set earlier u.interface s h) (of_absent set earlier u.interface t g) p
   same_spot set earlier rules.Cycle s t h g p = same_parents s t (of_cycle set earlier u.interface s h) (of_cycle set earlier u.interface t g) p
@@ -159,7 +159,7 @@ breach n r s = record { index = n; rule = r; spot = s }
 
 -- ---- the order of breaches
 breaches_total : (new : List Uploaded) → IsTotalOrder (breach_cmp new)
-breaches_total new = then_total (on_total (λ (b : Breach). place_at new b.index b.spot) nat_list_cmp_total) (on_total (λ (b : Breach). rule_number b.rule) nat_cmp_total)
+breaches_total new = then_total (on_total (λ (b : Breach). place_at new b.index b.spot) nat_list_cmp_total) (on_total (λ (b : Breach). set_rule_number b.rule) nat_cmp_total)
 
 less_apart : Less ≡ Equal → ⊥
 less_apart h = true≢false (sym (ap is_eq h))
@@ -182,23 +182,23 @@ numbers a b h = ap first (exact_bytes (a ∷ []) (b ∷ []) (ap (λ o. ordering_
 
 -- breaches of one rule at one place of one interface are one
 same_at : (set : List Interface) (new : List Uploaded) → AllByRecursion HasOrdinals new → (n : ℕ) (r : SetRule) (s t : Spot)
-    → IsBreach set new (breach n r s) → IsBreach set new (breach n r t) → place_of (slice_get new n) s ≡ place_of (slice_get new n) t → s ≡ t
+    → IsSetBreach set new (breach n r s) → IsSetBreach set new (breach n r t) → place_of (slice_get new n) s ≡ place_of (slice_get new n) t → s ≡ t
 same_at set new told n r s t (u, here, h) (v, there, g) p =
     let one : v ≡ u = same_Some v u (sym there ∙ here) in
     let at : slice_get new n ≡ Some u = here in
     same_spot u (all_at HasOrdinals new n u told here) (together set new) (map (λ w. w.interface) (take n new)) r s t h
-    (subst (λ w. Breaks (together set new) (map (λ x. x.interface) (take n new)) w.interface r t) one g)
+    (subst (λ w. BreaksSetRule (together set new) (map (λ x. x.interface) (take n new)) w.interface r t) one g)
     (sym (ap (λ o. place_of o s) at) ∙ p ∙ ap (λ o. place_of o t) at)
 
-pub one_first : (set : List Interface) (new : List Uploaded) → AllByRecursion HasOrdinals new → (b c : Breach) → IsFirstBreach set new b → IsFirstBreach set new c → b ≡ c
+pub one_first : (set : List Interface) (new : List Uploaded) → AllByRecursion HasOrdinals new → (b c : Breach) → IsFirstSetBreach set new b → IsFirstSetBreach set new c → b ≡ c
 one_first set new told b c hb hc =
     let equal = tied (breach_cmp new b c) (breach_cmp new c b) ((breaches_total new).antisymm b c) (hb.least c hc.breach) (hc.least b hb.breach) in
-    let parts = then_parts (slice_cmp nat_cmp (place_at new b.index b.spot) (place_at new c.index c.spot)) (nat_cmp (rule_number b.rule) (rule_number c.rule)) equal in
+    let parts = then_parts (slice_cmp nat_cmp (place_at new b.index b.spot) (place_at new c.index c.spot)) (nat_cmp (set_rule_number b.rule) (set_rule_number c.rule)) equal in
     let place : place_at new b.index b.spot ≡ place_at new c.index c.spot = exact_bytes (place_at new b.index b.spot) (place_at new c.index c.spot) parts.0 in
     let index : b.index ≡ c.index = ap first place in
-    let rule : b.rule ≡ c.rule = sym (rule_back b.rule) ∙ ap rule_of (numbers (rule_number b.rule) (rule_number c.rule) parts.1) ∙ rule_back c.rule in
-    let other : IsBreach set new (breach b.index b.rule c.spot) =
-    subst (λ r. IsBreach set new (breach b.index r c.spot)) (sym rule) (subst (λ n. IsBreach set new (breach n c.rule c.spot)) (sym index) hc.breach) in
+    let rule : b.rule ≡ c.rule = sym (rule_back b.rule) ∙ ap rule_of (numbers (set_rule_number b.rule) (set_rule_number c.rule) parts.1) ∙ rule_back c.rule in
+    let other : IsSetBreach set new (breach b.index b.rule c.spot) =
+    subst (λ r. IsSetBreach set new (breach b.index r c.spot)) (sym rule) (subst (λ n. IsSetBreach set new (breach n c.rule c.spot)) (sym index) hc.breach) in
     let places : place_of (slice_get new b.index) b.spot ≡ place_of (slice_get new b.index) c.spot = ap rest place ∙ ap (λ n. place_of (slice_get new n) c.spot) (sym index) in
     let spot : b.spot ≡ c.spot = same_at set new told b.index b.rule b.spot c.spot hb.breach other places in
     ap (λ n. breach n b.rule b.spot) index ∙ ap (λ r. breach c.index r b.spot) rule ∙ ap (λ s. breach c.index c.rule s) spot

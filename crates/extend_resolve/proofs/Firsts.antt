@@ -11,8 +11,8 @@ use Rattle.dtdl_terms.specs.declared.spot.Spot.TheVariants as spots
 use Rattle.dtdl_terms.specs.declared.uploaded.Uploaded.{Uploaded}
 use Rattle.extend_resolve.specs.declared.first.Found.{Found}
 use Rattle.extend_resolve.specs.declared.rule.SetRule.{SetRule}
-use Rattle.extend_resolve.specs.Breaches.{rule_number, place_in}
-use Rattle.extend_resolve.specs.Machinery.Firsts.{found_cmp, earlier_of, found_if, IsLeast, AtSpot}
+use Rattle.extend_resolve.specs.Breaches.{set_rule_number, place_in}
+use Rattle.extend_resolve.specs.Machinery.Firsts.{found_cmp, earlier_of, found_if, IsLeastFound, AtSpot}
 use Rattle.extend_resolve.specs.Machinery.Judges.{OfParents, OfContents}
 
 abbrev pub at : SetRule → Spot → Found
@@ -39,7 +39,7 @@ equal_then o p e h g = h (sym (ap (λ x. ordering_then x p) e) ∙ g)
 
 module _ (u : Uploaded) where
   order : IsTotalOrder (found_cmp u)
-  order = then_total (on_total (λ (f : Found). place_in u f.spot) nat_list_cmp_total) (on_total (λ (f : Found). rule_number f.rule) nat_cmp_total)
+  order = then_total (on_total (λ (f : Found). place_in u f.spot) nat_list_cmp_total) (on_total (λ (f : Found). set_rule_number f.rule) nat_cmp_total)
 
   chain : (f g h : Found) → found_cmp u f g ≢ Greater → found_cmp u g h ≢ Greater → found_cmp u f h ≢ Greater
   chain f g h low high = not_greater (found_cmp u f h) (upto order f g h (gt_false (found_cmp u f g) low) (gt_false (found_cmp u g h) high))
@@ -47,16 +47,16 @@ module _ (u : Uploaded) where
   turned : (f g : Found) → found_cmp u f g ≡ Greater → found_cmp u g f ≢ Greater
   turned f g e = not_greater (found_cmp u g f) (ap is_gt (order.antisymm g f ∙ ap ordering_reverse e))
 
-  pub least_weaker : (P Q : SetRule → Spot → Type 0) (o : Option Found) → ((r : SetRule) (s : Spot) → P r s → Q r s) → ((r : SetRule) (s : Spot) → Q r s → P r s) → IsLeast u P o → IsLeast u Q o
+  pub least_weaker : (P Q : SetRule → Spot → Type 0) (o : Option Found) → ((r : SetRule) (s : Spot) → P r s → Q r s) → ((r : SetRule) (s : Spot) → Q r s → P r s) → IsLeastFound u P o → IsLeastFound u Q o
   least_weaker P Q None f g least = λ r s q. least r s (g r s q)
   least_weaker P Q (Some x) f g least = (f x.rule x.spot least.0, λ r s q. least.1 r s (g r s q))
 
-  pub earlier_least : (P Q : SetRule → Spot → Type 0) (a b : Option Found) → IsLeast u P a → IsLeast u Q b → IsLeast u (λ r s. P r s ⊎ Q r s) (earlier_of u a b)
+  pub earlier_least : (P Q : SetRule → Spot → Type 0) (a b : Option Found) → IsLeastFound u P a → IsLeastFound u Q b → IsLeastFound u (λ r s. P r s ⊎ Q r s) (earlier_of u a b)
   earlier_least P Q None None la lb = λ r s h. elim h [ inl p ↦ la r s p | inr q ↦ lb r s q ]
   earlier_least P Q None (Some g) la lb = (inr lb.0, λ r s h. elim h [ inl p ↦ absurd (la r s p) | inr q ↦ lb.1 r s q ])
   earlier_least P Q (Some f) None la lb = (inl la.0, λ r s h. elim h [ inl p ↦ la.1 r s p | inr q ↦ absurd (lb r s q) ])
   earlier_least P Q (Some f) (Some g) la lb =
-      elim (is_gt (found_cmp u f g)) as (λ b. is_gt (found_cmp u f g) ≡ b → IsLeast u (λ r s. P r s ⊎ Q r s) (cond b (Some g) (Some f))) [
+      elim (is_gt (found_cmp u f g)) as (λ b. is_gt (found_cmp u f g) ≡ b → IsLeastFound u (λ r s. P r s ⊎ Q r s) (cond b (Some g) (Some f))) [
         | true ↦ λ e. (
           inr lb.0,
           λ r s h. elim h [
@@ -77,20 +77,20 @@ module _ (u : Uploaded) where
   same_place s = tied_itself nat_list_cmp_total (place_in u s)
 
   -- a rule is the least at a place where it is broken and no rule with a lesser number is
-  pub least_at : (P : SetRule → Spot → Type 0) (rule : SetRule) (spot : Spot) → P rule spot → ((r : SetRule) → P r spot → rule_number rule ≤ rule_number r) → IsLeast u (AtSpot P spot) (Some (at rule spot))
+  pub least_at : (P : SetRule → Spot → Type 0) (rule : SetRule) (spot : Spot) → P rule spot → ((r : SetRule) → P r spot → set_rule_number rule ≤ set_rule_number r) → IsLeastFound u (AtSpot P spot) (Some (at rule spot))
   least_at P rule spot broken low = (
     (refl, broken),
     λ r s h. subst (λ t. found_cmp u (at rule spot) (at r t) ≢ Greater) (sym h.0)
-        (equal_then (slice_cmp nat_cmp (place_in u spot) (place_in u spot)) (nat_cmp (rule_number rule) (rule_number r)) (same_place spot)
-        (upto_numbers (rule_number rule) (rule_number r) (low r (subst (P r) h.0 h.1)))),
+        (equal_then (slice_cmp nat_cmp (place_in u spot) (place_in u spot)) (nat_cmp (set_rule_number rule) (set_rule_number r)) (same_place spot)
+        (upto_numbers (set_rule_number rule) (set_rule_number r) (low r (subst (P r) h.0 h.1)))),
   )
 
-  pub none_at : (P : SetRule → Spot → Type 0) (spot : Spot) → ((r : SetRule) → P r spot → ⊥) → IsLeast u (AtSpot P spot) None
+  pub none_at : (P : SetRule → Spot → Type 0) (spot : Spot) → ((r : SetRule) → P r spot → ⊥) → IsLeastFound u (AtSpot P spot) None
   none_at P spot never = λ r s h. never r (subst (P r) h.0 h.1)
 
   -- where a test tells whether a rule is broken, and no other can be at that place
-  pub least_if : (P : SetRule → Spot → Type 0) (b : Bool) (rule : SetRule) (spot : Spot) → (b ≡ true) ↔ P rule spot → ((r : SetRule) → P r spot → r ≡ rule) → IsLeast u (AtSpot P spot) (found_if b rule spot)
-  least_if P true rule spot tells alone = least_at P rule spot (tells.0 refl) (λ r h. let e = ap rule_number (alone r h) in omega (arith, e))
+  pub least_if : (P : SetRule → Spot → Type 0) (b : Bool) (rule : SetRule) (spot : Spot) → (b ≡ true) ↔ P rule spot → ((r : SetRule) → P r spot → r ≡ rule) → IsLeastFound u (AtSpot P spot) (found_if b rule spot)
+  least_if P true rule spot tells alone = least_at P rule spot (tells.0 refl) (λ r h. let e = ap set_rule_number (alone r h) in omega (arith, e))
   least_if P false rule spot tells alone = none_at P spot (λ r h. true≢false (sym (tells.1 (subst (λ x. P x spot) (alone r h) h))))
 
 -- ---- places one after another

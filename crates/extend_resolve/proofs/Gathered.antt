@@ -14,7 +14,7 @@ use Rattle.std.proofs.lemmas.List.{length-map, map_push}
 use Rattle.std.proofs.lemmas.Map.Keys.{IsDistinct-push}
 use Rattle.std.proofs.lemmas.Map.Steps.{length-le_from_keys}
 use Rattle.std.proofs.lemmas.Option.{none-some, same_Some, slice_get-map, get_or_from_slice_get}
-use Rattle.dtmi_name.specs.Grammar.{Identifier, dtmi_text, id_cmp}
+use Rattle.dt_base.specs.names.Grammar.{Identifier, dtmi_text, id_cmp}
 use Rattle.dtdl_terms.specs.Sets.{keyed, interface_at}
 use Rattle.dtdl_terms.specs.Terms.{KindTerm, telemetry, property, command, relationship, component}
 use Rattle.dtdl_terms.specs.TermViews.{kind_term}

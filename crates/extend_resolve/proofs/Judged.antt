@@ -7,10 +7,10 @@ use Rattle.std.specs.Map.{lookup}
 use Rattle.std.specs.BTreeMap.{is_at}
 use Rattle.std.specs.Ordering.{nat_cmp}
 use Rattle.std.specs.Cmp.Lexicographic.{slice_cmp}
-use Rattle.std.proofs.lemmas.Bool.{cases_lt}
+use Rattle.std.proofs.lemmas.Bool.{cases_lt, and_from}
 use Rattle.std.proofs.lemmas.Option.{same_Some, none-some}
 use Rattle.std.proofs.lemmas.Map.Lookups.{exact_bytes}
-use Rattle.dtmi_name.specs.Grammar.{Identifier, dtmi_text, id_cmp}
+use Rattle.dt_base.specs.names.Grammar.{Identifier, dtmi_text, id_cmp}
 use Rattle.dtdl_terms.specs.Sets.{keyed, interface_at}
 use Rattle.dtdl_terms.specs.Terms.{component}
 use Rattle.dtdl_terms.specs.TermViews.{kind_term}
@@ -19,11 +19,11 @@ use Rattle.dtdl_terms.specs.declared.interface.Interface.{Interface}
 use Rattle.dtdl_terms.specs.declared.uploaded.Uploaded.{Uploaded}
 use Rattle.extend_resolve.specs.Chains.{HaveOneId, IsAncestor, LeadsBack, Declares, Reaches}
 use Rattle.extend_resolve.specs.SetRules.{NamesParent, HasParent, IsComponentOf, NamesComponent, HasComponent, RepeatsId, LacksParent, LacksComponent, IsInCycle, IsLongChain, ClashesWithOwn, ClashesWithEarlier, HasNameClash, DeclaresComponent, HasComponentInComponent}
-use Rattle.extend_resolve.specs.Machinery.Links.{IsIn, links_at, IsWay, way_end, Arrives, AreWithin}
+use Rattle.extend_resolve.specs.Machinery.Links.{IsIn, links_at, IsWay, way_end, Arrives, AreLinksWithin}
 use Rattle.extend_resolve.specs.Machinery.Names.{IsNaming}
 use Rattle.extend_resolve.specs.Machinery.Numbers.{kept_at}
 use Rattle.extend_resolve.specs.Machinery.Worlds.{IsWorld, AreDepths}
-use Rattle.extend_resolve.specs.Machinery.Judges.{is_other_than, is_one_of, is_over_most, AreBehind, IsReached, LeadsTo, Owns, ReachesComponent}
+use Rattle.extend_resolve.specs.Machinery.Judges.{is_other_than, holds_number, is_over_most, AreBehind, IsReached, ParentLeadsTo, Owns, ReachesComponent}
 use Rattle.extend_resolve.proofs.Members.{equal_numbers, same_number, other_number, placed_from_contained, contains_placed, contained_at, read_at, placed_within, taken, untaken, mapped_at, unmapped_at, is_some_of, kept_in, kept_from, all_at}
 use Rattle.extend_resolve.proofs.Worlds.{ancestor_arrives, arrives_ancestor, kept_behind, kept_beyond, long_chain}
 use Rattle.std.proofs.lemmas.Bool.Decides.{nat_tests}
@@ -43,10 +43,6 @@ and_left false b h = h
 and_right : (a b : Bool) → (a && b) ≡ true → b ≡ true
 and_right true b h = h
 and_right false b h = absurd (true≢false (sym h))
-
-both_true : (a b : Bool) → a ≡ true → b ≡ true → (a && b) ≡ true
-both_true true b h g = g
-both_true false b h g = h
 
 never_both : (a b : Bool) → (a ≡ true → b ≡ true → ⊥) → (a && b) ≡ false
 never_both true true h = absurd (h refl refl)
@@ -121,10 +117,10 @@ module _ (set new nodes : List Interface) (numbers : List (Identifier × ℕ)) (
         is_some_of (kept_at p numbers) (w.parents i p (contains_placed nodes i index here) (contains_placed i.parents p k named) (ap is_some found))
 
     -- ---- cycles
-    among_own : (reached : List ℕ) (own : ℕ) → kept_at i.id numbers ≡ Some own → is_one_of reached (kept_at i.id numbers) ≡ true → IsIn own reached
-    among_own reached own kept h = sym (ap (is_one_of reached) kept) ∙ h
+    among_own : (reached : List ℕ) (own : ℕ) → kept_at i.id numbers ≡ Some own → holds_number reached (kept_at i.id numbers) ≡ true → IsIn own reached
+    among_own reached own kept h = sym (ap (holds_number reached) kept) ∙ h
 
-    pub cycle_tells : (k : ℕ) (reached : List ℕ) → IsReached numbers links i k reached → (is_one_of reached (kept_at i.id numbers) ≡ true) ↔ IsInCycle set i k
+    pub cycle_tells : (k : ℕ) (reached : List ℕ) → IsReached numbers links i k reached → (holds_number reached (kept_at i.id numbers) ≡ true) ↔ IsInCycle set i k
     cycle_tells k reached r =
         let own = own_number index i here in
         let s = w.stands r.id r.number r.kept in (
@@ -138,7 +134,7 @@ module _ (set new nodes : List Interface) (numbers : List (Identifier × ℕ)) (
               let node : slice_get nodes r.number ≡ Some c.0 = stands_for r.id r.number c.0 r.kept (ap (λ q. interface_at q set) (sym named) ∙ c.1.2) in
               let at = ancestor_arrives w r.number c.0 c.2.0 node c.2.1 in
               let kept : kept_at i.id numbers ≡ Some at.0 = kept_same i.id c.2.0.id (sym c.2.2) ∙ reached_id r.id r.number at.0 c.2.0 r.kept at.1 at.2 in
-              ap (is_one_of reached) kept ∙ (r.each at.0).1 at.1,
+              ap (holds_number reached) kept ∙ (r.each at.0).1 at.1,
         )
 
     -- ---- components
@@ -170,27 +166,27 @@ module _ (set new nodes : List Interface) (numbers : List (Identifier × ℕ)) (
 
     -- ---- chains
     pub long_tells : (depths : List (Option ℕ)) (found : List ℕ) → AreDepths links depths → AreBehind links index found
-        → ((is_over_most (get_or depths index None) && not (is_other_than index (kept_at i.id numbers) && is_one_of found (kept_at i.id numbers))) ≡ true) ↔ IsLongChain set i
+        → ((is_over_most (get_or depths index None) && not (is_other_than index (kept_at i.id numbers) && holds_number found (kept_at i.id numbers))) ≡ true) ↔ IsLongChain set i
     long_tells depths found told behind =
         let tells = long_chain w depths told index i here in
         let own = own_number index i here in
         let back : Bool = not (nat_eq own.0 index) && list_any (nat_eq own.0) found in
-        let test : (is_other_than index (kept_at i.id numbers) && is_one_of found (kept_at i.id numbers)) ≡ back = ap (λ o. is_other_than index o && is_one_of found o) own.1 in (
+        let test : (is_other_than index (kept_at i.id numbers) && holds_number found (kept_at i.id numbers)) ≡ back = ap (λ o. is_other_than index o && holds_number found o) own.1 in (
           λ h.
-              let deep = deep_from (get_or depths index None) (and_left (is_over_most (get_or depths index None)) (not (is_other_than index (kept_at i.id numbers) && is_one_of found (kept_at i.id numbers))) h) in
-              let away : back ≡ false = sym test ∙ turned_true (is_other_than index (kept_at i.id numbers) && is_one_of found (kept_at i.id numbers)) (and_right (is_over_most (get_or depths index None)) (not (is_other_than index (kept_at i.id numbers) && is_one_of found (kept_at i.id numbers))) h) in
+              let deep = deep_from (get_or depths index None) (and_left (is_over_most (get_or depths index None)) (not (is_other_than index (kept_at i.id numbers) && holds_number found (kept_at i.id numbers))) h) in
+              let away : back ≡ false = sym test ∙ turned_true (is_other_than index (kept_at i.id numbers) && holds_number found (kept_at i.id numbers)) (and_right (is_over_most (get_or depths index None)) (not (is_other_than index (kept_at i.id numbers) && holds_number found (kept_at i.id numbers))) h) in
               tells.1 (
                 deep.0,
                 deep.1,
                 deep.2,
                 λ z kept other arrives.
-                    true≢false (sym (both_true (not (nat_eq own.0 index)) (list_any (nat_eq own.0) found)
+                    true≢false (sym (and_from (not (nat_eq own.0 index)) (list_any (nat_eq own.0) found)
                     (ap not (other_number own.0 index (subst (λ k. k ≡ index → ⊥) (same_Some z own.0 (sym kept ∙ own.1)) other)))
                     ((behind.each own.0).1 (subst (Arrives links index) (same_Some z own.0 (sym kept ∙ own.1)) arrives))) ∙ away),
               ),
           λ c.
               let d = tells.0 c in
-              both_true (is_over_most (get_or depths index None)) (not (is_other_than index (kept_at i.id numbers) && is_one_of found (kept_at i.id numbers)))
+              and_from (is_over_most (get_or depths index None)) (not (is_other_than index (kept_at i.id numbers) && holds_number found (kept_at i.id numbers)))
               (ap is_over_most d.1 ∙ over_ten d.0 d.2)
               (ap not (test ∙ never_both (not (nat_eq own.0 index)) (list_any (nat_eq own.0) found)
               (λ other within. d.3 own.0 own.1 (λ e. true≢false (sym other ∙ ap not (same_number own.0 index e))) ((behind.each own.0).0 within)))),

@@ -11,7 +11,7 @@ use borrow.Author.Tests.{ltb-true, lt-ltb}
 use Rattle.std.specs.Vec.{with_items}
 use Rattle.std.proofs.lemmas.List.{length-map, get_or_past, with_items_is}
 use Rattle.std.proofs.lemmas.Option.{same_Some, none-some, slice_get_within}
-use Rattle.dtmi_name.specs.Grammar.{Identifier}
+use Rattle.dt_base.specs.names.Grammar.{Identifier}
 use Rattle.dtdl_terms.specs.declared.content.Content.{Content}
 use Rattle.dtdl_terms.specs.declared.interface.Interface.{Interface}
 use Rattle.dtdl_terms.specs.declared.spot.Spot.{Spot}
@@ -23,14 +23,14 @@ use Rattle.extend_resolve.specs.declared.judge.Scratch.{Scratch}
 use Rattle.extend_resolve.specs.declared.owners.Owner.{Owner}
 use Rattle.extend_resolve.specs.declared.rule.SetRule.{SetRule}
 use Rattle.extend_resolve.specs.declared.rule.SetRule.TheVariants as rules
-use Rattle.extend_resolve.specs.Breaches.{rule_number, Breaks, BreaksAt, place_of, Breach, breach_cmp, IsBreach, IsFirstBreach}
+use Rattle.extend_resolve.specs.Breaches.{set_rule_number, BreaksSetRule, BreaksAt, place_of, Breach, breach_cmp, IsSetBreach, IsFirstSetBreach}
 use Rattle.extend_resolve.specs.SetRules.{together, NamesParent, NamesComponent, LacksParent, LacksComponent, IsInCycle, HasNameClash}
-use Rattle.extend_resolve.specs.Machinery.Firsts.{found_if, earlier_of, IsLeast, AtSpot}
+use Rattle.extend_resolve.specs.Machinery.Firsts.{found_if, earlier_of, IsLeastFound, AtSpot}
 use Rattle.extend_resolve.specs.Machinery.Links.{IsIn, links_at, Arrives, AreClear}
 use Rattle.extend_resolve.specs.Machinery.Gathering.{id_of_kind, component_id}
 use Rattle.extend_resolve.specs.Machinery.Numbers.{kept_at}
 use Rattle.extend_resolve.specs.Machinery.Owners.{any_reached, add_reached, add_names, AreFresh}
-use Rattle.extend_resolve.specs.Machinery.Judges.{nodes_in, set_of, IsJudge, IsJudging, Broken, AreBehind, counted, is_other_than, is_one_of, is_long_at, OfParents, OfContents, IsReached, Owns, KnowsOwners, ReachesComponent, AreComposed, IsReady}
+use Rattle.extend_resolve.specs.Machinery.Judges.{nodes_in, judged_set, IsJudge, IsJudging, Broken, AreBehind, counted_rest, is_other_than, holds_number, is_long_at, OfParents, OfContents, IsReached, Owns, KnowsOwners, ReachesComponent, AreComposed, IsReady}
 use Rattle.extend_resolve.proofs.Members.{any_found, any_given, all_at, read_placed, all_of, contains_placed, placed_within, mapped_at, read_at}
 use Rattle.extend_resolve.proofs.Firsts.{at, below_or, least_at, least_if, least_weaker, earlier_least, contents_more, contents_less}
 use Rattle.extend_resolve.proofs.Owning.{AreNamesBelow, any_reached_tells, knows_weaker, knows_reached, knows_names, knows_none}
@@ -40,7 +40,7 @@ use Rattle.extend_resolve.proofs.Crowds.{crowd_tells}
 
 -- ---- which rules can be broken at which place
 module _ (set earlier : List Interface) (i : Interface) where
-  at_whole : (r : SetRule) → Breaks set earlier i r spots.Whole → r ≡ rules.TooManyResolved
+  at_whole : (r : SetRule) → BreaksSetRule set earlier i r spots.Whole → r ≡ rules.TooManyResolved
   at_whole rules.RepeatedId h = absurd h
   at_whole rules.AbsentReference h = absurd h
   at_whole rules.Cycle h = absurd h
@@ -49,7 +49,7 @@ module _ (set earlier : List Interface) (i : Interface) where
   at_whole rules.ComponentInComponent h = absurd h
   at_whole rules.TooManyResolved h = refl
 
-  at_id : (r : SetRule) → Breaks set earlier i r spots.Id → r ≡ rules.RepeatedId
+  at_id : (r : SetRule) → BreaksSetRule set earlier i r spots.Id → r ≡ rules.RepeatedId
   at_id rules.RepeatedId h = refl
   at_id rules.AbsentReference h = absurd h
   at_id rules.Cycle h = absurd h
@@ -58,7 +58,7 @@ module _ (set earlier : List Interface) (i : Interface) where
   at_id rules.ComponentInComponent h = absurd h
   at_id rules.TooManyResolved h = absurd h
 
-  at_chain : (r : SetRule) → Breaks set earlier i r spots.Parents → r ≡ rules.LongChain
+  at_chain : (r : SetRule) → BreaksSetRule set earlier i r spots.Parents → r ≡ rules.LongChain
   at_chain rules.RepeatedId h = absurd h
   at_chain rules.AbsentReference h = absurd h
   at_chain rules.Cycle h = absurd h
@@ -67,7 +67,7 @@ module _ (set earlier : List Interface) (i : Interface) where
   at_chain rules.ComponentInComponent h = absurd h
   at_chain rules.TooManyResolved h = absurd h
 
-  pub parent_absent_first : (k : ℕ) (r : SetRule) → Breaks set earlier i r (spots.Parent k) → 2 ≤ rule_number r
+  pub parent_absent_first : (k : ℕ) (r : SetRule) → BreaksSetRule set earlier i r (spots.Parent k) → 2 ≤ set_rule_number r
   parent_absent_first k rules.RepeatedId h = absurd h
   parent_absent_first k rules.AbsentReference h = omega arith
   parent_absent_first k rules.Cycle h = omega arith
@@ -76,7 +76,7 @@ module _ (set earlier : List Interface) (i : Interface) where
   parent_absent_first k rules.ComponentInComponent h = absurd h
   parent_absent_first k rules.TooManyResolved h = absurd h
 
-  pub parent_cycle_first : (k : ℕ) → (LacksParent set i k → ⊥) → (r : SetRule) → Breaks set earlier i r (spots.Parent k) → 3 ≤ rule_number r
+  pub parent_cycle_first : (k : ℕ) → (LacksParent set i k → ⊥) → (r : SetRule) → BreaksSetRule set earlier i r (spots.Parent k) → 3 ≤ set_rule_number r
   parent_cycle_first k there rules.RepeatedId h = absurd h
   parent_cycle_first k there rules.AbsentReference h = absurd (there h)
   parent_cycle_first k there rules.Cycle h = omega arith
@@ -85,7 +85,7 @@ module _ (set earlier : List Interface) (i : Interface) where
   parent_cycle_first k there rules.ComponentInComponent h = absurd h
   parent_cycle_first k there rules.TooManyResolved h = absurd h
 
-  pub parent_clash_alone : (k : ℕ) → (LacksParent set i k → ⊥) → (IsInCycle set i k → ⊥) → (r : SetRule) → Breaks set earlier i r (spots.Parent k) → r ≡ rules.NameClash
+  pub parent_clash_alone : (k : ℕ) → (LacksParent set i k → ⊥) → (IsInCycle set i k → ⊥) → (r : SetRule) → BreaksSetRule set earlier i r (spots.Parent k) → r ≡ rules.NameClash
   parent_clash_alone k there ends rules.RepeatedId h = absurd h
   parent_clash_alone k there ends rules.AbsentReference h = absurd (there h)
   parent_clash_alone k there ends rules.Cycle h = absurd (ends h)
@@ -94,7 +94,7 @@ module _ (set earlier : List Interface) (i : Interface) where
   parent_clash_alone k there ends rules.ComponentInComponent h = absurd h
   parent_clash_alone k there ends rules.TooManyResolved h = absurd h
 
-  pub content_absent_first : (k : ℕ) (r : SetRule) → Breaks set earlier i r (spots.ContentSchema k) → 2 ≤ rule_number r
+  pub content_absent_first : (k : ℕ) (r : SetRule) → BreaksSetRule set earlier i r (spots.ContentSchema k) → 2 ≤ set_rule_number r
   content_absent_first k rules.RepeatedId h = absurd h
   content_absent_first k rules.AbsentReference h = omega arith
   content_absent_first k rules.Cycle h = absurd h
@@ -103,7 +103,7 @@ module _ (set earlier : List Interface) (i : Interface) where
   content_absent_first k rules.ComponentInComponent h = omega arith
   content_absent_first k rules.TooManyResolved h = absurd h
 
-  pub content_component_alone : (k : ℕ) → (LacksComponent set i k → ⊥) → (r : SetRule) → Breaks set earlier i r (spots.ContentSchema k) → r ≡ rules.ComponentInComponent
+  pub content_component_alone : (k : ℕ) → (LacksComponent set i k → ⊥) → (r : SetRule) → BreaksSetRule set earlier i r (spots.ContentSchema k) → r ≡ rules.ComponentInComponent
   content_component_alone k there rules.RepeatedId h = absurd h
   content_component_alone k there rules.AbsentReference h = absurd (there h)
   content_component_alone k there rules.Cycle h = absurd h
@@ -113,7 +113,7 @@ module _ (set earlier : List Interface) (i : Interface) where
   content_component_alone k there rules.TooManyResolved h = absurd h
 
   -- a place of a parent or of a component is one that the interface has
-  pub parent_within : (k : ℕ) (r : SetRule) → Breaks set earlier i r (spots.Parent k) → k < length i.parents
+  pub parent_within : (k : ℕ) (r : SetRule) → BreaksSetRule set earlier i r (spots.Parent k) → k < length i.parents
   parent_within k rules.RepeatedId h = absurd h
   parent_within k rules.AbsentReference h = slice_get_within i.parents k h.0 h.1
   parent_within k rules.Cycle h = slice_get_within i.parents k h.1.0 h.1.1
@@ -122,7 +122,7 @@ module _ (set earlier : List Interface) (i : Interface) where
   parent_within k rules.ComponentInComponent h = absurd h
   parent_within k rules.TooManyResolved h = absurd h
 
-  pub content_named : (k : ℕ) (r : SetRule) → Breaks set earlier i r (spots.ContentSchema k) → (p : Identifier) × NamesComponent i k p
+  pub content_named : (k : ℕ) (r : SetRule) → BreaksSetRule set earlier i r (spots.ContentSchema k) → (p : Identifier) × NamesComponent i k p
   content_named k rules.RepeatedId h = absurd h
   content_named k rules.AbsentReference h = (h.0, h.1)
   content_named k rules.Cycle h = absurd h
@@ -180,7 +180,7 @@ module _ (j : Judge) (h : IsJudge j) where
       elim (cases_lt y (length (nodes_in j))) [
         | inl low ↦
             let a = placed_within (nodes_in j) y low in
-            let d = in_declares (set_of j) (map (λ u. u.interface) j.new.now) (nodes_in j) j.world.numbers.entries j.world.links.items j.world.composed.items h.world y a.0 a.1 j.names.declared.items j.names.bound h.names y x a.0 a.1 within in
+            let d = in_declares (judged_set j) (map (λ u. u.interface) j.new.now) (nodes_in j) j.world.numbers.entries j.world.links.items j.world.composed.items h.world y a.0 a.1 j.names.declared.items j.names.bound h.names y x a.0 a.1 within in
             h.names.below d.0 x d.2
         | inr high ↦
             let past : links_at j.names.declared.items y ≡ [] = get_or_past j.names.declared.items y [] (let e = declared_nodes in let f = nodes_length in omega (arith, e, f, high)) in
@@ -211,7 +211,7 @@ module _ (j : Judge) (index : ℕ) (u : Uploaded) (g : IsJudging j index u) wher
   index_below = node_below j g.judge index u.interface here
 
   own : (k : ℕ) × (kept_at u.interface.id j.world.numbers.entries ≡ Some k)
-  own = own_number (set_of j) news (nodes_in j) j.world.numbers.entries j.world.links.items j.world.composed.items g.judge.world index u.interface here
+  own = own_number (judged_set j) news (nodes_in j) j.world.numbers.entries j.world.links.items j.world.composed.items g.judge.world index u.interface here
 
   pub depth_below : index < length j.depths.items
   depth_below = subst (λ n. index < n) (sym (depths_nodes j g.judge)) index_below
@@ -232,56 +232,56 @@ module _ (j : Judge) (index : ℕ) (u : Uploaded) (g : IsJudging j index u) wher
   all_below found behind = behind_below j g.judge index u.interface found here behind
 
   pub whole_least : (found : List ℕ) (others total : ℕ) (o : Option Found) → AreBehind j.world.links.items index found
-      → others ≡ min (counted (nodes_in j) index (kept_at u.interface.id j.world.numbers.entries) found) 18446744073709551615
+      → others ≡ min (counted_rest (nodes_in j) index (kept_at u.interface.id j.world.numbers.entries) found) 18446744073709551615
       → total ≡ min (others + length u.interface.contents) 18446744073709551615
       → o ≡ found_if (nat_lt 3000 total) rules.TooManyResolved spots.Whole
-      → IsLeast u (AtSpot P spots.Whole) o
+      → IsLeastFound u (AtSpot P spots.Whole) o
   whole_least found others total o behind counting adding is =
-      let crowd = crowd_tells (set_of j) news (nodes_in j) j.world.numbers.entries j.world.links.items j.world.composed.items g.judge.world index u.interface here own.0 own.1 found behind in
-      subst (IsLeast u (AtSpot P spots.Whole)) (sym is)
+      let crowd = crowd_tells (judged_set j) news (nodes_in j) j.world.numbers.entries j.world.links.items j.world.composed.items g.judge.world index u.interface here own.0 own.1 found behind in
+      subst (IsLeastFound u (AtSpot P spots.Whole)) (sym is)
       (least_if u P (nat_lt 3000 total) rules.TooManyResolved spots.Whole (
-        λ h. crowd.0 (over_from others total (counted (nodes_in j) index (kept_at u.interface.id j.world.numbers.entries) found) (length u.interface.contents) counting adding h),
-        λ b. over_to others total (counted (nodes_in j) index (kept_at u.interface.id j.world.numbers.entries) found) (length u.interface.contents) counting adding (crowd.1 b),
+        λ h. crowd.0 (over_from others total (counted_rest (nodes_in j) index (kept_at u.interface.id j.world.numbers.entries) found) (length u.interface.contents) counting adding h),
+        λ b. over_to others total (counted_rest (nodes_in j) index (kept_at u.interface.id j.world.numbers.entries) found) (length u.interface.contents) counting adding (crowd.1 b),
       )
-      (at_whole (set_of j) earlier u.interface))
+      (at_whole (judged_set j) earlier u.interface))
 
-  pub id_least : (b : Bool) (o : Option Found) → b ≡ is_other_than index (kept_at u.interface.id j.world.numbers.entries) → o ≡ found_if b rules.RepeatedId spots.Id → IsLeast u (AtSpot P spots.Id) o
+  pub id_least : (b : Bool) (o : Option Found) → b ≡ is_other_than index (kept_at u.interface.id j.world.numbers.entries) → o ≡ found_if b rules.RepeatedId spots.Id → IsLeastFound u (AtSpot P spots.Id) o
   id_least b o tells is =
-      let told = repeated_tells (set_of j) j.new.now (nodes_in j) j.world.numbers.entries j.world.links.items j.world.composed.items g.judge.world index u g.at in
-      subst (IsLeast u (AtSpot P spots.Id)) (sym is)
-      (least_if u P b rules.RepeatedId spots.Id (λ h. told.0 (sym tells ∙ h), λ r. tells ∙ told.1 r) (at_id (set_of j) earlier u.interface))
+      let told = repeated_tells (judged_set j) j.new.now (nodes_in j) j.world.numbers.entries j.world.links.items j.world.composed.items g.judge.world index u g.at in
+      subst (IsLeastFound u (AtSpot P spots.Id)) (sym is)
+      (least_if u P b rules.RepeatedId spots.Id (λ h. told.0 (sym tells ∙ h), λ r. tells ∙ told.1 r) (at_id (judged_set j) earlier u.interface))
 
   pub chain_least : (found : List ℕ) (b : Bool) (o : Option Found) → AreBehind j.world.links.items index found
       → b ≡ is_long_at (get_or j.depths.items index None) index (kept_at u.interface.id j.world.numbers.entries) found
-      → o ≡ found_if b rules.LongChain spots.Parents → IsLeast u (AtSpot P spots.Parents) o
+      → o ≡ found_if b rules.LongChain spots.Parents → IsLeastFound u (AtSpot P spots.Parents) o
   chain_least found b o behind tells is =
-      let told = long_tells (set_of j) news (nodes_in j) j.world.numbers.entries j.world.links.items j.world.composed.items g.judge.world index u.interface here j.depths.items found g.judge.depths behind in
-      subst (IsLeast u (AtSpot P spots.Parents)) (sym is)
-      (least_if u P b rules.LongChain spots.Parents (λ h. told.0 (sym tells ∙ h), λ r. tells ∙ told.1 r) (at_chain (set_of j) earlier u.interface))
+      let told = long_tells (judged_set j) news (nodes_in j) j.world.numbers.entries j.world.links.items j.world.composed.items g.judge.world index u.interface here j.depths.items found g.judge.depths behind in
+      subst (IsLeastFound u (AtSpot P spots.Parents)) (sym is)
+      (least_if u P b rules.LongChain spots.Parents (λ h. told.0 (sym tells ∙ h), λ r. tells ∙ told.1 r) (at_chain (judged_set j) earlier u.interface))
 
   -- ---- a parent
   pub absent_least : (k : ℕ) (p : Identifier) (o : Option Found) → NamesParent u.interface k p → kept_at p j.world.numbers.entries ≡ None
-      → o ≡ found_if true rules.AbsentReference (spots.Parent k) → IsLeast u (AtSpot P (spots.Parent k)) o
+      → o ≡ found_if true rules.AbsentReference (spots.Parent k) → IsLeastFound u (AtSpot P (spots.Parent k)) o
   absent_least k p o named none is =
-      subst (IsLeast u (AtSpot P (spots.Parent k))) (sym is)
+      subst (IsLeastFound u (AtSpot P (spots.Parent k))) (sym is)
       (least_at u P rules.AbsentReference (spots.Parent k)
-      (parent_absent (set_of j) news (nodes_in j) j.world.numbers.entries j.world.links.items j.world.composed.items g.judge.world index u.interface here k p named none)
-      (parent_absent_first (set_of j) earlier u.interface k))
+      (parent_absent (judged_set j) news (nodes_in j) j.world.numbers.entries j.world.links.items j.world.composed.items g.judge.world index u.interface here k p named none)
+      (parent_absent_first (judged_set j) earlier u.interface k))
 
-  there : (k : ℕ) (found : List ℕ) → IsReached j.world.numbers.entries j.world.links.items u.interface k found → LacksParent (set_of j) u.interface k → ⊥
-  there k found r = parent_there (set_of j) news (nodes_in j) j.world.numbers.entries j.world.links.items j.world.composed.items g.judge.world index u.interface here k r.id r.number r.named r.kept
+  there : (k : ℕ) (found : List ℕ) → IsReached j.world.numbers.entries j.world.links.items u.interface k found → LacksParent (judged_set j) u.interface k → ⊥
+  there k found r = parent_there (judged_set j) news (nodes_in j) j.world.numbers.entries j.world.links.items j.world.composed.items g.judge.world index u.interface here k r.id r.number r.named r.kept
 
   pub cycle_least : (k : ℕ) (found : List ℕ) (b : Bool) (o : Option Found) → IsReached j.world.numbers.entries j.world.links.items u.interface k found
-      → b ≡ is_one_of found (kept_at u.interface.id j.world.numbers.entries) → b ≡ true → o ≡ Some (at rules.Cycle (spots.Parent k)) → IsLeast u (AtSpot P (spots.Parent k)) o
+      → b ≡ holds_number found (kept_at u.interface.id j.world.numbers.entries) → b ≡ true → o ≡ Some (at rules.Cycle (spots.Parent k)) → IsLeastFound u (AtSpot P (spots.Parent k)) o
   cycle_least k found b o r tells holds is =
-      let told = cycle_tells (set_of j) news (nodes_in j) j.world.numbers.entries j.world.links.items j.world.composed.items g.judge.world index u.interface here k found r in
-      subst (IsLeast u (AtSpot P (spots.Parent k))) (sym is)
-      (least_at u P rules.Cycle (spots.Parent k) (told.0 (sym tells ∙ holds)) (parent_cycle_first (set_of j) earlier u.interface k (there k found r)))
+      let told = cycle_tells (judged_set j) news (nodes_in j) j.world.numbers.entries j.world.links.items j.world.composed.items g.judge.world index u.interface here k found r in
+      subst (IsLeastFound u (AtSpot P (spots.Parent k))) (sym is)
+      (least_at u P rules.Cycle (spots.Parent k) (told.0 (sym tells ∙ holds)) (parent_cycle_first (judged_set j) earlier u.interface k (there k found r)))
 
   -- nothing clashes behind the first parent of an interface that declares no name
   nothing_owned : (x o : ℕ) → length u.interface.contents ≡ 0 → Owns j.world.numbers.entries j.world.links.items j.names.declared.items index u.interface 0 x o → ⊥
   nothing_owned x o none (inl (kept, declares)) =
-      let d = in_declares (set_of j) news (nodes_in j) j.world.numbers.entries j.world.links.items j.world.composed.items g.judge.world index u.interface here j.names.declared.items j.names.bound g.judge.names index x u.interface here declares in
+      let d = in_declares (judged_set j) news (nodes_in j) j.world.numbers.entries j.world.links.items j.world.composed.items g.judge.world index u.interface here j.names.declared.items j.names.bound g.judge.names index x u.interface here declares in
       let size : length (map (λ c. c.name) u.interface.contents) ≡ length u.interface.contents = length-map u.interface.contents (λ c. c.name) in
       let low = d.1.1 in
       omega (arith, none, size, low)
@@ -289,15 +289,15 @@ module _ (j : Judge) (index : ℕ) (u : Uploaded) (g : IsJudging j index u) wher
 
   pub clash_least : (owners : List Owner) (k : ℕ) (found : List ℕ) (cycles clashes : Bool) (o : Option Found) → IsReached j.world.numbers.entries j.world.links.items u.interface k found
       → length owners ≡ j.names.bound → KnowsOwners j owners index u k
-      → cycles ≡ is_one_of found (kept_at u.interface.id j.world.numbers.entries) → cycles ≡ false
+      → cycles ≡ holds_number found (kept_at u.interface.id j.world.numbers.entries) → cycles ≡ false
       → (clashes ≡ any_reached j.names.declared.items index owners found) ⊎ ((clashes ≡ false) × (k ≡ 0) × (length u.interface.contents ≡ 0))
-      → o ≡ found_if clashes rules.NameClash (spots.Parent k) → IsLeast u (AtSpot P (spots.Parent k)) o
+      → o ≡ found_if clashes rules.NameClash (spots.Parent k) → IsLeastFound u (AtSpot P (spots.Parent k)) o
   clash_least owners k found cycles clashes o r size knows tells ends test is =
-      let round = cycle_tells (set_of j) news (nodes_in j) j.world.numbers.entries j.world.links.items j.world.composed.items g.judge.world index u.interface here k found r in
-      let told = clash_tells (set_of j) news (nodes_in j) j.world.numbers.entries j.world.links.items j.world.composed.items g.judge.world index u.interface here j.names.declared.items j.names.bound g.judge.names k found r in
+      let round = cycle_tells (judged_set j) news (nodes_in j) j.world.numbers.entries j.world.links.items j.world.composed.items g.judge.world index u.interface here k found r in
+      let told = clash_tells (judged_set j) news (nodes_in j) j.world.numbers.entries j.world.links.items j.world.composed.items g.judge.world index u.interface here j.names.declared.items j.names.bound g.judge.names k found r in
       let any = any_reached_tells j.names.declared.items index (Owns j.world.numbers.entries j.world.links.items j.names.declared.items index u.interface k) owners found
       (subst (AreNamesBelow j.names.declared.items 0) (sym size) (names_below j g.judge)) knows in
-      let decides : (clashes ≡ true) ↔ HasNameClash (set_of j) u.interface k =
+      let decides : (clashes ≡ true) ↔ HasNameClash (judged_set j) u.interface k =
       elim test [
         | inl e ↦ (λ h. told.0 (any.0 (sym e ∙ h)), λ c. e ∙ any.1 (told.1 c))
         | inr e ↦ (
@@ -305,9 +305,9 @@ module _ (j : Judge) (index : ℕ) (u : Uploaded) (g : IsJudging j index u) wher
           λ c. let z = told.1 c in absurd (nothing_owned z.1 z.2 e.2 (subst (λ n. Owns j.world.numbers.entries j.world.links.items j.names.declared.items index u.interface n z.1 z.2) e.1 z.5)),
         )
       ] in
-      subst (IsLeast u (AtSpot P (spots.Parent k))) (sym is)
+      subst (IsLeastFound u (AtSpot P (spots.Parent k))) (sym is)
       (least_if u P clashes rules.NameClash (spots.Parent k) decides
-      (parent_clash_alone (set_of j) earlier u.interface k (there k found r) (λ c. true≢false (sym (round.1 c) ∙ sym tells ∙ ends))))
+      (parent_clash_alone (judged_set j) earlier u.interface k (there k found r) (λ c. true≢false (sym (round.1 c) ∙ sym tells ∙ ends))))
 
   -- ---- owners
   abbrev Owned : ℕ → ℕ → ℕ → Type 0
@@ -351,16 +351,16 @@ module _ (j : Judge) (index : ℕ) (u : Uploaded) (g : IsJudging j index u) wher
 
   -- another content breaks no rule
   pub no_component : (k : ℕ) → ((p : Identifier) → NamesComponent u.interface k p → ⊥) → (r : SetRule) (s : Spot) → AtSpot P (spots.ContentSchema k) r s → ⊥
-  no_component k never r s h = let c = content_named (set_of j) earlier u.interface k r (subst (P r) h.0 h.1) in never c.0 c.1
+  no_component k never r s h = let c = content_named (judged_set j) earlier u.interface k r (subst (P r) h.0 h.1) in never c.0 c.1
 
   -- where it declares no component, no content breaks a rule
-  pub contents_none : get_or j.world.composed.items index false ≡ false → IsLeast u (OfContents P (length u.interface.contents)) None
+  pub contents_none : get_or j.world.composed.items index false ≡ false → IsLeastFound u (OfContents P (length u.interface.contents)) None
   contents_none none r s (k, low, h) =
-      let c = content_named (set_of j) earlier u.interface k r (subst (P r) h.0 h.1) in
+      let c = content_named (judged_set j) earlier u.interface k r (subst (P r) h.0 h.1) in
       true≢false (sym ((g.judge.world.composes index u.interface here).1 (c.1.0, c.0, contains_placed u.interface.contents c.1.0 k c.1.1, c.1.2)) ∙ none)
 
   -- another content than a component adds no place
-  pub contents_skip : (k : ℕ) (o : Option Found) → ((p : Identifier) → NamesComponent u.interface k p → ⊥) → IsLeast u (OfContents P k) o → IsLeast u (OfContents P (k + 1)) o
+  pub contents_skip : (k : ℕ) (o : Option Found) → ((p : Identifier) → NamesComponent u.interface k p → ⊥) → IsLeastFound u (OfContents P k) o → IsLeastFound u (OfContents P (k + 1)) o
   contents_skip k o never least =
       least_weaker u (OfContents P k) (OfContents P (k + 1)) o (λ r s h. contents_more P k r s (inl h))
       (λ r s h. elim (contents_less P k r s h) [ inl before ↦ before | inr here ↦ absurd (no_component k never r s here) ]) least
@@ -384,22 +384,22 @@ module _ (j : Judge) (index : ℕ) (u : Uploaded) (g : IsJudging j index u) wher
 
   -- ---- a component
   pub lost_least : (k : ℕ) (p : Identifier) (o : Option Found) → NamesComponent u.interface k p → kept_at p j.world.numbers.entries ≡ None
-      → o ≡ found_if true rules.AbsentReference (spots.ContentSchema k) → IsLeast u (AtSpot P (spots.ContentSchema k)) o
+      → o ≡ found_if true rules.AbsentReference (spots.ContentSchema k) → IsLeastFound u (AtSpot P (spots.ContentSchema k)) o
   lost_least k p o named none is =
-      subst (IsLeast u (AtSpot P (spots.ContentSchema k))) (sym is)
+      subst (IsLeastFound u (AtSpot P (spots.ContentSchema k))) (sym is)
       (least_at u P rules.AbsentReference (spots.ContentSchema k)
-      (component_absent (set_of j) news (nodes_in j) j.world.numbers.entries j.world.links.items j.world.composed.items g.judge.world index u.interface here k p news_at named none)
-      (content_absent_first (set_of j) earlier u.interface k))
+      (component_absent (judged_set j) news (nodes_in j) j.world.numbers.entries j.world.links.items j.world.composed.items g.judge.world index u.interface here k p news_at named none)
+      (content_absent_first (judged_set j) earlier u.interface k))
 
   pub component_least : (k : ℕ) (p : Identifier) (x : ℕ) (b : Bool) (o : Option Found) → NamesComponent u.interface k p → kept_at p j.world.numbers.entries ≡ Some x
       → (b ≡ true) ↔ ReachesComponent j.world.links.items j.world.composed.items x
-      → o ≡ found_if b rules.ComponentInComponent (spots.ContentSchema k) → IsLeast u (AtSpot P (spots.ContentSchema k)) o
+      → o ≡ found_if b rules.ComponentInComponent (spots.ContentSchema k) → IsLeastFound u (AtSpot P (spots.ContentSchema k)) o
   component_least k p x b o named kept tells is =
-      let told = component_tells (set_of j) news (nodes_in j) j.world.numbers.entries j.world.links.items j.world.composed.items g.judge.world index u.interface here k p x named kept in
-      subst (IsLeast u (AtSpot P (spots.ContentSchema k))) (sym is)
+      let told = component_tells (judged_set j) news (nodes_in j) j.world.numbers.entries j.world.links.items j.world.composed.items g.judge.world index u.interface here k p x named kept in
+      subst (IsLeastFound u (AtSpot P (spots.ContentSchema k))) (sym is)
       (least_if u P b rules.ComponentInComponent (spots.ContentSchema k) (λ h. told.0 (tells.0 h), λ c. tells.1 (told.1 c))
-      (content_component_alone (set_of j) earlier u.interface k
-      (component_there (set_of j) news (nodes_in j) j.world.numbers.entries j.world.links.items j.world.composed.items g.judge.world index u.interface here k p x named kept)))
+      (content_component_alone (judged_set j) earlier u.interface k
+      (component_there (judged_set j) news (nodes_in j) j.world.numbers.entries j.world.links.items j.world.composed.items g.judge.world index u.interface here k p x named kept)))
 
   -- ---- all places
   abbrev Parents : SetRule → Spot → Type 0
@@ -421,9 +421,9 @@ module _ (j : Judge) (index : ℕ) (u : Uploaded) (g : IsJudging j index u) wher
   places r spots.Whole h = inl (refl, h)
   places r spots.Id h = inr (inl (inl (refl, h)))
   places r spots.Parents h = inr (inl (inr (refl, h)))
-  places r (spots.Parent k) h = inr (inr (inl (k, parent_within (set_of j) earlier u.interface k r h, (refl, h))))
+  places r (spots.Parent k) h = inr (inr (inl (k, parent_within (judged_set j) earlier u.interface k r h, (refl, h))))
   places r (spots.ContentSchema k) h =
-      let c = content_named (set_of j) earlier u.interface k r h in
+      let c = content_named (judged_set j) earlier u.interface k r h in
       inr (inr (inr (k, slice_get_within u.interface.contents k c.1.0 c.1.1, (refl, h))))
 
   placed_back : (r : SetRule) (s : Spot) → AtSpot P spots.Whole r s ⊎ Inner r s → P r s
@@ -433,10 +433,10 @@ module _ (j : Judge) (index : ℕ) (u : Uploaded) (g : IsJudging j index u) wher
   placed_back r s (inr (inr (inl h))) = h.2.1
   placed_back r s (inr (inr (inr h))) = h.2.1
 
-  pub all_least : (whole id chain parents contents : Option Found) → IsLeast u (AtSpot P spots.Whole) whole → IsLeast u (AtSpot P spots.Id) id → IsLeast u (AtSpot P spots.Parents) chain
-      → IsLeast u Parents parents → IsLeast u Contents contents → IsLeast u P (earlier_of u whole (earlier_of u (earlier_of u id chain) (earlier_of u parents contents)))
+  pub all_least : (whole id chain parents contents : Option Found) → IsLeastFound u (AtSpot P spots.Whole) whole → IsLeastFound u (AtSpot P spots.Id) id → IsLeastFound u (AtSpot P spots.Parents) chain
+      → IsLeastFound u Parents parents → IsLeastFound u Contents contents → IsLeastFound u P (earlier_of u whole (earlier_of u (earlier_of u id chain) (earlier_of u parents contents)))
   all_least whole id chain parents contents hw hi hc hp hk =
-      let inner : IsLeast u Inner (earlier_of u (earlier_of u id chain) (earlier_of u parents contents)) =
+      let inner : IsLeastFound u Inner (earlier_of u (earlier_of u id chain) (earlier_of u parents contents)) =
       earlier_least u Own Below (earlier_of u id chain) (earlier_of u parents contents)
       (earlier_least u (AtSpot P spots.Id) (AtSpot P spots.Parents) id chain hi hc)
       (earlier_least u Parents Contents parents contents hp hk) in
@@ -484,14 +484,14 @@ same_place_of : (a : ℕ) (xs ys : List ℕ) (o : Ordering) → ordering_then (s
 same_place_of a xs ys o = ap (λ p. ordering_then (ordering_then p (slice_cmp nat_cmp xs ys)) o) (tied_itself nat_cmp_total a)
 
 same_index : (set : List Interface) (new : List Uploaded) (index : ℕ) (u : Uploaded) (f : Found) → slice_get new index ≡ Some u
-    → IsLeast u (Breaks (together set new) (map (λ v. v.interface) (take index new)) u.interface) (Some f)
-    → (c : Breach) → index ≡ c.index → IsBreach set new c → breach_cmp new (record { index = index; rule = f.rule; spot = f.spot }) c ≢ Greater
+    → IsLeastFound u (BreaksSetRule (together set new) (map (λ v. v.interface) (take index new)) u.interface) (Some f)
+    → (c : Breach) → index ≡ c.index → IsSetBreach set new c → breach_cmp new (record { index = index; rule = f.rule; spot = f.spot }) c ≢ Greater
 same_index set new index u f here least c same broken e =
     let (v, at, h) = subst (λ k. BreaksAt set new k c.rule c.spot) (sym same) broken in
     let one : v ≡ u = same_Some v u (sym at ∙ here) in
-    let breaks : Breaks (together set new) (map (λ x. x.interface) (take index new)) u.interface c.rule c.spot =
-    subst (λ w. Breaks (together set new) (map (λ x. x.interface) (take index new)) w.interface c.rule c.spot) one h in
-    let o : Ordering = nat_cmp (rule_number f.rule) (rule_number c.rule) in
+    let breaks : BreaksSetRule (together set new) (map (λ x. x.interface) (take index new)) u.interface c.rule c.spot =
+    subst (λ w. BreaksSetRule (together set new) (map (λ x. x.interface) (take index new)) w.interface c.rule c.spot) one h in
+    let o : Ordering = nat_cmp (set_rule_number f.rule) (set_rule_number c.rule) in
     let moved : ordering_then (slice_cmp nat_cmp (index ∷ place_of (slice_get new index) f.spot) (index ∷ place_of (slice_get new index) c.spot)) o ≡ Greater =
     ap (λ k. ordering_then (slice_cmp nat_cmp (index ∷ place_of (slice_get new index) f.spot) (k ∷ place_of (slice_get new k) c.spot)) o) same ∙ e in
     let inside : ordering_then (slice_cmp nat_cmp (place_of (slice_get new index) f.spot) (place_of (slice_get new index) c.spot)) o ≡ Greater =
@@ -499,15 +499,15 @@ same_index set new index u f here least c same broken e =
     least.1 c.rule c.spot breaks (ap (λ p. ordering_then (slice_cmp nat_cmp (place_of p f.spot) (place_of p c.spot)) o) (sym here) ∙ inside)
 
 pub first_is : (set : List Interface) (new : List Uploaded) (index : ℕ) (u : Uploaded) (f : Found) → slice_get new index ≡ Some u
-    → IsLeast u (Breaks (together set new) (map (λ v. v.interface) (take index new)) u.interface) (Some f)
-    → ((b : Breach) → b.index < index → IsBreach set new b → ⊥) → IsFirstBreach set new (record { index = index; rule = f.rule; spot = f.spot })
+    → IsLeastFound u (BreaksSetRule (together set new) (map (λ v. v.interface) (take index new)) u.interface) (Some f)
+    → ((b : Breach) → b.index < index → IsSetBreach set new b → ⊥) → IsFirstSetBreach set new (record { index = index; rule = f.rule; spot = f.spot })
 first_is set new index u f here least none = record {
   breach = (u, here, least.0);
   least = λ c broken.
       elim (cases_lt c.index index) [
         | inl low ↦ absurd (none c low broken)
         | inr high ↦ elim (cases_lt index c.index) [
-          | inl further ↦ λ e. less_place index c.index (place_of (slice_get new index) f.spot) (place_of (slice_get new c.index) c.spot) (nat_cmp (rule_number f.rule) (rule_number c.rule)) further e
+          | inl further ↦ λ e. less_place index c.index (place_of (slice_get new index) f.spot) (place_of (slice_get new c.index) c.spot) (nat_cmp (set_rule_number f.rule) (set_rule_number c.rule)) further e
           | inr back ↦
               let same : index ≡ c.index = omega (arith, high, back) in
               same_index set new index u f here least c same broken
@@ -516,13 +516,13 @@ first_is set new index u f here least none = record {
 }
 
 pub sound_more : (set : List Interface) (new : List Uploaded) (index : ℕ) (u : Uploaded) → slice_get new index ≡ Some u
-    → ((r : SetRule) (s : Spot) → Breaks (together set new) (map (λ v. v.interface) (take index new)) u.interface r s → ⊥)
-    → ((b : Breach) → b.index < index → IsBreach set new b → ⊥) → (b : Breach) → b.index < index + 1 → IsBreach set new b → ⊥
+    → ((r : SetRule) (s : Spot) → BreaksSetRule (together set new) (map (λ v. v.interface) (take index new)) u.interface r s → ⊥)
+    → ((b : Breach) → b.index < index → IsSetBreach set new b → ⊥) → (b : Breach) → b.index < index + 1 → IsSetBreach set new b → ⊥
 sound_more set new index u here clean none b low broken =
     elim (below_or b.index index low) [
       | inl same ↦
           let (v, at, h) = subst (λ k. BreaksAt set new k b.rule b.spot) same broken in
-          clean b.rule b.spot (subst (λ w. Breaks (together set new) (map (λ x. x.interface) (take index new)) w.interface b.rule b.spot) (same_Some v u (sym at ∙ here)) h)
+          clean b.rule b.spot (subst (λ w. BreaksSetRule (together set new) (map (λ x. x.interface) (take index new)) w.interface b.rule b.spot) (same_Some v u (sym at ∙ here)) h)
       | inr less ↦ none b less broken
     ]
 

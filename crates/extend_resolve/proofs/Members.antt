@@ -4,6 +4,7 @@ use Rattle.std.specs.Prelude.{slice_get, Contains, IsSome}
 use Rattle.std.specs.List.{AllByRecursion, list_any, filter_map, cons_option}
 use Rattle.std.proofs.lemmas.Bool.Decides.{nat_tests}
 use Rattle.std.proofs.lemmas.Option.{same_Some, none-some}
+use Rattle.std.proofs.lemmas.Bool.{or_right}
 use Rattle.extend_resolve.specs.Machinery.Links.{IsIn}
 
 pub equal_numbers : (x y : ℕ) → nat_eq x y ≡ true → x ≡ y
@@ -18,10 +19,6 @@ other_number x y h = grind (arith, nat_tests)
 -- ---- lists of numbers
 pub in_head : (y : ℕ) (ys : List ℕ) → IsIn y (y ∷ ys)
 in_head y ys = ap (λ b. b || list_any (nat_eq y) ys) (same_number y y refl)
-
-or_right : (a b : Bool) → b ≡ true → (a || b) ≡ true
-or_right true b h = refl
-or_right false b h = h
 
 pub in_tail : (x y : ℕ) (ys : List ℕ) → IsIn y ys → IsIn y (x ∷ ys)
 in_tail x y ys h = or_right (nat_eq y x) (list_any (nat_eq y) ys) h

@@ -17,7 +17,7 @@ use Rattle.std.proofs.lemmas.Option.{same_Some, none-some, slice_get_within}
 use Rattle.std.proofs.lemmas.Map.Lookups.{exact_bytes, exact_unsigned, exact_pairs}
 use Rattle.dtdl_terms.specs.declared.content.Content.{Content}
 use Rattle.dtdl_terms.specs.declared.interface.Interface.{Interface}
-use Rattle.extend_resolve.specs.Machinery.Names.{first_bytes, contents_of, Entry, Tells, AreEntries, AreOrdered, entry_cmp, number_in, AreNumbered, Repeats, rows_of, IsNaming}
+use Rattle.extend_resolve.specs.Machinery.Names.{first_bytes, all_contents, SortedName, PlacesContent, AreEntries, AreOrdered, entry_cmp, number_named, HoldNumbers, Repeats, rows_of, IsNaming}
 use Rattle.extend_resolve.proofs.Judged.{equal_order}
 use Rattle.extend_resolve.proofs.Members.{contains_placed, placed_from_contained, placed_within, read_at, read_placed}
 
@@ -56,16 +56,16 @@ module _ {X : Type 0} where
   written_back [] more n e = ap (λ k. take k more) e
   written_back (x ∷ new) more n e = ap (λ k. take k (x ∷ (new ++ more))) e ∙ ap (λ ys. x ∷ ys) (written_back new more (length new) refl)
 
-still_tells : (cs more : List Content) (e : Entry) → Tells cs e → Tells (cs ++ more) e
+still_tells : (cs more : List Content) (e : SortedName) → PlacesContent cs e → PlacesContent (cs ++ more) e
 still_tells cs more e t = record { content = t.content; placed = got_before cs more e.2 t.content t.placed; name = t.name; first = t.first }
 
-pub entry_added : (cs : List Content) (es : List Entry) (c : Content) (e : Entry) → AreEntries cs es
+pub entry_added : (cs : List Content) (es : List SortedName) (c : Content) (e : SortedName) → AreEntries cs es
     → e.0 ≡ first_bytes c.name → e.1.now ≡ c.name → e.2 ≡ length es → AreEntries (cs ++ c ∷ []) (es ++ e ∷ [])
 entry_added cs es c e are first name place = record {
   size = length_pushed es e ∙ ap suc are.size ∙ sym (length_pushed cs c);
   each = λ k f h. elim (got_of_pushed es e k f h) [
     | inl old ↦ still_tells cs (c ∷ []) f (are.each k f old)
-    | inr new ↦ subst (Tells (cs ++ c ∷ [])) new.1 (record {
+    | inr new ↦ subst (PlacesContent (cs ++ c ∷ [])) new.1 (record {
       content = c;
       placed = ap (slice_get (cs ++ c ∷ [])) (place ∙ are.size) ∙ got_last cs c;
       name = name;
@@ -74,12 +74,12 @@ entry_added cs es c e are first name place = record {
   ];
   places = λ k f h. elim (got_of_pushed es e k f h) [
     | inl old ↦ are.places k f old
-    | inr new ↦ ap (λ (d : Entry). d.2) (sym new.1) ∙ place ∙ sym new.0
+    | inr new ↦ ap (λ (d : SortedName). d.2) (sym new.1) ∙ place ∙ sym new.0
   ];
 }
 
 -- ---- the order of entries
-abbrev key_of : Entry → ℕ × List ℕ
+abbrev key_of : SortedName → ℕ × List ℕ
 key_of e = (e.0, e.1.now)
 
 abbrev key_cmp : ℕ × List ℕ → ℕ × List ℕ → Ordering
@@ -88,7 +88,7 @@ key_cmp a b = ordering_then (nat_cmp a.0 b.0) (slice_cmp nat_cmp a.1 b.1)
 key_total : IsTotalOrder key_cmp
 key_total = search (rules, comparing)
 
-abbrev is_before : Entry → Entry → Bool
+abbrev is_before : SortedName → SortedName → Bool
 is_before d e = is_lt (key_cmp (key_of d) (key_of e))
 
 not_less : (o p : Ordering) → is_lt (ordering_then o p) ≡ false → is_lt o ≡ false
@@ -96,7 +96,7 @@ not_less Less p h = h
 not_less Equal p h = refl
 not_less Greater p h = h
 
-by_keys : (es : List Entry) → IsSorted entry_cmp es → IsSortedBy is_before es
+by_keys : (es : List SortedName) → IsSorted entry_cmp es → IsSortedBy is_before es
 by_keys es up k d low more =
     let e = get_or es (k + 1) d in
     let f = get_or es k d in
@@ -115,38 +115,38 @@ same_key a b h g = exact_pairs nat_cmp (slice_cmp nat_cmp) exact_unsigned exact_
 
 -- ---- what the entries tell
 module _ (contents : List Content) where
-  told_first : (e : Entry) → Tells contents e → e.0 ≡ first_bytes e.1.now
+  told_first : (e : SortedName) → PlacesContent contents e → e.0 ≡ first_bytes e.1.now
   told_first e t = t.first ∙ ap first_bytes (sym t.name)
 
   -- entries with one name have one key
-  told_key : (d e : Entry) → Tells contents d → Tells contents e → d.1.now ≡ e.1.now → key_of d ≡ key_of e
+  told_key : (d e : SortedName) → PlacesContent contents d → PlacesContent contents e → d.1.now ≡ e.1.now → key_of d ≡ key_of e
   told_key d e t u same =
       let first : d.0 ≡ e.0 = told_first d t ∙ ap first_bytes same ∙ sym (told_first e u) in
       cc
 
   -- entries with one place have one name
-  told_name : (d e : Entry) → Tells contents d → Tells contents e → d.2 ≡ e.2 → d.1.now ≡ e.1.now
+  told_name : (d e : SortedName) → PlacesContent contents d → PlacesContent contents e → d.2 ≡ e.2 → d.1.now ≡ e.1.now
   told_name d e t u same =
       let content = same_Some t.content u.content (sym t.placed ∙ ap (slice_get contents) same ∙ u.placed) in
       t.name ∙ ap (λ (c : Content). c.name) content ∙ sym u.name
 
 -- where a name is not that of the entry before, no entry before has it
-no_earlier : (es : List Entry) (size : ℕ) → AreOrdered es size → (i j : ℕ) (d p e : Entry)
+no_earlier : (es : List SortedName) (size : ℕ) → AreOrdered es size → (i j : ℕ) (d p e : SortedName)
     → j < i → slice_get es j ≡ Some d → slice_get es (i - 1) ≡ Some p → slice_get es i ≡ Some e → d.1.now ≡ e.1.now → p.1.now ≡ e.1.now
 no_earlier es size o i j d p e low at_d at_p at_e same =
     let inside : i < length es = slice_get_within es i e at_e in
     let far = sorted_far is_before (ranks_by key_total key_of) es (by_keys es o.sorted) in
     let key = told_key o.contents d e (o.each j d at_d) (o.each i e at_e) same in
     let one : is_before p d ≡ false =
-    subst (λ (x : Entry). is_before p x ≡ false) (read_at es d p j at_d)
-    (subst (λ (x : Entry). is_before x (get_or es j p) ≡ false) (read_at es p p (i - 1) at_p) (far j (i - 1) p (omega arith) (omega arith))) in
+    subst (λ (x : SortedName). is_before p x ≡ false) (read_at es d p j at_d)
+    (subst (λ (x : SortedName). is_before x (get_or es j p) ≡ false) (read_at es p p (i - 1) at_p) (far j (i - 1) p (omega arith) (omega arith))) in
     let two : is_before e p ≡ false =
-    subst (λ (x : Entry). is_before e x ≡ false) (read_at es p p (i - 1) at_p)
-    (subst (λ (x : Entry). is_before x (get_or es (i - 1) p) ≡ false) (read_at es e p i at_e) (far (i - 1) i p (omega arith) inside)) in
+    subst (λ (x : SortedName). is_before e x ≡ false) (read_at es p p (i - 1) at_p)
+    (subst (λ (x : SortedName). is_before x (get_or es (i - 1) p) ≡ false) (read_at es e p i at_e) (far (i - 1) i p (omega arith) inside)) in
     ap (λ (k : ℕ × List ℕ). k.1) (same_key (key_of p) (key_of e) (subst (λ k. is_lt (key_cmp (key_of p) k) ≡ false) key one) two)
 
 -- the place that an entry tells is there
-pub place_within : (es : List Entry) (size k : ℕ) (e : Entry) → AreOrdered es size → slice_get es k ≡ Some e → e.2 < size
+pub place_within : (es : List SortedName) (size k : ℕ) (e : SortedName) → AreOrdered es size → slice_get es k ≡ Some e → e.2 < size
 place_within es size k e o at =
     let t = o.each k e at in
     let low = slice_get_within o.contents e.2 t.content t.placed in
@@ -156,22 +156,22 @@ place_within es size k e o at =
 texts_tied : (a : List ℕ) → is_eq (slice_cmp nat_cmp a a) ≡ true
 texts_tied a = ap is_eq (tied_itself nat_list_cmp_total a)
 
-first_found : (es : List Entry) (k : ℕ) (e : Entry) → slice_get es k ≡ Some e
-    → ((j : ℕ) (d : Entry) → j < k → slice_get es j ≡ Some d → is_eq (slice_cmp nat_cmp d.1.now e.1.now) ≡ false) → number_in es e.1.now ≡ Some e.2
+first_found : (es : List SortedName) (k : ℕ) (e : SortedName) → slice_get es k ≡ Some e
+    → ((j : ℕ) (d : SortedName) → j < k → slice_get es j ≡ Some d → is_eq (slice_cmp nat_cmp d.1.now e.1.now) ≡ false) → number_named es e.1.now ≡ Some e.2
 first_found [] k e h none = absurd (none-some e h)
 first_found (d ∷ es) zero e h none =
-    ap (λ (f : Entry). cond (is_eq (slice_cmp nat_cmp f.1.now e.1.now)) (Some f.2) (number_in es e.1.now)) (same_Some d e h)
-    ∙ ap (λ b. cond b (Some e.2) (number_in es e.1.now)) (texts_tied e.1.now)
+    ap (λ (f : SortedName). cond (is_eq (slice_cmp nat_cmp f.1.now e.1.now)) (Some f.2) (number_named es e.1.now)) (same_Some d e h)
+    ∙ ap (λ b. cond b (Some e.2) (number_named es e.1.now)) (texts_tied e.1.now)
 first_found (d ∷ es) (suc k) e h none =
-    ap (λ b. cond b (Some d.2) (number_in es e.1.now)) (none zero d (omega arith) refl)
+    ap (λ b. cond b (Some d.2) (number_named es e.1.now)) (none zero d (omega arith) refl)
     ∙ first_found es k e h (λ j f low at. none (suc j) f (omega (arith, low)) at)
 
 -- a number is the place of an entry with the name
-found_number : (es : List Entry) (name : List ℕ) (x : ℕ) → number_in es name ≡ Some x → (k : ℕ) × (e : Entry) × (slice_get es k ≡ Some e) × (e.1.now ≡ name) × (e.2 ≡ x)
+found_number : (es : List SortedName) (name : List ℕ) (x : ℕ) → number_named es name ≡ Some x → (k : ℕ) × (e : SortedName) × (slice_get es k ≡ Some e) × (e.1.now ≡ name) × (e.2 ≡ x)
 found_number [] name x h = absurd (none-some x h)
 found_number (e ∷ es) name x h =
-    elim (is_eq (slice_cmp nat_cmp e.1.now name)) as (λ b. is_eq (slice_cmp nat_cmp e.1.now name) ≡ b → cond b (Some e.2) (number_in es name) ≡ Some x
-    → (k : ℕ) × (f : Entry) × (slice_get (e ∷ es) k ≡ Some f) × (f.1.now ≡ name) × (f.2 ≡ x)) [
+    elim (is_eq (slice_cmp nat_cmp e.1.now name)) as (λ b. is_eq (slice_cmp nat_cmp e.1.now name) ≡ b → cond b (Some e.2) (number_named es name) ≡ Some x
+    → (k : ℕ) × (f : SortedName) × (slice_get (e ∷ es) k ≡ Some f) × (f.1.now ≡ name) × (f.2 ≡ x)) [
       | true ↦ λ is g. (zero, e, refl, exact_bytes e.1.now name (equal_order (slice_cmp nat_cmp e.1.now name) is), same_Some e.2 x g)
       | false ↦ λ is g. let more = found_number es name x g in (suc more.0, more.1, more.2, more.3, more.4)
     ] refl h
@@ -185,7 +185,7 @@ one_or_other a b =
     ] refl
 
 -- the number of a name that the entry before has not is the place of its entry
-pub fresh_number : (es : List Entry) (size : ℕ) → AreOrdered es size → (i : ℕ) (e : Entry) → slice_get es i ≡ Some e → (Repeats es i → ⊥) → number_in es e.1.now ≡ Some e.2
+pub fresh_number : (es : List SortedName) (size : ℕ) → AreOrdered es size → (i : ℕ) (e : SortedName) → slice_get es i ≡ Some e → (Repeats es i → ⊥) → number_named es e.1.now ≡ Some e.2
 fresh_number es size o i e at other =
     first_found es i e at (λ j d low there. elim (one_or_other d.1.now e.1.now) [
       | inr apart ↦ apart
@@ -205,31 +205,31 @@ fresh_number es size o i e at other =
     ])
 
 -- the number of a name that the entry before has is that of the entry before
-pub same_number_again : (es : List Entry) (i x : ℕ) (e : Entry) → slice_get es i ≡ Some e → Repeats es i
-    → ((d : Entry) → 0 < i → slice_get es (i - 1) ≡ Some d → number_in es d.1.now ≡ Some x) → number_in es e.1.now ≡ Some x
+pub same_number_again : (es : List SortedName) (i x : ℕ) (e : SortedName) → slice_get es i ≡ Some e → Repeats es i
+    → ((d : SortedName) → 0 < i → slice_get es (i - 1) ≡ Some d → number_named es d.1.now ≡ Some x) → number_named es e.1.now ≡ Some x
 same_number_again es i x e at again before =
     let inside : i < length es = slice_get_within es i e at in
     let low : i - 1 < length es = omega arith in
     let found = placed_within es (i - 1) low in
-    subst (λ q. number_in es q ≡ Some x) (again.same found.0 e found.1 at).1 (before found.0 again.behind found.1)
+    subst (λ q. number_named es q ≡ Some x) (again.same found.0 e found.1 at).1 (before found.0 again.behind found.1)
 
-pub numbers_apart : (es : List Entry) (size : ℕ) → AreOrdered es size → (a b : List ℕ) (x : ℕ) → number_in es a ≡ Some x → number_in es b ≡ Some x → a ≡ b
+pub numbers_apart : (es : List SortedName) (size : ℕ) → AreOrdered es size → (a b : List ℕ) (x : ℕ) → number_named es a ≡ Some x → number_named es b ≡ Some x → a ≡ b
 numbers_apart es size o a b x h g =
     let one = found_number es a x h in
     let two = found_number es b x g in
     sym one.3 ∙ told_name o.contents one.1 two.1 (o.each one.0 one.1 one.2) (o.each two.0 two.1 two.2) (one.4 ∙ sym two.4) ∙ two.3
 
-pub numbers_below : (es : List Entry) (size : ℕ) → AreOrdered es size → (a : List ℕ) (x : ℕ) → number_in es a ≡ Some x → x < size
+pub numbers_below : (es : List SortedName) (size : ℕ) → AreOrdered es size → (a : List ℕ) (x : ℕ) → number_named es a ≡ Some x → x < size
 numbers_below es size o a x h =
     let one = found_number es a x h in
     subst (λ y. y < size) one.4 (place_within es size one.0 one.1 o one.2)
 
 -- ---- the walk over the entries
 -- what a read past the end of entries gives
-abbrev pub nothing : Entry
+abbrev pub nothing : SortedName
 nothing = (0, record { ref_ptr = (0, 0); now = [] }, 0)
 
-pub repeats_where : (es : List Entry) (i : ℕ) (d : Entry) (r : Bool) → i < length es → (i ≡ 0 → ⊥) → (get_or es (i - 1) d).0 ≡ (get_or es i d).0
+pub repeats_where : (es : List SortedName) (i : ℕ) (d : SortedName) (r : Bool) → i < length es → (i ≡ 0 → ⊥) → (get_or es (i - 1) d).0 ≡ (get_or es i d).0
     → r ≡ pointwise nat_eq (get_or es (i - 1) d).1.now (get_or es i d).1.now → IsTrue r ↔ Repeats es i
 repeats_where es i d r low some first test = (
   λ yes. record {
@@ -238,7 +238,7 @@ repeats_where es i d r low some first test = (
         let one : get_or es (i - 1) d ≡ f = read_at es f d (i - 1) at_f in
         let two : get_or es i d ≡ g = read_at es g d i at_g in
         let same = same_text (get_or es (i - 1) d).1.now (get_or es i d).1.now (sym yes ∙ test) in
-        (ap (λ (e : Entry). e.0) (sym one) ∙ first ∙ ap (λ (e : Entry). e.0) two, ap (λ (e : Entry). e.1.now) (sym one) ∙ same ∙ ap (λ (e : Entry). e.1.now) two);
+        (ap (λ (e : SortedName). e.0) (sym one) ∙ first ∙ ap (λ (e : SortedName). e.0) two, ap (λ (e : SortedName). e.1.now) (sym one) ∙ same ∙ ap (λ (e : SortedName). e.1.now) two);
   },
   λ again.
       let same = (again.same (get_or es (i - 1) d) (get_or es i d) (read_placed es (i - 1) d (omega arith)) (read_placed es i d low)).1 in
@@ -249,7 +249,7 @@ repeats_where es i d r low some first test = (
     told true e same = refl
     told false e same = absurd (other_text (get_or es (i - 1) d).1.now (get_or es i d).1.now e same)
 
-pub repeats_nowhere : (es : List Entry) (i : ℕ) (d : Entry) → i < length es → ((get_or es (i - 1) d).0 ≡ (get_or es i d).0 → ⊥) → Repeats es i → ⊥
+pub repeats_nowhere : (es : List SortedName) (i : ℕ) (d : SortedName) → i < length es → ((get_or es (i - 1) d).0 ≡ (get_or es i d).0 → ⊥) → Repeats es i → ⊥
 repeats_nowhere es i d low other again =
     let behind : 0 < i = again.behind in
     let before : i - 1 < length es = omega arith in
@@ -271,21 +271,21 @@ below_or_at (suc k) zero low = absurd (omega (arith, low))
 below_or_at (suc k) (suc i) low = elim (below_or_at k i (omega (arith, low))) [ inl less ↦ inl (omega (arith, less)) | inr same ↦ inr (ap suc same) ]
 
 -- one more entry's number is written
-pub numbered_more : (es : List Entry) (size i number : ℕ) (numbers : List ℕ) (e : Entry) → AreOrdered es size → slice_get es i ≡ Some e → number_in es e.1.now ≡ Some number
-    → AreNumbered es i numbers → AreNumbered es (i + 1) (set numbers e.2 number)
+pub numbered_more : (es : List SortedName) (size i number : ℕ) (numbers : List ℕ) (e : SortedName) → AreOrdered es size → slice_get es i ≡ Some e → number_named es e.1.now ≡ Some number
+    → HoldNumbers es i numbers → HoldNumbers es (i + 1) (set numbers e.2 number)
 numbered_more es size i number numbers e o at is written k x f low there got =
     elim (got_of_set numbers e.2 f.2 number x got) [
-      | inl new ↦ ap (number_in es) (told_name o.contents f e (o.each k f there) (o.each i e at) new.0) ∙ is ∙ ap Some new.1
+      | inl new ↦ ap (number_named es) (told_name o.contents f e (o.each k f there) (o.each i e at) new.0) ∙ is ∙ ap Some new.1
       | inr old ↦ elim (below_or_at k i low) [
         | inl earlier ↦ written k x f earlier there old.1
         | inr here ↦
             let same = same_Some f e (sym there ∙ ap (slice_get es) here ∙ at) in
-            absurd (old.0 (ap (λ (d : Entry). d.2) same))
+            absurd (old.0 (ap (λ (d : SortedName). d.2) same))
       ]
     ]
 
 -- ---- the entries of contents, sorted
-pub sorted_entries : (cs : List Content) (old new : List Entry) → AreEntries cs old → IsPermutation old new → IsSorted entry_cmp new → AreOrdered new (length new)
+pub sorted_entries : (cs : List Content) (old new : List SortedName) → AreEntries cs old → IsPermutation old new → IsSorted entry_cmp new → AreOrdered new (length new)
 sorted_entries cs old new are moved sorted = record {
   contents = cs;
   count = sym (length_permutation old new moved ∙ are.size);
@@ -296,7 +296,7 @@ sorted_entries cs old new are moved sorted = record {
 }
 
 -- each place is that of an entry
-entry_at : (cs : List Content) (old new : List Entry) → AreEntries cs old → IsPermutation old new → (p : ℕ) → p < length cs → (k : ℕ) × (e : Entry) × (slice_get new k ≡ Some e) × (e.2 ≡ p)
+entry_at : (cs : List Content) (old new : List SortedName) → AreEntries cs old → IsPermutation old new → (p : ℕ) → p < length cs → (k : ℕ) × (e : SortedName) × (slice_get new k ≡ Some e) × (e.2 ≡ p)
 entry_at cs old new are moved p low =
     let there = placed_within old p (omega (arith, low, are.size)) in
     let e = there.0 in
@@ -311,17 +311,17 @@ zip_placed P (x ∷ xs) [] long at = absurd (omega (arith, long))
 zip_placed P (x ∷ xs) (y ∷ ys) long at = (at zero x y refl refl, zip_placed P xs ys (omega (arith, long)) (λ k v w h g. at (suc k) v w h g))
 
 -- the numbers that were written are those of the contents' names
-pub all_numbered : (cs : List Content) (old new : List Entry) (numbers : List ℕ) → AreEntries cs old → IsPermutation old new → length numbers ≡ length new → AreNumbered new (length new) numbers
-    → AllZip (λ c x. number_in new c.name ≡ Some x) cs numbers
+pub all_numbered : (cs : List Content) (old new : List SortedName) (numbers : List ℕ) → AreEntries cs old → IsPermutation old new → length numbers ≡ length new → HoldNumbers new (length new) numbers
+    → AllZip (λ c x. number_named new c.name ≡ Some x) cs numbers
 all_numbered cs old new numbers are moved long written =
-    zip_placed (λ (c : Content) x. number_in new c.name ≡ Some x) cs numbers (long ∙ length_permutation old new moved ∙ are.size) (λ k c x at there.
+    zip_placed (λ (c : Content) x. number_named new c.name ≡ Some x) cs numbers (long ∙ length_permutation old new moved ∙ are.size) (λ k c x at there.
     let found = entry_at cs old new are moved k (slice_get_within cs k c at) in
     let e = found.1 in
     let back = Contains-permutation new old e (IsPermutation-sym old new moved) (contains_placed new e found.0 found.2) in
     let t = are.each back.0 e (placed_from_contained old e back.0 back.1 back.2) in
     let content = same_Some t.content c (sym t.placed ∙ ap (slice_get cs) found.3 ∙ at) in
     let name : e.1.now ≡ c.name = t.name ∙ ap (λ (d : Content). d.name) content in
-    subst (λ q. number_in new q ≡ Some x) name (written found.0 x e (slice_get_within new found.0 e found.2) found.2 (ap (slice_get numbers) found.3 ∙ there)))
+    subst (λ q. number_named new q ≡ Some x) name (written found.0 x e (slice_get_within new found.0 e found.2) found.2 (ap (slice_get numbers) found.3 ∙ there)))
 
 -- ---- rows
 module _ {X Y : Type 0} (P : X → Y → Type 0) where
@@ -335,10 +335,10 @@ module _ {X Y : Type 0} (P : X → Y → Type 0) where
   zip_back (u ∷ us) vs [] all = absurd all
   zip_back (u ∷ us) vs (y ∷ ys) all = zip_back us vs ys all.1
 
-pub rows_told : (P : Content → ℕ → Type 0) (ns : List (Bor Interface)) (xs : List ℕ) → AllZip P (contents_of ns) xs → AllZip (λ n ys. AllZip P n.now.contents ys) ns (rows_of ns xs)
+pub rows_told : (P : Content → ℕ → Type 0) (ns : List (Bor Interface)) (xs : List ℕ) → AllZip P (all_contents ns) xs → AllZip (λ n ys. AllZip P n.now.contents ys) ns (rows_of ns xs)
 rows_told P [] xs all = tt
 rows_told P (n ∷ ns) xs all =
-    (zip_front P n.now.contents (contents_of ns) xs all, rows_told P ns (drop (length n.now.contents) xs) (zip_back P n.now.contents (contents_of ns) xs all))
+    (zip_front P n.now.contents (all_contents ns) xs all, rows_told P ns (drop (length n.now.contents) xs) (zip_back P n.now.contents (all_contents ns) xs all))
 
 -- what the numbers of all names tell
 module _ (number : List ℕ → Option ℕ) where
@@ -372,15 +372,15 @@ module _ (number : List ℕ → Option ℕ) where
   declared_known (n ∷ ns) (d ∷ ds) all = (numbers_known n.now.contents d all.0, declared_known ns ds all.1)
 
 -- the numbers of sorted entries' names, in rows, are a naming
-pub naming_made : (ns : List (Bor Interface)) (old new : List Entry) (numbers : List ℕ) (declared : List (List ℕ)) (bound : ℕ) → AreEntries (contents_of ns) old
-    → IsPermutation old new → IsSorted entry_cmp new → length numbers ≡ length new → AreNumbered new (length new) numbers → declared ≡ rows_of ns numbers → bound ≡ length new
+pub naming_made : (ns : List (Bor Interface)) (old new : List SortedName) (numbers : List ℕ) (declared : List (List ℕ)) (bound : ℕ) → AreEntries (all_contents ns) old
+    → IsPermutation old new → IsSorted entry_cmp new → length numbers ≡ length new → HoldNumbers new (length new) numbers → declared ≡ rows_of ns numbers → bound ≡ length new
     → IsNaming (map (λ n. n.now) ns) declared bound
 naming_made ns old new numbers declared bound are moved sorted long written rows size =
-    let ordered = sorted_entries (contents_of ns) old new are moved sorted in
-    let number : List ℕ → Option ℕ = number_in new in
+    let ordered = sorted_entries (all_contents ns) old new are moved sorted in
+    let number : List ℕ → Option ℕ = number_named new in
     let all : AllZip (λ (n : Bor Interface) xs. AllZip (λ (c : Content) x. number c.name ≡ Some x) n.now.contents xs) ns declared =
     subst (AllZip (λ (n : Bor Interface) xs. AllZip (λ (c : Content) x. number c.name ≡ Some x) n.now.contents xs) ns) (sym rows)
-    (rows_told (λ (c : Content) x. number c.name ≡ Some x) ns numbers (all_numbered (contents_of ns) old new numbers are moved long written)) in
+    (rows_told (λ (c : Content) x. number c.name ≡ Some x) ns numbers (all_numbered (all_contents ns) old new numbers are moved long written)) in
     record {
       number = number;
       numbers = declared_read number ns declared all;

@@ -7,7 +7,7 @@ use Rattle.std.specs.Cmp.Lexicographic.{slice_cmp}
 use Rattle.std.specs.Map.{lookup}
 use Rattle.std.proofs.lemmas.Cmp.{nat_list_cmp_total}
 use Rattle.std.proofs.lemmas.Map.Lookups.{exact_bytes}
-use Rattle.dtmi_name.specs.Grammar.{Identifier, dtmi_text, id_cmp}
+use Rattle.dt_base.specs.names.Grammar.{Identifier, dtmi_text, id_cmp}
 use Rattle.dtdl_terms.specs.declared.interface.Interface.{Interface}
 use Rattle.extend_resolve.specs.Machinery.Numbers.{number_at, kept_at, number_for}
 

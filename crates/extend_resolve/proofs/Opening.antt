@@ -5,7 +5,7 @@ use Rattle.std.specs.List.{AllByRecursion, IsDistinct, list_any}
 use Rattle.std.proofs.lemmas.Cmp.{nat_eq_equiv}
 use Rattle.std.proofs.lemmas.Map.Keys.{IsDistinct-push}
 use Rattle.std.proofs.lemmas.Map.Steps.{length-le_from_distinct_below}
-use Rattle.extend_resolve.specs.Machinery.Links.{IsIn, links_at, IsWay, way_end, Arrives, AreWithin, push_new, add_new, AreMarked, AreOpened, IsOpening}
+use Rattle.extend_resolve.specs.Machinery.Links.{IsIn, links_at, IsWay, way_end, Arrives, AreLinksWithin, push_new, add_new, AreMarked, AreOpened, IsOpening}
 
 -- ---- elements of a list of numbers
 pub equal_numbers : (x y : ℕ) → nat_eq x y ≡ true → x ≡ y
@@ -124,7 +124,7 @@ module _ (links : List (List ℕ)) (start : ℕ) where
     opened = tt;
   }
 
-  opening_suc : (found : List ℕ) (at d : ℕ) → AreWithin links → at < length found → IsOpening links start found at
+  opening_suc : (found : List ℕ) (at d : ℕ) → AreLinksWithin links → at < length found → IsOpening links start found at
       → IsOpening links start (add_new found (links_at links (get_or found at d))) (suc at)
   opening_suc found at d within low so_far =
       let x : ℕ = get_or found at d in
@@ -142,7 +142,7 @@ module _ (links : List (List ℕ)) (start : ℕ) where
         opened = subst (λ xs. AreOpened links (add_new found next) (take (suc at) xs)) (sym more.1) opened;
       }
 
-  pub opening_step : (found : List ℕ) (at d : ℕ) → AreWithin links → at < length found → IsOpening links start found at
+  pub opening_step : (found : List ℕ) (at d : ℕ) → AreLinksWithin links → at < length found → IsOpening links start found at
       → IsOpening links start (add_new found (links_at links (get_or found at d))) (at + 1)
   opening_step found at d within low so_far =
       let next : suc at ≡ at + 1 = omega arith in

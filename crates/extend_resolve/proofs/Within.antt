@@ -6,14 +6,15 @@ use Rattle.std.specs.Map.{lookup}
 use Rattle.std.specs.BTreeMap.{is_at}
 use Rattle.std.proofs.lemmas.Option.{same_Some, none-some}
 use Rattle.std.proofs.lemmas.Slice.Eq.{bytes_eq-Decides}
-use Rattle.dtmi_name.specs.Grammar.{Identifier, dtmi_text, id_cmp, id_eq}
+use Rattle.std.proofs.lemmas.Bool.{or_cases}
+use Rattle.dt_base.specs.names.Grammar.{Identifier, dtmi_text, id_cmp, id_eq}
 use Rattle.dtdl_terms.specs.Sets.{keyed, interface_at}
 use Rattle.dtdl_terms.specs.declared.interface.Interface.{Interface}
 use Rattle.dtdl_terms.specs.declared.spot.Spot.TheVariants as spots
 use Rattle.extend_resolve.specs.declared.rule.SetRule.TheVariants as rules
 use Rattle.extend_resolve.specs.Chains.{IsChain, chain_end, IsAncestor, ReachesCycle}
 use Rattle.extend_resolve.specs.Breaches.{BreaksNoRule}
-use Rattle.extend_resolve.specs.Machinery.Within.{passes, reaches_within, any_within}
+use Rattle.extend_resolve.specs.Machinery.Within.{interface_passes, reaches_within, any_within}
 
 -- ---- elements by their positions
 module _ {X : Type 0} where
@@ -41,10 +42,6 @@ module _ {X : Type 0} where
         | false ↦ λ e h. let later = placed_from_any p ys h in (suc later.0, later.1, later.2, later.3)
       ] refl some
 
-either : (a b : Bool) → (a || b) ≡ true → (a ≡ true) ⊎ (b ≡ true)
-either true b h = inl refl
-either false b h = inr h
-
 -- what is found in a set stands in it
 pub found_placed : (set : List Interface) (p : Identifier) (j : Interface) → interface_at p set ≡ Some j → (k : ℕ) × (slice_get set k ≡ Some j)
 found_placed [] p j found = absurd (none-some j found)
@@ -65,17 +62,17 @@ module _ (set : List Interface) (id : Identifier) where
   here : (n : ℕ) (i : Interface) → id_eq i.id id ≡ true → Leads n i
   here n i same = ([], tt, omega arith, (bytes_eq-Decides (dtmi_text i.id) (dtmi_text id)).0 same)
 
-  passed : (test : Interface → Bool) (o : Option Interface) → passes test o ≡ true → (j : Interface) × (o ≡ Some j) × (test j ≡ true)
+  passed : (test : Interface → Bool) (o : Option Interface) → interface_passes test o ≡ true → (j : Interface) × (o ≡ Some j) × (test j ≡ true)
   passed test None h = absurd (true≢false (sym h))
   passed test (Some j) h = (j, refl, h)
 
   pub leads_from : (n : ℕ) (i : Interface) → reaches_within set id n i ≡ true → Leads n i
   leads_from zero i h = here zero i h
   leads_from (suc n) i h =
-      elim (either (id_eq i.id id) (any_within set id n i.parents) h) [
+      elim (or_cases (id_eq i.id id) (any_within set id n i.parents) h) [
         | inl same ↦ here (suc n) i same
         | inr some ↦
-            let one = placed_from_any (λ p. passes (reaches_within set id n) (interface_at p set)) i.parents some in
+            let one = placed_from_any (λ p. interface_passes (reaches_within set id n) (interface_at p set)) i.parents some in
             let found = passed (reaches_within set id n) (interface_at one.1 set) one.3 in
             let more = leads_from n found.0 found.2 in
             let listed = contained_from_placed i.parents one.1 one.0 one.2 in
@@ -94,9 +91,9 @@ module _ (set : List Interface) (id : Identifier) where
   leads_to n i [] chain short same = same_here n i ((bytes_eq-Decides (dtmi_text i.id) (dtmi_text id)).1 same)
   leads_to zero i (j ∷ js) chain short same = absurd (omega (arith, short))
   leads_to (suc n) i (j ∷ js) ((p, (k, low, is), found), chain) short same =
-      let holds : passes (reaches_within set id n) (interface_at p set) ≡ true =
-      ap (passes (reaches_within set id n)) found ∙ leads_to n j js chain (omega (arith, short)) same in
-      or_right (id_eq i.id id) (any_within set id n i.parents) (any_from_placed (λ q. passes (reaches_within set id n) (interface_at q set)) i.parents k p (placed_from_contained i.parents p k low is) holds)
+      let holds : interface_passes (reaches_within set id n) (interface_at p set) ≡ true =
+      ap (interface_passes (reaches_within set id n)) found ∙ leads_to n j js chain (omega (arith, short)) same in
+      or_right (id_eq i.id id) (any_within set id n i.parents) (any_from_placed (λ q. interface_passes (reaches_within set id n) (interface_at q set)) i.parents k p (placed_from_contained i.parents p k low is) holds)
 
 -- ---- ten steps are enough
 pub at_most : (m n : ℕ) → (n ≤ m) ⊎ (suc m ≤ n)

@@ -10,12 +10,12 @@ use Rattle.std.specs.BTreeMap.{is_at}
 use Rattle.std.proofs.lemmas.List.{length-map}
 use Rattle.std.proofs.lemmas.Map.Steps.{length-le_from_distinct_below}
 use Rattle.std.proofs.lemmas.Option.{none-some, same_Some, slice_get-map, slice_get_within, unwrap_or-slice_get}
-use Rattle.dtmi_name.specs.Grammar.{Identifier, dtmi_text, id_cmp}
+use Rattle.dt_base.specs.names.Grammar.{Identifier, dtmi_text, id_cmp}
 use Rattle.dtdl_terms.specs.Sets.{keyed, interface_at}
 use Rattle.dtdl_terms.specs.declared.interface.Interface.{Interface}
 use Rattle.extend_resolve.specs.Chains.{HaveOneId, IsParent, IsChain, chain_end, IsAncestor, LeadsBack, ReachesCycle}
 use Rattle.extend_resolve.specs.SetRules.{IsLongChain}
-use Rattle.extend_resolve.specs.Machinery.Links.{IsIn, links_at, IsWay, way_end, Arrives, AreWithin}
+use Rattle.extend_resolve.specs.Machinery.Links.{IsIn, links_at, IsWay, way_end, Arrives, AreLinksWithin}
 use Rattle.extend_resolve.specs.Machinery.Numbers.{kept_at}
 use Rattle.extend_resolve.specs.Machinery.Worlds.{IsWorld, DepthAt, AreDepths}
 use Rattle.extend_resolve.proofs.Numbers.{same_text, some_of}
@@ -110,7 +110,7 @@ module _ (links : List (List ℕ)) where
         ] refl
       ]
 
-  way_below : (x : ℕ) (ys : List ℕ) → AreWithin links → IsWay links x ys → (q : ℕ) → IsIn q ys → q < length links
+  way_below : (x : ℕ) (ys : List ℕ) → AreLinksWithin links → IsWay links x ys → (q : ℕ) → IsIn q ys → q < length links
   way_below x [] within way q h = absurd (true≢false (sym h))
   way_below x (y ∷ ys) within (link, way) q h =
       elim (nat_eq q y) as (λ b. nat_eq q y ≡ b → (b || list_any (nat_eq q) ys) ≡ true → q < length links) [
@@ -119,7 +119,7 @@ module _ (links : List (List ℕ)) where
       ] refl h
 
   -- a way that is longer than there are numbers leads to a cycle
-  long_way_cycles : (x : ℕ) (ys : List ℕ) → AreWithin links → IsWay links x ys → length links < length ys → (z : ℕ) × Arrives links x z × IsOnCycle z
+  long_way_cycles : (x : ℕ) (ys : List ℕ) → AreLinksWithin links → IsWay links x ys → length links < length ys → (z : ℕ) × Arrives links x z × IsOnCycle z
   long_way_cycles x ys within way long =
       elim (distinct_or_cycle x ys way) [
         | inr c ↦ c
@@ -183,7 +183,7 @@ module _ {set new nodes : List Interface} {numbers : List (Identifier × ℕ)} {
   no_link : (x y : ℕ) → slice_get nodes x ≡ None → IsIn y (links_at links x) → ⊥
   no_link x y past link = true≢false (sym (subst (IsIn y) (links_are x None past) link))
 
-  pub world_within : AreWithin links
+  pub world_within : AreLinksWithin links
   world_within x y link =
       elim (slice_get nodes x) as (λ o. slice_get nodes x ≡ o → y < length links) [
         | None ↦ λ past. absurd (no_link x y past link)

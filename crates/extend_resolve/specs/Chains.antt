@@ -1,7 +1,7 @@
 -- Chains of extension (DTDL v2, "Interface", the property `extends`) in a set of interfaces, in which each interface is
 -- found by its identifier; of equal identifiers the first stands for it.
 use Rattle.std.specs.Prelude.{◌≡◌, ℕ, List, [], ◌∷◌, map, Some, Contains}
-use Rattle.dtmi_name.specs.Grammar.{Identifier, dtmi_text}
+use Rattle.dt_base.specs.names.Grammar.{Identifier, dtmi_text}
 use Rattle.dtdl_terms.specs.Sets.{interface_at}
 use Rattle.dtdl_terms.specs.declared.interface.Interface.{Interface}
 

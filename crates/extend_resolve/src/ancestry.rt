@@ -2,15 +2,15 @@
 
 ghost use Rattle.std.specs.Prelude.{◌≡◌, ◌↔◌, Some, IsSome, IsTrue};
 ghost use Rattle.std.specs.Option.{option_copied};
-ghost use Rattle.dtmi_name.specs.Grammar.{dtmi_text};
+ghost use Rattle.dt_base.specs.names.Grammar.{dtmi_text};
 ghost use Rattle.dtdl_terms.specs.Sets.{interface_at};
 ghost use Rattle.dtdl_terms.specs.declared.interface.Interface.{Interface};
 ghost use Rattle.extend_resolve.specs.Chains.{IsAncestor};
 ghost use Rattle.extend_resolve.specs.Breaches.{BreaksNoRule};
-ghost use Rattle.extend_resolve.specs.Machinery.Within.{passes, reaches_within, any_within};
+ghost use Rattle.extend_resolve.specs.Machinery.Within.{interface_passes, reaches_within, any_within};
 
+use dt_base::names::Dtmi;
 use dtdl_terms::{Interface, ModelSet};
-use dtmi_name::Dtmi;
 
 /// The most steps of a chain of extension in a set that breaks no rule (this project's own).
 pub const MOST_STEPS: u32 = 10;
@@ -58,7 +58,7 @@ fn any_reaches(set: &ModelSet, ids: &[Dtmi], ancestor: &Dtmi, steps: u32) -> boo
 /// Whether one does from the interface, where there is one.
 #[cycle(reaching)]
 fn found_reaches(set: &ModelSet, interface: Option<&Interface>, ancestor: &Dtmi, steps: u32) -> bool
-    ensures { result ≡ passes (reaches_within set.now ancestor.now steps) (option_copied interface.entry) }
+    ensures { result ≡ interface_passes (reaches_within set.now ancestor.now steps) (option_copied interface.entry) }
 {
     match interface {
         Some(interface) => reaches(set, interface, ancestor, steps),

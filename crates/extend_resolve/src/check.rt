@@ -4,7 +4,7 @@ ghost use Rattle.std.specs.Prelude.{◌≡◌, None, IfOk, MatchResult};
 ghost use Rattle.std.specs.List.{AllByRecursion};
 ghost use Rattle.dtdl_terms.specs.Sets.{interface_at};
 ghost use Rattle.extend_resolve.specs.Breaches.{IsSound, RefusesSet};
-ghost use Rattle.extend_resolve.specs.Machinery.Judges.{IsFirstOf};
+ghost use Rattle.extend_resolve.specs.Machinery.Judges.{FindsFirstSetBreach};
 
 use crate::end::SetEnd;
 use crate::first::Found;
@@ -38,7 +38,7 @@ fn first_breach(
     new: &[Uploaded],
 ) -> Result<Option<(usize, Found)>, OutOfMemory>
     requires apart { AllByRecursion (λ u. interface_at u.interface.id set.now ≡ None) new.now }
-    ensures { IfOk result (IsFirstOf set.now new.now) }
+    ensures { IfOk result (FindsFirstSetBreach set.now new.now) }
 {
     let judge = Judge::new(alloc, set, new)?;
     let mut scratch = judge.scratch()?;

@@ -2,7 +2,7 @@
 
 ghost use Rattle.std.specs.Prelude.{◌≡◌, ◌↔◌, ◌<◌, ℕ, length, nat_eq, IfOk, OnOk};
 ghost use Rattle.std.specs.List.{AllByRecursion, IsDistinct};
-ghost use Rattle.extend_resolve.specs.Machinery.Links.{IsIn, Arrives, AreWithin, add_new, push_new, AreMarked, AreClear};
+ghost use Rattle.extend_resolve.specs.Machinery.Links.{IsIn, Arrives, AreLinksWithin, add_new, push_new, AreMarked, AreClear};
 
 use dt_base::{List, OutOfMemory};
 use std::alloc::Global;
@@ -16,7 +16,7 @@ pub fn closure(
 ) -> Result<Vec<usize>, OutOfMemory>
     requires start { start < length links.now }
     requires bound { length marks.old ≡ length links.now }
-    requires within { AreWithin links.now }
+    requires within { AreLinksWithin links.now }
     requires clear { AreClear marks.old }
     ensures each { IfOk result (λ found. (y : ℕ) → IsIn y found.items ↔ Arrives links.now start y) }
     ensures distinct { IfOk result (λ found. IsDistinct nat_eq found.items) }

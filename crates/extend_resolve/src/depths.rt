@@ -2,7 +2,7 @@
 
 ghost use Rattle.std.specs.Prelude.{◌≡◌, ◌<◌, ◌∷◌, ◌++◌, [], length, slice_set, IfOk, OnOk};
 ghost use Rattle.std.specs.List.{AllByRecursion};
-ghost use Rattle.extend_resolve.specs.Machinery.Links.{AreWithin, links_at};
+ghost use Rattle.extend_resolve.specs.Machinery.Links.{AreLinksWithin, links_at};
 ghost use Rattle.extend_resolve.specs.Machinery.Worlds.{AreDepths};
 ghost use Rattle.extend_resolve.specs.Machinery.Deepening.{depth_over, AreSmall, IsDeepening, Grows, IsTried, with_child, LeadBack};
 
@@ -12,7 +12,7 @@ use std::alloc::Global;
 /// The steps of the longest chain of links from each number; `None` where a cycle is reached. A number's steps are told
 /// when those of all its links are, and then the numbers with a link to it are tried.
 pub fn depths(alloc: Global, links: &[List<usize>]) -> Result<Vec<Option<u64>>, OutOfMemory>
-    requires within { AreWithin links.now }
+    requires within { AreLinksWithin links.now }
     ensures { IfOk result (λ depths. AreDepths links.now depths.items) }
 {
     let children = children_of(alloc, links)?;
@@ -42,7 +42,7 @@ fn end_all(
     depths: &mut [Option<u64>],
     ended: &mut Vec<usize>,
 ) -> Result<(), OutOfMemory>
-    requires within { AreWithin links.now }
+    requires within { AreLinksWithin links.now }
     requires below { AllByRecursion (λ x. x < length links.now) numbers.now }
     requires so_far { IsDeepening links.now depths.old ended.old.items }
     ensures so_far { OnOk result (IsDeepening links.now depths.new ended.new.items) }
@@ -62,7 +62,7 @@ fn end(
     depths: &mut [Option<u64>],
     ended: &mut Vec<usize>,
 ) -> Result<(), OutOfMemory>
-    requires within { AreWithin links.now }
+    requires within { AreLinksWithin links.now }
     requires below { number < length links.now }
     requires so_far { IsDeepening links.now depths.old ended.old.items }
     ensures so_far { OnOk result (IsDeepening links.now depths.new ended.new.items) }
@@ -98,7 +98,7 @@ fn depth_over(links: &[usize], depths: &[Option<u64>]) -> Option<u64>
 
 /// The numbers from which links lead to each number.
 fn children_of(alloc: Global, links: &[List<usize>]) -> Result<Vec<List<usize>>, OutOfMemory>
-    requires within { AreWithin links.now }
+    requires within { AreLinksWithin links.now }
     ensures { IfOk result (λ children. LeadBack links.now children.items (length links.now)) }
 {
     let mut children = empty_lists(alloc, links.len())?;

@@ -3,7 +3,7 @@
 ghost use Rattle.std.specs.Prelude.{◌≡◌};
 ghost use Rattle.std.specs.Ordering.{is_gt};
 ghost use Rattle.extend_resolve.specs.Breaches.{place_in};
-ghost use Rattle.extend_resolve.specs.Machinery.Firsts.{placed, found_cmp, earlier_of, found_if};
+ghost use Rattle.extend_resolve.specs.Machinery.Firsts.{place_key, found_cmp, earlier_of, found_if};
 
 use crate::rule::SetRule;
 use dtdl_terms::{Spot, Uploaded};
@@ -58,7 +58,7 @@ fn comes_after(uploaded: &Uploaded, one: Found, other: Found) -> bool
 /// Where a place of an interface stands in its text: the whole first, then by the ordinal of the member, and then by the
 /// position in it.
 fn place(uploaded: &Uploaded, spot: Spot) -> Option<(u64, Option<u64>)>
-    ensures { placed result ≡ place_in uploaded.now spot }
+    ensures { place_key result ≡ place_in uploaded.now spot }
 {
     let parents_at = uploaded.parents_at.unwrap_or(0);
     match spot {

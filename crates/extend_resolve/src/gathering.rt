@@ -2,13 +2,13 @@
 
 ghost use Rattle.std.specs.Prelude.{◌≡◌, ◌∷◌, [], ◌++◌, map, IfOk, OnOk, length};
 ghost use Rattle.std.specs.Option.{option_or};
-ghost use Rattle.dtmi_name.specs.Grammar.{Identifier};
+ghost use Rattle.dt_base.specs.names.Grammar.{Identifier};
 ghost use Rattle.extend_resolve.specs.Machinery.Numbers.{kept_at, number_for};
 ghost use Rattle.extend_resolve.specs.Machinery.Gathering.{component_ids, with_id, with_ids, with_components, AreNumbered, IsGathered};
 
 use dt_base::OutOfMemory;
+use dt_base::names::Dtmi;
 use dtdl_terms::{ContentKind, Interface, ModelSet, Uploaded};
-use dtmi_name::Dtmi;
 use std::alloc::Global;
 use std::collections::BTreeMap;
 

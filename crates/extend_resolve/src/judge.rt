@@ -2,7 +2,7 @@
 
 ghost use Rattle.std.specs.Prelude.{◌≡◌, ◌<◌, ◌+◌, ◌↔◌, ℕ, map, length, slice_get, get_or, nat_eq, min, false, true, None, IfOk, OnOk};
 ghost use Rattle.std.specs.List.{AllByRecursion, IsDistinct, list_any};
-ghost use Rattle.dtmi_name.specs.Grammar.{Identifier};
+ghost use Rattle.dt_base.specs.names.Grammar.{Identifier};
 ghost use Rattle.dtdl_terms.specs.Sets.{interface_at};
 ghost use Rattle.dtdl_terms.specs.declared.spot.Spot.TheVariants as spots;
 ghost use Rattle.extend_resolve.specs.SetRules.{NamesParent, NamesComponent};
@@ -11,8 +11,8 @@ ghost use Rattle.std.specs.Option.{option_copied};
 ghost use Rattle.extend_resolve.specs.Machinery.Gathering.{component_id};
 ghost use Rattle.extend_resolve.specs.Machinery.Numbers.{kept_at};
 ghost use Rattle.extend_resolve.specs.Machinery.Owners.{AreFresh, any_reached, add_reached};
-ghost use Rattle.extend_resolve.specs.Machinery.Firsts.{IsLeast, AtSpot};
-ghost use Rattle.extend_resolve.specs.Machinery.Judges.{nodes_in, IsJudge, IsJudging, IsReady, Broken, AreBehind, counted, is_rest_of, is_other_than, is_one_of, is_long_at, IsReached, KnowsOwners, AreComposed, ReachesComponent, OfParents, OfContents};
+ghost use Rattle.extend_resolve.specs.Machinery.Firsts.{IsLeastFound, AtSpot};
+ghost use Rattle.extend_resolve.specs.Machinery.Judges.{nodes_in, IsJudge, IsJudging, IsReady, Broken, AreBehind, counted_rest, is_rest_of, is_other_than, holds_number, is_long_at, IsReached, KnowsOwners, AreComposed, ReachesComponent, OfParents, OfContents};
 
 use crate::closure::closure;
 use crate::depths::depths;
@@ -22,8 +22,8 @@ use crate::owners::{Owner, add, any_other};
 use crate::rule::SetRule;
 use crate::world::World;
 use dt_base::OutOfMemory;
+use dt_base::names::Dtmi;
 use dtdl_terms::{Content, ContentKind, ModelSet, Spot, Uploaded};
-use dtmi_name::Dtmi;
 use std::alloc::Global;
 
 /// The most steps of a chain of extension.
@@ -110,7 +110,7 @@ impl<'a> Judge<'a> {
         requires judging { IsJudging self.now index uploaded.now }
         requires ready { IsReady self.now scratch.old index }
         ensures ready { OnOk result (IsReady self.now scratch.new (index + 1)) }
-        ensures least { IfOk result (λ o. IsLeast uploaded.now (Broken self.now index uploaded.now) o) }
+        ensures least { IfOk result (λ o. IsLeastFound uploaded.now (Broken self.now index uploaded.now) o) }
     {
         let ancestors = self.reach(scratch.marks.as_mut_slice(), index)?;
         let number = self.world.number(&uploaded.interface.id);
@@ -148,7 +148,7 @@ impl<'a> Judge<'a> {
         requires judging { IsJudging self.now index uploaded.now }
         requires own { own ≡ kept_at uploaded.now.interface.id self.now.world.numbers.entries }
         requires behind { AreBehind self.now.world.links.items index ancestors.now }
-        ensures { IsLeast uploaded.now (AtSpot (Broken self.now index uploaded.now) spots.Whole) result }
+        ensures { IsLeastFound uploaded.now (AtSpot (Broken self.now index uploaded.now) spots.Whole) result }
     {
         let others = self.count_contents(ancestors, index, own);
         let total = others.saturating_add(uploaded.interface.contents.len());
@@ -158,7 +158,7 @@ impl<'a> Judge<'a> {
     /// The contents that these declare together, but for the judged interface and what stands for its identifier.
     fn count_contents(&self, numbers: &[usize], index: usize, own: Option<usize>) -> usize
         requires { AllByRecursion (λ y. y < length self.now.world.nodes.items) numbers.now }
-        ensures { result ≡ min (counted (nodes_in self.now) index own numbers.now) usize.MAX }
+        ensures { result ≡ min (counted_rest (nodes_in self.now) index own numbers.now) usize.MAX }
     {
         let mut total = 0usize;
         'numbers: for number in numbers {
@@ -173,7 +173,7 @@ impl<'a> Judge<'a> {
     fn judge_id(&self, index: usize, uploaded: &Uploaded, own: Option<usize>) -> Option<Found>
         requires judging { IsJudging self.now index uploaded.now }
         requires own { own ≡ kept_at uploaded.now.interface.id self.now.world.numbers.entries }
-        ensures { IsLeast uploaded.now (AtSpot (Broken self.now index uploaded.now) spots.Id) result }
+        ensures { IsLeastFound uploaded.now (AtSpot (Broken self.now index uploaded.now) spots.Id) result }
     {
         found_where(is_other(index, own), SetRule::RepeatedId, Spot::Id)
     }
@@ -189,7 +189,7 @@ impl<'a> Judge<'a> {
         requires judging { IsJudging self.now index uploaded.now }
         requires own { own ≡ kept_at uploaded.now.interface.id self.now.world.numbers.entries }
         requires behind { AreBehind self.now.world.links.items index ancestors.now }
-        ensures { IsLeast uploaded.now (AtSpot (Broken self.now index uploaded.now) spots.Parents) result }
+        ensures { IsLeastFound uploaded.now (AtSpot (Broken self.now index uploaded.now) spots.Parents) result }
     {
         let long = is_long(self.depths[index], index, own, ancestors);
         found_where(long, SetRule::LongChain, Spot::Parents)
@@ -207,7 +207,7 @@ impl<'a> Judge<'a> {
         requires own { own ≡ kept_at uploaded.now.interface.id self.now.world.numbers.entries }
         requires ready { IsReady self.now scratch.old index }
         ensures ready { OnOk result (IsReady self.now scratch.new (index + 1)) }
-        ensures least { IfOk result (λ o. IsLeast uploaded.now (OfParents (Broken self.now index uploaded.now) (length uploaded.now.interface.parents)) o) }
+        ensures least { IfOk result (λ o. IsLeastFound uploaded.now (OfParents (Broken self.now index uploaded.now) (length uploaded.now.interface.parents)) o) }
     {
         let mut first = None;
         add(
@@ -251,7 +251,7 @@ impl<'a> Judge<'a> {
         ensures clear { OnOk result (AreClear marks.new) }
         ensures owned { OnOk result (at + 1 < length uploaded.now.interface.parents → KnowsOwners self.now owners.new index uploaded.now (at + 1)) }
         ensures fresh { OnOk result (AreFresh owners.new (index + 1) (length self.now.new.now)) }
-        ensures least { IfOk result (λ o. IsLeast uploaded.now (AtSpot (Broken self.now index uploaded.now) (spots.Parent at)) o) }
+        ensures least { IfOk result (λ o. IsLeastFound uploaded.now (AtSpot (Broken self.now index uploaded.now) (spots.Parent at)) o) }
     {
         let count = uploaded.interface.parents.len();
         let Some(parent) = self.parent_number(index, uploaded, at) else {
@@ -295,7 +295,7 @@ impl<'a> Judge<'a> {
         requires names { length owners.now ≡ self.now.names.bound }
         requires owned { KnowsOwners self.now owners.now index uploaded.now at }
         requires reached { IsReached self.now.world.numbers.entries self.now.world.links.items uploaded.now.interface at reached.now }
-        ensures { IsLeast uploaded.now (AtSpot (Broken self.now index uploaded.now) (spots.Parent at)) result }
+        ensures { IsLeastFound uploaded.now (AtSpot (Broken self.now index uploaded.now) (spots.Parent at)) result }
     {
         let spot = Spot::Parent(at as u64);
         if is_among(reached, own) {
@@ -356,7 +356,7 @@ impl<'a> Judge<'a> {
         requires judging { IsJudging self.now index uploaded.now }
         requires ready { IsReady self.now scratch.old (index + 1) }
         ensures ready { OnOk result (IsReady self.now scratch.new (index + 1)) }
-        ensures least { IfOk result (λ o. IsLeast uploaded.now (OfContents (Broken self.now index uploaded.now) (length uploaded.now.interface.contents)) o) }
+        ensures least { IfOk result (λ o. IsLeastFound uploaded.now (OfContents (Broken self.now index uploaded.now) (length uploaded.now.interface.contents)) o) }
     {
         if !self.world.composed[index] {
             return Ok(None);
@@ -385,7 +385,7 @@ impl<'a> Judge<'a> {
         requires ready { IsReady self.now scratch.old (index + 1) }
         requires component { NamesComponent uploaded.now.interface at of.now }
         ensures ready { OnOk result (IsReady self.now scratch.new (index + 1)) }
-        ensures least { IfOk result (λ o. IsLeast uploaded.now (AtSpot (Broken self.now index uploaded.now) (spots.ContentSchema at)) o) }
+        ensures least { IfOk result (λ o. IsLeastFound uploaded.now (AtSpot (Broken self.now index uploaded.now) (spots.ContentSchema at)) o) }
     {
         let spot = Spot::ContentSchema(at as u64);
         let Some(part) = self.world.number(of) else {
@@ -461,7 +461,7 @@ fn is_other(index: usize, own: Option<usize>) -> bool
 
 /// Whether a number is there and among these.
 fn is_among(numbers: &[usize], own: Option<usize>) -> bool
-    ensures { result ≡ is_one_of numbers.now own }
+    ensures { result ≡ holds_number numbers.now own }
 {
     match own {
         Some(own) => numbers.contains(&own),

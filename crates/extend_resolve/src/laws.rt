@@ -5,7 +5,7 @@ ghost use Rattle.std.specs.List.{AllByRecursion};
 ghost use Rattle.dtdl_terms.specs.declared.interface.Interface.{Interface};
 ghost use Rattle.dtdl_terms.specs.declared.uploaded.Uploaded.{Uploaded};
 ghost use Rattle.extend_resolve.specs.Chains.{IsAncestor};
-ghost use Rattle.extend_resolve.specs.Breaches.{Breach, IsFirstBreach, HasOrdinals};
+ghost use Rattle.extend_resolve.specs.Breaches.{Breach, IsFirstSetBreach, HasOrdinals};
 
 /// The ancestors of an ancestor of an interface are ancestors of the interface.
 pub fn ancestors_of_ancestors()
@@ -14,5 +14,5 @@ pub fn ancestors_of_ancestors()
 
 /// There is at most one first breach.
 pub fn one_first_breach()
-    ensures { (set : List Interface) (new : List Uploaded) → AllByRecursion HasOrdinals new → (b c : Breach) → IsFirstBreach set new b → IsFirstBreach set new c → b ≡ c }
+    ensures { (set : List Interface) (new : List Uploaded) → AllByRecursion HasOrdinals new → (b c : Breach) → IsFirstSetBreach set new b → IsFirstSetBreach set new c → b ≡ c }
 {}

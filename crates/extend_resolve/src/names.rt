@@ -1,7 +1,7 @@
 //! The names of contents by numbers.
 
 ghost use Rattle.std.specs.Prelude.{◌≡◌, ◌<◌, ◌↔◌, length, map, IfOk, OnOk, IsTrue};
-ghost use Rattle.extend_resolve.specs.Machinery.Names.{IsNaming, first_bytes, contents_of, AreEntries, AddsEntries, AreOrdered, AreNumbered, Repeats, rows_of};
+ghost use Rattle.extend_resolve.specs.Machinery.Names.{IsNaming, first_bytes, all_contents, AreEntries, AddsEntries, AreOrdered, HoldNumbers, Repeats, rows_of};
 
 use dt_base::{List, OutOfMemory};
 use dtdl_terms::Interface;
@@ -38,7 +38,7 @@ impl Names {
 
 /// The entries of all contents in their order.
 fn entries_of<'a>(alloc: Global, nodes: &[&'a Interface]) -> Result<Vec<Entry<'a>>, OutOfMemory>
-    ensures { IfOk result (λ entries. AreEntries (contents_of nodes.now) entries.items) }
+    ensures { IfOk result (λ entries. AreEntries (all_contents nodes.now) entries.items) }
 {
     let mut entries = Vec::with_capacity(alloc, content_count(nodes))?;
     'nodes: for node in nodes {
@@ -71,7 +71,7 @@ fn add_entries<'a>(entries: &mut Vec<Entry<'a>>, node: &'a Interface) -> Result<
 /// Writes the number of each entry's name to the entry's place. It is the place of the first entry that has the name.
 fn number_all(numbers: &mut [usize], entries: &[Entry<'_>])
     requires { AreOrdered entries.now (length numbers.old) }
-    ensures { AreNumbered entries.now (length entries.now) numbers.new }
+    ensures { HoldNumbers entries.now (length entries.now) numbers.new }
 {
     let mut number = 0;
     'entries: for index in 0..entries.len() {
@@ -102,7 +102,7 @@ fn rows_of(
     nodes: &[&Interface],
     numbers: &[usize],
 ) -> Result<Vec<List<usize>>, OutOfMemory>
-    requires { length numbers.now ≡ length (contents_of nodes.now) }
+    requires { length numbers.now ≡ length (all_contents nodes.now) }
     ensures { IfOk result (λ rows. rows.items ≡ rows_of nodes.now numbers.now) }
 {
     let mut rows = Vec::with_capacity(alloc, nodes.len())?;

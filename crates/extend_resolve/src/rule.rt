@@ -1,7 +1,7 @@
 //! The rules on sets of interfaces.
 
 ghost use Rattle.std.specs.Prelude.{◌≡◌};
-ghost use Rattle.extend_resolve.specs.Breaches.{rule_code, rule_number};
+ghost use Rattle.extend_resolve.specs.Breaches.{set_rule_code, set_rule_number};
 
 /// A rule on sets of interfaces (this project's own, by the limits of DTDL v2, "Interface"), in the order in which they
 /// are named at one place.
@@ -26,7 +26,7 @@ pub enum SetRule {
 impl SetRule {
     /// The code of the rule, as it is printed.
     pub fn text(&self) -> &'static str
-        ensures { result.now ≡ rule_code self.now }
+        ensures { result.now ≡ set_rule_code self.now }
     {
         match self {
             SetRule::RepeatedId => "RepeatedId",
@@ -41,7 +41,7 @@ impl SetRule {
 
     /// The rule's place in the order of the rules, from 1.
     pub fn number(&self) -> u8
-        ensures { result ≡ rule_number self.now }
+        ensures { result ≡ set_rule_number self.now }
     {
         match self {
             SetRule::RepeatedId => 1,

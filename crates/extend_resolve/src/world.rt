@@ -10,9 +10,9 @@ ghost use Rattle.extend_resolve.specs.Machinery.Gathering.{component_id};
 ghost use Rattle.extend_resolve.specs.Machinery.Worlds.{IsWorld};
 
 use crate::gathering::gather;
+use dt_base::names::Dtmi;
 use dt_base::{List, OutOfMemory};
 use dtdl_terms::{ContentKind, Interface, ModelSet, Uploaded};
-use dtmi_name::Dtmi;
 use std::alloc::Global;
 use std::collections::BTreeMap;
 

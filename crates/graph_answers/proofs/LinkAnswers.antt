@@ -2,7 +2,7 @@
 use Rattle.std.proofs.Common.{◌≡◌, ℕ, ◌<◌, List, length, Option, Some, None, Result, Ok, Err, sym, ap, ◌∙◌, subst}
 use Rattle.std.specs.Prelude.{codes}
 use Rattle.std.proofs.lemmas.Option.{same_Some}
-use Rattle.dtmi_name.specs.Grammar.{dtmi_text}
+use Rattle.dt_base.specs.names.Grammar.{dtmi_text}
 use Rattle.json_tree.specs.Values.{Json}
 use Rattle.dtdl_terms.specs.declared.interface.Interface.{Interface}
 use Rattle.dtdl_terms.specs.declared.limit.Limit.TheVariants as limits
@@ -14,7 +14,7 @@ use Rattle.graph_asks.specs.Answers.{Answer, body}
 use Rattle.graph_asks.specs.declared.refusal.Refusal.{Refusal}
 use Rattle.graph_asks.specs.declared.refusal.Refusal.TheVariants as refusals
 use Rattle.graph_steps.specs.Inherited.{contents, inherited}
-use Rattle.graph_steps.specs.Refusals.{or_else, when}
+use Rattle.graph_steps.specs.Refusals.{or_refuse, refuse_when}
 use Rattle.graph_steps.specs.States.{State, Twin, Link, set_of, link_value, link_text, graph_bytes}
 use Rattle.graph_steps.specs.TwinAsks.{TwinNotFound, Frozen, BodyFault}
 use Rattle.graph_steps.specs.LinkAsks.{link_at, RelationshipNotFound, WrongTarget, Multiplicity, LinkFull, link_for, with_link, with_payload, interface_from, RefusesLink, RefusesPutRel, LinkNotFound, RefusesNewLink, RefusesLinkOf, RefusesPatchRel, GivesLink}
@@ -32,10 +32,10 @@ one_count s (Some c) source id name r q (most, is, many, e) (other, also, more, 
 
 one_full : (new : State) (l : Link) → One (LinkFull new l)
 one_full new l =
-    both (when (4096 < length (link_text l)) (refusals.Full limits.RelationshipBytes))
-    (or_else (when (400000 < length new.links) (refusals.Full limits.Relationships)) (when (268435456 < graph_bytes new) (refusals.Full limits.GraphBytes)))
+    both (refuse_when (4096 < length (link_text l)) (refusals.Full limits.RelationshipBytes))
+    (or_refuse (refuse_when (400000 < length new.links) (refusals.Full limits.Relationships)) (refuse_when (268435456 < graph_bytes new) (refusals.Full limits.GraphBytes)))
     (one_when (4096 < length (link_text l)) (refusals.Full limits.RelationshipBytes))
-    (both (when (400000 < length new.links) (refusals.Full limits.Relationships)) (when (268435456 < graph_bytes new) (refusals.Full limits.GraphBytes))
+    (both (refuse_when (400000 < length new.links) (refusals.Full limits.Relationships)) (refuse_when (268435456 < graph_bytes new) (refusals.Full limits.GraphBytes))
     (one_when (400000 < length new.links) (refusals.Full limits.Relationships))
     (one_when (268435456 < graph_bytes new) (refusals.Full limits.GraphBytes)))
 
@@ -46,9 +46,9 @@ one_link_of s i source id name target v =
     let link = link_for s i source id name target v in
     let new = with_link link s in
     both (BodyFault Broken v)
-    (or_else (TwinNotFound s target) (or_else (WrongTarget s content target) (or_else (Multiplicity s content source id name) (LinkFull new link)))) (one_fault Broken v)
-    (both (TwinNotFound s target) (or_else (WrongTarget s content target) (or_else (Multiplicity s content source id name) (LinkFull new link))) (one_missing s target)
-    (both (WrongTarget s content target) (or_else (Multiplicity s content source id name) (LinkFull new link)) (one_target s content target)
+    (or_refuse (TwinNotFound s target) (or_refuse (WrongTarget s content target) (or_refuse (Multiplicity s content source id name) (LinkFull new link)))) (one_fault Broken v)
+    (both (TwinNotFound s target) (or_refuse (WrongTarget s content target) (or_refuse (Multiplicity s content source id name) (LinkFull new link))) (one_missing s target)
+    (both (WrongTarget s content target) (or_refuse (Multiplicity s content source id name) (LinkFull new link)) (one_target s content target)
     (both (Multiplicity s content source id name) (LinkFull new link) (one_count s content source id name) (one_full new link))))
 
 abbrev From : State → List ℕ → List ℕ → List ℕ → List ℕ → Json → Refusal → Type 0
@@ -56,7 +56,7 @@ From s source id name target v r = (i : Interface) × (interface_from s source �
 
 pub one_put_rel : (s : State) (source id name target : List ℕ) (v : Json) → One (RefusesPutRel s source id name target v)
 one_put_rel s source id name target v =
-    both (TwinNotFound s source) (or_else (Frozen s source) (From s source id name target v)) (one_missing s source)
+    both (TwinNotFound s source) (or_refuse (Frozen s source) (From s source id name target v)) (one_missing s source)
     (both (Frozen s source) (From s source id name target v) (one_frozen s source)
     (one_held (interface_from s source) (λ i. RefusesLink s i source id name target v) (λ i. one_link_of s i source id name target v)))
 
@@ -87,5 +87,5 @@ one_patched s source id os r q h k =
 
 pub one_patch_rel : (s : State) (source id : List ℕ) (os : List Operation) → One (RefusesPatchRel s source id os)
 one_patch_rel s source id os =
-    both (LinkNotFound s source id) (or_else (Frozen s source) (RefusesLinkOf s source id os)) (one_absent s source id)
+    both (LinkNotFound s source id) (or_refuse (Frozen s source) (RefusesLinkOf s source id os)) (one_absent s source id)
     (both (Frozen s source) (RefusesLinkOf s source id os) (one_frozen s source) (one_patched s source id os))

@@ -6,7 +6,7 @@ use Rattle.graph_asks.specs.Answers.{Answer, body, created, canon, done, refused
 use Rattle.graph_asks.specs.Asks.{AreOneAsk}
 use Rattle.graph_asks.specs.declared.ask.Ask.{Ask}
 use Rattle.graph_asks.specs.declared.ask.Ask.TheVariants as asks
-use Rattle.graph_steps.specs.Soundness.{IsSound}
+use Rattle.graph_steps.specs.Soundness.{IsSoundAsk}
 use Rattle.graph_steps.specs.States.{State}
 use Rattle.graph_steps.specs.Steps.{Answers, changed, followed}
 use Rattle.graph_steps.proofs.OneAnswer.{one_answer}
@@ -15,7 +15,7 @@ use Rattle.graph_answers.proofs.TwinAnswers.{one_drop_twin, one_get_part, one_pa
 use Rattle.graph_answers.proofs.LinkAnswers.{one_absent, one_link, one_patch_rel, one_put_rel}
 use Rattle.graph_answers.proofs.Alike.{same_step}
 
-one_of_ask : (s : State) (ask : Ask) (a b : Answer) → IsSound ask → Answers s ask a → Answers s ask b → a ≡ b
+one_of_ask : (s : State) (ask : Ask) (a b : Answer) → IsSoundAsk ask → Answers s ask a → Answers s ask b → a ≡ b
 one_of_ask s (asks.PutModels models) a b sound h k = one_answer s (asks.PutModels models) a b sound tt h k
 one_of_ask s (asks.GetModel id) a b sound h k = one_answer s (asks.GetModel id) a b sound tt h k
 one_of_ask s asks.ListModels a b sound h k = one_answer s asks.ListModels a b sound tt h k
@@ -41,7 +41,7 @@ moved : (s : State) (ask other : Ask) (b : Answer) → AreOneAsk ask other → A
 moved s ask other b one (inl (r, h, e)) = inl (r, (same_step s ask other one).back r h, e)
 moved s ask other b one (inr (none, h)) = inr (λ r k. none r ((same_step s ask other one).there r k), (same_step s ask other one).given b h)
 
-pub one_answer_of : (s : State) (ask other : Ask) (a b : Answer) → IsSound ask → AreOneAsk ask other → Answers s ask a → Answers s other b → a ≡ b
+pub one_answer_of : (s : State) (ask other : Ask) (a b : Answer) → IsSoundAsk ask → AreOneAsk ask other → Answers s ask a → Answers s other b → a ≡ b
 one_answer_of s ask other a b sound one h k = one_of_ask s ask a b sound h (moved s ask other b one k)
 
 pub one_state_of : (s : State) (ask other : Ask) (a : Answer) → AreOneAsk ask other → followed s ask a ≡ followed s other a

@@ -3,7 +3,7 @@ use Rattle.std.proofs.Common.{◌≡◌, ℕ, ◌⊎◌, inl, inr, List, Option,
 use Rattle.std.specs.Prelude.{IsTrue}
 use Rattle.std.specs.Ordering.{is_lt, ordering_reverse}
 use Rattle.std.proofs.lemmas.Option.{same_Some}
-use Rattle.dtmi_name.specs.Grammar.{dtmi_text}
+use Rattle.dt_base.specs.names.Grammar.{dtmi_text}
 use Rattle.json_tree.specs.Values.{Json}
 use Rattle.json_tree.specs.Pointers.{IsPointerOf}
 use Rattle.json_tree.proofs.OnePointer.{one_pointer}
@@ -16,7 +16,7 @@ use Rattle.graph_asks.specs.Answers.{Answer, refused}
 use Rattle.graph_asks.specs.declared.refusal.At.TheVariants as places
 use Rattle.graph_asks.specs.declared.refusal.Refusal.{Refusal}
 use Rattle.graph_asks.specs.declared.refusal.Refusal.TheVariants as refusals
-use Rattle.graph_steps.specs.Refusals.{or_else, when}
+use Rattle.graph_steps.specs.Refusals.{or_refuse, refuse_when}
 use Rattle.graph_steps.specs.States.{State, Twin, twin_at}
 use Rattle.graph_steps.specs.TwinAsks.{BodyFault, DoesNotFit, Frozen, TwinNotFound}
 
@@ -24,13 +24,13 @@ use Rattle.graph_steps.specs.TwinAsks.{BodyFault, DoesNotFit, Frozen, TwinNotFou
 abbrev pub One : (Refusal → Type 0) → Type 0
 One Refuse = (r q : Refusal) → Refuse r → Refuse q → r ≡ q
 
-pub both : (First Second : Refusal → Type 0) → One First → One Second → One (or_else First Second)
+pub both : (First Second : Refusal → Type 0) → One First → One Second → One (or_refuse First Second)
 both First Second f g r q (inl h) (inl k) = f r q h k
 both First Second f g r q (inl h) (inr (lacks, k)) = absurd (lacks r h)
 both First Second f g r q (inr (lacks, h)) (inl k) = absurd (lacks q k)
 both First Second f g r q (inr (lacks, h)) (inr (none, k)) = g r q h k
 
-pub one_when : (Condition : Type 0) (refusal : Refusal) → One (when Condition refusal)
+pub one_when : (Condition : Type 0) (refusal : Refusal) → One (refuse_when Condition refusal)
 one_when Condition refusal r q h k = h.1 ∙ sym k.1
 
 pub one_is : (refusal : Refusal) → One (λ r. r ≡ refusal)

@@ -2,19 +2,19 @@
 use Rattle.std.proofs.Common.{◌≡◌, ℕ, ◌<◌, List, length, Option, Some, None, Result, Ok, Err, sym, ap, ◌∙◌, subst}
 use Rattle.std.specs.Prelude.{codes}
 use Rattle.std.proofs.lemmas.Option.{same_Some}
-use Rattle.dtmi_name.specs.Grammar.{Identifier, dtmi_text}
+use Rattle.dt_base.specs.names.Grammar.{Identifier, dtmi_text}
 use Rattle.json_tree.specs.Values.{Json}
 use Rattle.dtdl_terms.specs.declared.interface.Interface.{Interface}
 use Rattle.dtdl_terms.specs.declared.limit.Limit.TheVariants as limits
 use Rattle.twin_patch.specs.Operations.{Operation}
 use Rattle.twin_patch.specs.Patched.{patched_from}
-use Rattle.twin_value.specs.Breaches.{IsBreach, IsOuterBreach, IsTwinBreach}
+use Rattle.twin_value.specs.Breaches.{IsBodyBreach, IsOuterBreach, IsTwinBreach}
 use Rattle.twin_value.specs.Twins.{model_text}
 use Rattle.graph_asks.specs.Answers.{Answer, body}
 use Rattle.graph_asks.specs.declared.refusal.Refusal.{Refusal}
 use Rattle.graph_asks.specs.declared.refusal.Refusal.TheVariants as refusals
 use Rattle.graph_steps.specs.Inherited.{inherited}
-use Rattle.graph_steps.specs.Refusals.{or_else, when}
+use Rattle.graph_steps.specs.Refusals.{or_refuse, refuse_when}
 use Rattle.graph_steps.specs.States.{State, Twin, Link, set_of, interface_of, twin_at, twin_value, twin_text, part_value, graph_bytes, with_twin}
 use Rattle.graph_steps.specs.TwinAsks.{TwinNotFound, Frozen, Decommissioned, BodyFault, DoesNotFit, TwinFull, TwinInUse, ComponentNotFound, component_at, twin_for, with_body, interface_in, part_role_in, with_part, RefusesBody, RefusesPutTwin, RefusesNewBody, RefusesPatched, RefusesPatchOf, RefusesPatchTwin, RefusesDropTwin, RefusesGetPart, RefusesNewPart, RefusesPartOf, RefusesPatchPart, GivesTwin, GivesPart}
 use Rattle.graph_answers.proofs.Refusals.{One, both, one_when, one_is, one_held, one_missing, one_frozen, one_fault, one_ill}
@@ -25,10 +25,10 @@ one_marked s id model r q h k = h.5 ∙ sym k.5
 
 pub one_full : (new : State) (t : Twin) → One (TwinFull new t)
 one_full new t =
-    both (when (32768 < length (twin_text t)) (refusals.Full limits.TwinBytes))
-    (or_else (when (100000 < length new.twins) (refusals.Full limits.Twins)) (when (268435456 < graph_bytes new) (refusals.Full limits.GraphBytes)))
+    both (refuse_when (32768 < length (twin_text t)) (refusals.Full limits.TwinBytes))
+    (or_refuse (refuse_when (100000 < length new.twins) (refusals.Full limits.Twins)) (refuse_when (268435456 < graph_bytes new) (refusals.Full limits.GraphBytes)))
     (one_when (32768 < length (twin_text t)) (refusals.Full limits.TwinBytes))
-    (both (when (100000 < length new.twins) (refusals.Full limits.Twins)) (when (268435456 < graph_bytes new) (refusals.Full limits.GraphBytes))
+    (both (refuse_when (100000 < length new.twins) (refusals.Full limits.Twins)) (refuse_when (268435456 < graph_bytes new) (refusals.Full limits.GraphBytes))
     (one_when (100000 < length new.twins) (refusals.Full limits.Twins))
     (one_when (268435456 < graph_bytes new) (refusals.Full limits.GraphBytes)))
 
@@ -38,8 +38,8 @@ one_body s id model v (Some i) =
     let new = with_body s id (Some i) v in
     let twin = twin_for s id i v in
     let Broken = IsTwinBreach (inherited (set_of s) i) v in
-    both (Decommissioned s id model) (or_else (BodyFault Broken v) (or_else (DoesNotFit new id) (TwinFull new twin))) (one_marked s id model)
-    (both (BodyFault Broken v) (or_else (DoesNotFit new id) (TwinFull new twin)) (one_fault Broken v)
+    both (Decommissioned s id model) (or_refuse (BodyFault Broken v) (or_refuse (DoesNotFit new id) (TwinFull new twin))) (one_marked s id model)
+    (both (BodyFault Broken v) (or_refuse (DoesNotFit new id) (TwinFull new twin)) (one_fault Broken v)
     (both (DoesNotFit new id) (TwinFull new twin) (one_ill new id) (one_full new twin)))
 
 pub one_put_twin : (s : State) (id : List ℕ) (model : Identifier) (v : Json) → One (RefusesPutTwin s id model v)
@@ -67,7 +67,7 @@ Patches s id os r = (t : Twin) × (twin_at id s ≡ Some t) × RefusesPatchOf s 
 
 pub one_patch_twin : (s : State) (id : List ℕ) (os : List Operation) → One (RefusesPatchTwin s id os)
 one_patch_twin s id os =
-    both (TwinNotFound s id) (or_else (Frozen s id) (Patches s id os)) (one_missing s id)
+    both (TwinNotFound s id) (or_refuse (Frozen s id) (Patches s id os)) (one_missing s id)
     (both (Frozen s id) (Patches s id os) (one_frozen s id)
     (one_held (twin_at id s) (λ t. RefusesPatchOf s os t) (λ t. one_patched s t.id (patched_from 0 os (twin_value t)))))
 
@@ -94,7 +94,7 @@ one_part s id name x y (t, v, at, has, e) (u, w, is, also, d) =
 one_new_part : (s : State) (name : List ℕ) (i : Interface) (t : Twin) (result : Result Json ℕ) → One (RefusesNewPart s name i t result)
 one_new_part s name i t (Err index) = one_is (refusals.PatchFault (codes "NoTarget") index)
 one_new_part s name i t (Ok v) =
-    let Broken = IsBreach (part_role_in s i name) v in
+    let Broken = IsBodyBreach (part_role_in s i name) v in
     let new = with_twin (with_part name v t) s in
     both (BodyFault Broken v) (TwinFull new (with_part name v t)) (one_fault Broken v) (one_full new (with_part name v t))
 
@@ -111,6 +111,6 @@ one_part_of s id name os r q h k =
 
 pub one_patch_part : (s : State) (id name : List ℕ) (os : List Operation) → One (RefusesPatchPart s id name os)
 one_patch_part s id name os =
-    both (TwinNotFound s id) (or_else (Frozen s id) (or_else (ComponentNotFound s id name) (RefusesPartOf s id name os))) (one_missing s id)
-    (both (Frozen s id) (or_else (ComponentNotFound s id name) (RefusesPartOf s id name os)) (one_frozen s id)
+    both (TwinNotFound s id) (or_refuse (Frozen s id) (or_refuse (ComponentNotFound s id name) (RefusesPartOf s id name os))) (one_missing s id)
+    (both (Frozen s id) (or_refuse (ComponentNotFound s id name) (RefusesPartOf s id name os)) (one_frozen s id)
     (both (ComponentNotFound s id name) (RefusesPartOf s id name os) (one_component s id name) (one_part_of s id name os)))

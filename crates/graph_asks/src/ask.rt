@@ -4,10 +4,10 @@ ghost use Rattle.std.specs.Prelude.{◌≢◌, IfOk};
 ghost use Rattle.graph_asks.specs.Asks.{AreOneAsk};
 ghost use Rattle.graph_asks.specs.Machinery.Groups.{ask_group};
 
-use crate::copies::{copy_pair, copy_text, copy_texts, copy_uploads};
+use crate::copies::{copy_pair, copy_text, copy_texts, copy_two, copy_uploads};
+use dt_base::names::Dtmi;
 use dt_base::{List, OutOfMemory, Text};
 use dtdl_terms::Uploaded;
-use dtmi_name::Dtmi;
 use json_tree::Tree;
 use query_terms::Query;
 use std::alloc::Global;
@@ -132,18 +132,11 @@ impl Ask {
                 id: id.copy(alloc)?,
             }),
             Ask::Canon => Ok(Ask::Canon),
-            Ask::PutTwin { id, model, body } => Ok(Ask::PutTwin {
-                id: id.copy(alloc)?,
-                model: model.copy(alloc)?,
-                body: body.copy(alloc)?,
-            }),
+            Ask::PutTwin { id, model, body } => copy_put_twin(alloc, id, model, body),
             Ask::GetTwin { id } => Ok(Ask::GetTwin {
                 id: id.copy(alloc)?,
             }),
-            Ask::PatchTwin { id, patch } => Ok(Ask::PatchTwin {
-                id: id.copy(alloc)?,
-                patch: patch.copy(alloc)?,
-            }),
+            Ask::PatchTwin { id, patch } => copy_patch_twin(alloc, id, patch),
             Ask::DropTwin { id } => Ok(Ask::DropTwin {
                 id: id.copy(alloc)?,
             }),
@@ -157,59 +150,141 @@ impl Ask {
         ensures { IfOk result (λ copy. AreOneAsk copy self.now) }
     {
         match self {
-            Ask::GetPart { id, name } => Ok(Ask::GetPart {
-                id: id.copy(alloc)?,
-                name: name.copy(alloc)?,
-            }),
-            Ask::PatchPart { id, name, patch } => Ok(Ask::PatchPart {
-                id: id.copy(alloc)?,
-                name: name.copy(alloc)?,
-                patch: patch.copy(alloc)?,
-            }),
+            Ask::GetPart { id, name } => {
+                let (id, name) = copy_two(alloc, id, name)?;
+                Ok(Ask::GetPart { id, name })
+            }
+            Ask::PatchPart { id, name, patch } => copy_patch_part(alloc, id, name, patch),
             Ask::PutRel {
                 source,
                 id,
                 name,
                 target,
                 body,
-            } => Ok(Ask::PutRel {
-                source: source.copy(alloc)?,
-                id: id.copy(alloc)?,
-                name: name.copy(alloc)?,
-                target: target.copy(alloc)?,
-                body: body.copy(alloc)?,
-            }),
-            Ask::GetRel { source, id } => Ok(Ask::GetRel {
-                source: source.copy(alloc)?,
-                id: id.copy(alloc)?,
-            }),
-            Ask::PatchRel { source, id, patch } => Ok(Ask::PatchRel {
-                source: source.copy(alloc)?,
-                id: id.copy(alloc)?,
-                patch: patch.copy(alloc)?,
-            }),
-            Ask::DropRel { source, id } => Ok(Ask::DropRel {
-                source: source.copy(alloc)?,
-                id: id.copy(alloc)?,
-            }),
+            } => copy_put_rel(alloc, source, id, name, target, body),
+            Ask::GetRel { source, id } => {
+                let (source, id) = copy_two(alloc, source, id)?;
+                Ok(Ask::GetRel { source, id })
+            }
+            Ask::PatchRel { source, id, patch } => copy_patch_rel(alloc, source, id, patch),
+            Ask::DropRel { source, id } => {
+                let (source, id) = copy_two(alloc, source, id)?;
+                Ok(Ask::DropRel { source, id })
+            }
             Ask::ListOut {
                 source,
                 name,
                 after,
-            } => Ok(Ask::ListOut {
-                source: source.copy(alloc)?,
-                name: copy_text(alloc, name)?,
-                after: copy_text(alloc, after)?,
-            }),
-            Ask::ListIn { target, after } => Ok(Ask::ListIn {
-                target: target.copy(alloc)?,
-                after: copy_pair(alloc, after)?,
-            }),
-            Ask::Query { query, after } => Ok(Ask::Query {
-                query: query.copy(alloc)?,
-                after: copy_texts(alloc, after)?,
-            }),
+            } => copy_list_out(alloc, source, name, after),
+            Ask::ListIn { target, after } => copy_list_in(alloc, target, after),
+            Ask::Query { query, after } => copy_query(alloc, query, after),
             _ => unreachable!(),
         }
     }
+}
+
+/// The same ask to take a twin.
+fn copy_put_twin(alloc: Global, id: &Text, model: &Dtmi, body: &Tree) -> Result<Ask, OutOfMemory>
+    ensures { IfOk result (λ copy. AreOneAsk copy (Ask.PutTwin id.now model.now body.now)) }
+{
+    let id = id.copy(alloc)?;
+    let model = model.copy(alloc)?;
+    let body = body.copy(alloc)?;
+    Ok(Ask::PutTwin { id, model, body })
+}
+
+/// The same ask to patch a twin.
+fn copy_patch_twin(alloc: Global, id: &Text, patch: &Patch) -> Result<Ask, OutOfMemory>
+    ensures { IfOk result (λ copy. AreOneAsk copy (Ask.PatchTwin id.now patch.now)) }
+{
+    let id = id.copy(alloc)?;
+    let patch = patch.copy(alloc)?;
+    Ok(Ask::PatchTwin { id, patch })
+}
+
+/// The same ask to patch a component.
+fn copy_patch_part(alloc: Global, id: &Text, name: &Text, patch: &Patch) -> Result<Ask, OutOfMemory>
+    ensures { IfOk result (λ copy. AreOneAsk copy (Ask.PatchPart id.now name.now patch.now)) }
+{
+    let (id, name) = copy_two(alloc, id, name)?;
+    let patch = patch.copy(alloc)?;
+    Ok(Ask::PatchPart { id, name, patch })
+}
+
+/// The same ask to take a relationship.
+fn copy_put_rel(
+    alloc: Global,
+    source: &Text,
+    id: &Text,
+    name: &Text,
+    target: &Text,
+    body: &Tree,
+) -> Result<Ask, OutOfMemory>
+    ensures { IfOk result (λ copy. AreOneAsk copy (Ask.PutRel source.now id.now name.now target.now body.now)) }
+{
+    let (source, id) = copy_two(alloc, source, id)?;
+    let (name, target) = copy_two(alloc, name, target)?;
+    let body = body.copy(alloc)?;
+    Ok(Ask::PutRel {
+        source,
+        id,
+        name,
+        target,
+        body,
+    })
+}
+
+/// The same ask to patch a relationship.
+fn copy_patch_rel(
+    alloc: Global,
+    source: &Text,
+    id: &Text,
+    patch: &Patch,
+) -> Result<Ask, OutOfMemory>
+    ensures { IfOk result (λ copy. AreOneAsk copy (Ask.PatchRel source.now id.now patch.now)) }
+{
+    let (source, id) = copy_two(alloc, source, id)?;
+    let patch = patch.copy(alloc)?;
+    Ok(Ask::PatchRel { source, id, patch })
+}
+
+/// The same ask for relationships out of a twin.
+fn copy_list_out(
+    alloc: Global,
+    source: &Text,
+    name: &Option<Text>,
+    after: &Option<Text>,
+) -> Result<Ask, OutOfMemory>
+    ensures { IfOk result (λ copy. AreOneAsk copy (Ask.ListOut source.now name.now after.now)) }
+{
+    let source = source.copy(alloc)?;
+    let name = copy_text(alloc, name)?;
+    let after = copy_text(alloc, after)?;
+    Ok(Ask::ListOut {
+        source,
+        name,
+        after,
+    })
+}
+
+/// The same ask for relationships into a twin.
+fn copy_list_in(
+    alloc: Global,
+    target: &Text,
+    after: &Option<(Text, Text)>,
+) -> Result<Ask, OutOfMemory>
+    ensures { IfOk result (λ copy. AreOneAsk copy (Ask.ListIn target.now after.now)) }
+{
+    let target = target.copy(alloc)?;
+    let after = copy_pair(alloc, after)?;
+    Ok(Ask::ListIn { target, after })
+}
+
+/// The same ask for the rows of a query.
+fn copy_query(alloc: Global, query: &Query, after: &Option<List<Text>>) -> Result<Ask, OutOfMemory>
+    ensures { IfOk result (λ copy. AreOneAsk copy (Ask.Query query.now after.now)) }
+{
+    let query = query.copy(alloc)?;
+    let after = copy_texts(alloc, after)?;
+    Ok(Ask::Query { query, after })
 }

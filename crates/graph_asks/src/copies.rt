@@ -16,6 +16,15 @@ pub(crate) fn copy_text(alloc: Global, text: &Option<Text>) -> Result<Option<Tex
     }
 }
 
+/// Two equal texts.
+pub(crate) fn copy_two(alloc: Global, one: &Text, other: &Text) -> Result<(Text, Text), OutOfMemory>
+    ensures { IfOk result (λ copies. copies ≡ (one.now, other.now)) }
+{
+    let one = one.copy(alloc)?;
+    let other = other.copy(alloc)?;
+    Ok((one, other))
+}
+
 /// Two equal texts, where there are two.
 pub(crate) fn copy_pair(
     alloc: Global,
@@ -24,7 +33,7 @@ pub(crate) fn copy_pair(
     ensures { IfOk result (λ copy. copy ≡ pair.now) }
 {
     match pair {
-        Some((one, other)) => Ok(Some((one.copy(alloc)?, other.copy(alloc)?))),
+        Some((one, other)) => Ok(Some(copy_two(alloc, one, other)?)),
         None => Ok(None),
     }
 }

@@ -3,6 +3,7 @@
 ghost use Rattle.std.specs.Prelude.{◌≡◌, ◌≢◌, IfOk};
 ghost use Rattle.graph_asks.specs.Machinery.Groups.{group_of};
 
+use crate::copies::copy_two;
 use dt_base::{OutOfMemory, Text};
 use dtdl_terms::Limit;
 use std::alloc::Global;
@@ -109,10 +110,10 @@ impl Refusal {
             Refusal::BodyTooLong { limit } => Ok(Refusal::BodyTooLong { limit: *limit }),
             Refusal::BadId { part } => Ok(Refusal::BadId { part: *part }),
             Refusal::BadToken => Ok(Refusal::BadToken),
-            Refusal::JsonFault { at, fault } => Ok(Refusal::JsonFault {
-                at: at.copy(alloc)?,
-                fault: fault.copy(alloc)?,
-            }),
+            Refusal::JsonFault { at, fault } => {
+                let (at, fault) = copy_fault(alloc, at, fault)?;
+                Ok(Refusal::JsonFault { at, fault })
+            }
             _ => self.copy_further(alloc),
         }
     }
@@ -124,26 +125,23 @@ impl Refusal {
     {
         match self {
             Refusal::TooManyModels { limit } => Ok(Refusal::TooManyModels { limit: *limit }),
-            Refusal::ModelFault { at, fault } => Ok(Refusal::ModelFault {
-                at: at.copy(alloc)?,
-                fault: fault.copy(alloc)?,
-            }),
+            Refusal::ModelFault { at, fault } => {
+                let (at, fault) = copy_fault(alloc, at, fault)?;
+                Ok(Refusal::ModelFault { at, fault })
+            }
             Refusal::PatchFault { fault, index } => Ok(Refusal::PatchFault {
                 fault: fault.copy(alloc)?,
                 index: *index,
             }),
-            Refusal::BodyFault { at, fault } => Ok(Refusal::BodyFault {
-                at: at.copy(alloc)?,
-                fault: fault.copy(alloc)?,
-            }),
-            Refusal::IdDiffers { given, path } => Ok(Refusal::IdDiffers {
-                given: given.copy(alloc)?,
-                path: path.copy(alloc)?,
-            }),
-            Refusal::QueryFault { fault, at } => Ok(Refusal::QueryFault {
-                fault: fault.copy(alloc)?,
-                at: copy_at(alloc, at)?,
-            }),
+            Refusal::BodyFault { at, fault } => {
+                let (at, fault) = copy_fault(alloc, at, fault)?;
+                Ok(Refusal::BodyFault { at, fault })
+            }
+            Refusal::IdDiffers { given, path } => {
+                let (given, path) = copy_two(alloc, given, path)?;
+                Ok(Refusal::IdDiffers { given, path })
+            }
+            Refusal::QueryFault { fault, at } => copy_query_fault(alloc, fault, at),
             Refusal::ModelNotFound { id } => Ok(Refusal::ModelNotFound {
                 id: id.copy(alloc)?,
             }),
@@ -172,14 +170,14 @@ impl Refusal {
             Refusal::ModelInUse { by } => Ok(Refusal::ModelInUse {
                 by: by.copy(alloc)?,
             }),
-            Refusal::TwinInUse { id, source } => Ok(Refusal::TwinInUse {
-                id: id.copy(alloc)?,
-                source: source.copy(alloc)?,
-            }),
-            Refusal::DoesNotFit { id, source } => Ok(Refusal::DoesNotFit {
-                id: id.copy(alloc)?,
-                source: source.copy(alloc)?,
-            }),
+            Refusal::TwinInUse { id, source } => {
+                let (id, source) = copy_two(alloc, id, source)?;
+                Ok(Refusal::TwinInUse { id, source })
+            }
+            Refusal::DoesNotFit { id, source } => {
+                let (id, source) = copy_two(alloc, id, source)?;
+                Ok(Refusal::DoesNotFit { id, source })
+            }
             Refusal::TwinDoesNotFit { twin } => Ok(Refusal::TwinDoesNotFit {
                 twin: twin.copy(alloc)?,
             }),
@@ -197,6 +195,24 @@ impl Refusal {
             _ => unreachable!(),
         }
     }
+}
+
+/// A refusal of a query with equal parts.
+fn copy_query_fault(alloc: Global, fault: &Text, at: &Option<At>) -> Result<Refusal, OutOfMemory>
+    ensures { IfOk result (λ copy. copy ≡ Refusal.QueryFault fault.now at.now) }
+{
+    let fault = fault.copy(alloc)?;
+    let at = copy_at(alloc, at)?;
+    Ok(Refusal::QueryFault { fault, at })
+}
+
+/// An equal place and an equal text.
+fn copy_fault(alloc: Global, at: &At, fault: &Text) -> Result<(At, Text), OutOfMemory>
+    ensures { IfOk result (λ copies. copies ≡ (at.now, fault.now)) }
+{
+    let at = at.copy(alloc)?;
+    let fault = fault.copy(alloc)?;
+    Ok((at, fault))
 }
 
 /// An equal place, where there is one.

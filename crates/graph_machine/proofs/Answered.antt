@@ -3,7 +3,7 @@ use Rattle.std.proofs.Common.{◌≡◌, ℕ, zero, suc, ◌++◌, List, [], ◌
 use Rattle.std.specs.Prelude.{slice_get}
 use Rattle.std.specs.List.{AllByRecursion}
 use Rattle.std.proofs.lemmas.Option.{none-some}
-use Rattle.dtmi_name.specs.Grammar.{Identifier, dtmi_text, id_eq}
+use Rattle.dt_base.specs.names.Grammar.{Identifier, dtmi_text, id_eq}
 use Rattle.json_tree.specs.Values.{array, elements_of}
 use Rattle.dtdl_terms.specs.Spots.{spot_text}
 use Rattle.dtdl_terms.specs.declared.interface.Interface.{Interface}
@@ -11,7 +11,7 @@ use Rattle.dtdl_terms.specs.declared.limit.Limit.{Limit}
 use Rattle.dtdl_terms.specs.declared.limit.Limit.TheVariants as limits
 use Rattle.dtdl_terms.specs.declared.spot.Spot.{Spot}
 use Rattle.dtdl_terms.specs.declared.uploaded.Uploaded.{Uploaded}
-use Rattle.extend_resolve.specs.Breaches.{IsSound, IsFirstBreach, rule_code}
+use Rattle.extend_resolve.specs.Breaches.{IsSound, IsFirstSetBreach, set_rule_code}
 use Rattle.extend_resolve.specs.declared.rule.SetRule.{SetRule}
 use Rattle.graph_asks.specs.Answers.{Answer, body, created, canon, done, refused}
 use Rattle.graph_asks.specs.declared.ask.Ask.{Ask}
@@ -19,7 +19,7 @@ use Rattle.graph_asks.specs.declared.ask.Ask.TheVariants as asks
 use Rattle.graph_asks.specs.declared.refusal.At.TheVariants as places
 use Rattle.graph_asks.specs.declared.refusal.Refusal.{Refusal}
 use Rattle.graph_asks.specs.declared.refusal.Refusal.TheVariants as refusals
-use Rattle.model_life.specs.Models.{Model, model_of, interfaces_of, model_at, first_user, mark_one, with_mark, with_models as with_uploads}
+use Rattle.model_life.specs.Models.{Model, model_of, interfaces_of, model_at, first_user, mark_one, with_mark, with_new_models as with_uploads}
 use Rattle.model_life.specs.Sums.{AreWithinLimits, AllTake}
 use Rattle.model_life.specs.Refusals.{AreNew, IsFirstThere, PassesFirst, RefusesMark}
 use Rattle.model_life.specs.declared.ends.MarkEnd.{MarkEnd}
@@ -125,8 +125,8 @@ pub exists : (s : State) (us : List Uploaded) (index : ℕ) (u : Uploaded) → I
 exists s us index u first is = inl (index, u, first, is, refl)
 
 pub faulty : (s : State) (us : List Uploaded) (index : ℕ) (u : Uploaded) (rule : SetRule) (spot : Spot) → AreNew s.models us
-    → IsFirstBreach (set_of s) us (record { index = index; rule = rule; spot = spot }) → slice_get us index ≡ Some u
-    → RefusesPutModels s us (refusals.ModelFault (places.Pointer (u.base ++ spot_text u.parents_as_text spot)) (rule_code rule))
+    → IsFirstSetBreach (set_of s) us (record { index = index; rule = rule; spot = spot }) → slice_get us index ≡ Some u
+    → RefusesPutModels s us (refusals.ModelFault (places.Pointer (u.base ++ spot_text u.parents_as_text spot)) (set_rule_code rule))
 faulty s us index u rule spot new first is = inr (not_there s us new, inl (record { index = index; rule = rule; spot = spot }, u, first, is, refl))
 
 pub full : (s : State) (us : List Uploaded) (limit : Limit) → AreNew s.models us → IsSound (set_of s) us → PassesFirst (with_uploads us s.models) limit → RefusesPutModels s us (refusals.Full limit)
@@ -154,10 +154,10 @@ module _ (s : State) (ms : List Model) (us : List Uploaded) (same : s.models ≡
   pub exists_in : (index : ℕ) (u : Uploaded) → IsFirstThere ms us index → slice_get us index ≡ Some u → RefusesPutModels s us (refusals.ModelExists (dtmi_text u.interface.id))
   exists_in index u first is = exists s us index u (subst (λ (x : List Model). IsFirstThere x us index) (sym same) first) is
 
-  pub faulty_in : (index : ℕ) (u : Uploaded) (rule : SetRule) (spot : Spot) → AreNew ms us × IsFirstBreach (interfaces_of ms) us (record { index = index; rule = rule; spot = spot }) → slice_get us index ≡ Some u
-      → RefusesPutModels s us (refusals.ModelFault (places.Pointer (u.base ++ spot_text u.parents_as_text spot)) (rule_code rule))
+  pub faulty_in : (index : ℕ) (u : Uploaded) (rule : SetRule) (spot : Spot) → AreNew ms us × IsFirstSetBreach (interfaces_of ms) us (record { index = index; rule = rule; spot = spot }) → slice_get us index ≡ Some u
+      → RefusesPutModels s us (refusals.ModelFault (places.Pointer (u.base ++ spot_text u.parents_as_text spot)) (set_rule_code rule))
   faulty_in index u rule spot both is =
-      let h = subst (λ (x : List Model). AreNew x us × IsFirstBreach (interfaces_of x) us (record { index = index; rule = rule; spot = spot })) (sym same) both in
+      let h = subst (λ (x : List Model). AreNew x us × IsFirstSetBreach (interfaces_of x) us (record { index = index; rule = rule; spot = spot })) (sym same) both in
       faulty s us index u rule spot h.0 h.1 is
 
   pub full_in : (limit : Limit) → AreNew ms us × IsSound (interfaces_of ms) us × PassesFirst (with_uploads us ms) limit → RefusesPutModels s us (refusals.Full limit)

@@ -2,7 +2,7 @@
 use Rattle.std.proofs.Common.{◌≡◌, ℕ, List, cond, is_eq, Some, Result, Ok, Err, IfOk, refl, sym, ap, ◌∙◌, subst, inl, inr}
 use Rattle.std.specs.Prelude.{MatchResult}
 use Rattle.std.proofs.lemmas.Cmp.{tied_itself}
-use Rattle.dtmi_name.specs.Grammar.{Identifier}
+use Rattle.dt_base.specs.names.Grammar.{Identifier}
 use Rattle.json_tree.specs.View.{view}
 use Rattle.json_tree.specs.declared.tree.Tree.{Tree}
 use Rattle.rel_graph.specs.declared.edge.Edge.{Edge}
@@ -16,20 +16,20 @@ use Rattle.graph_asks.specs.declared.ask.Ask.TheVariants as asks
 use Rattle.graph_asks.specs.declared.refusal.Refusal.{Refusal}
 use Rattle.graph_asks.specs.declared.reply.Reply.{Reply}
 use Rattle.graph_asks.specs.declared.reply.Reply.TheVariants as replies
-use Rattle.graph_bodies.specs.Bodies.{FailsBy}
-use Rattle.graph_bodies.specs.Kept.{twin_view}
-use Rattle.graph_bodies.specs.declared.failure.BodyFailure.{BodyFailure}
-use Rattle.graph_bodies.specs.declared.failure.BodyFailure.TheVariants as failures
-use Rattle.graph_laws.proofs.Edges.{edge-with}
-use Rattle.graph_laws.proofs.Twins.{twin_own}
-use Rattle.graph_laws.proofs.Typed.{changed_typed, keeps_typed}
+use Rattle.graph_steps.specs.bodies.Bodies.{FailsBy}
+use Rattle.graph_steps.specs.bodies.Kept.{twin_view}
+use Rattle.graph_steps.specs.declared.bodies.failure.BodyFailure.{BodyFailure}
+use Rattle.graph_steps.specs.declared.bodies.failure.BodyFailure.TheVariants as failures
+use Rattle.graph_steps.proofs.invariants.Edges.{edge-with}
+use Rattle.graph_steps.proofs.invariants.Twins.{twin_own}
+use Rattle.graph_steps.proofs.invariants.Typed.{changed_typed, keeps_typed}
 use Rattle.graph_steps.specs.LinkAsks.{link_at, with_link}
-use Rattle.graph_steps.specs.Soundness.{IsSound}
+use Rattle.graph_steps.specs.Soundness.{IsSoundAsk}
 use Rattle.graph_steps.specs.States.{State, twin_at, twin_value, link_value, with_twin}
 use Rattle.graph_steps.specs.Steps.{Refuses, changed, Allows, follows}
 use Rattle.graph_steps.specs.Typed.{WellTyped}
-use Rattle.graph_held.specs.Held.{link_of, IsHeldTwin, IsHeldLink}
-use Rattle.graph_held.specs.declared.stored.Stored.{Stored}
+use Rattle.graph_steps.specs.held.Held.{link_of, IsHeldTwin, IsHeldLink}
+use Rattle.graph_steps.specs.declared.held.stored.Stored.{Stored}
 use Rattle.graph_machine.specs.Machinery.Brought.{BringsTwin, BringsLink}
 
 -- ---- what a judge answers
@@ -71,19 +71,19 @@ module _ (s : State) (id : List ℕ) (twin : Twin) (bytes : ℕ) where
       let at : twin_at id (with_twin (twin_view twin) s) ≡ Some (twin_view twin) = ap (λ k. twin_at k (with_twin (twin_view twin) s)) (sym b.own) ∙ twin_own (twin_view twin) s in
       inr (b.free, (twin_view twin, subst (λ (x : State). twin_at id x ≡ Some (twin_view twin)) b.put at, ap body printed))
 
-  pub put_typed : (model : Identifier) (given : Tree) → WellTyped s → IsSound (asks.PutTwin id model given) → BringsTwin s (asks.PutTwin id model given) id twin bytes → WellTyped (with_twin (twin_view twin) s)
+  pub put_typed : (model : Identifier) (given : Tree) → WellTyped s → IsSoundAsk (asks.PutTwin id model given) → BringsTwin s (asks.PutTwin id model given) id twin bytes → WellTyped (with_twin (twin_view twin) s)
   put_typed model given w sound b = subst WellTyped (sym b.put) (changed_typed s (asks.PutTwin id model given) w sound b.free)
 
   pub twin_patched : (patch : Patch) → BringsTwin s (asks.PatchTwin id patch) id twin bytes → Allows s (asks.PatchTwin id patch) replies.Done
   twin_patched patch b = inr (b.free, refl)
 
-  pub patched_typed : (patch : Patch) → WellTyped s → IsSound (asks.PatchTwin id patch) → BringsTwin s (asks.PatchTwin id patch) id twin bytes → WellTyped (with_twin (twin_view twin) s)
+  pub patched_typed : (patch : Patch) → WellTyped s → IsSoundAsk (asks.PatchTwin id patch) → BringsTwin s (asks.PatchTwin id patch) id twin bytes → WellTyped (with_twin (twin_view twin) s)
   patched_typed patch w sound b = subst WellTyped (sym b.put) (keeps_typed s (asks.PatchTwin id patch) replies.Done w sound (twin_patched patch b))
 
   pub part_patched : (name : List ℕ) (patch : Patch) → BringsTwin s (asks.PatchPart id name patch) id twin bytes → Allows s (asks.PatchPart id name patch) replies.Done
   part_patched name patch b = inr (b.free, refl)
 
-  pub part_typed : (name : List ℕ) (patch : Patch) → WellTyped s → IsSound (asks.PatchPart id name patch) → BringsTwin s (asks.PatchPart id name patch) id twin bytes → WellTyped (with_twin (twin_view twin) s)
+  pub part_typed : (name : List ℕ) (patch : Patch) → WellTyped s → IsSoundAsk (asks.PatchPart id name patch) → BringsTwin s (asks.PatchPart id name patch) id twin bytes → WellTyped (with_twin (twin_view twin) s)
   part_typed name patch w sound b = subst WellTyped (sym b.put) (keeps_typed s (asks.PatchPart id name patch) replies.Done w sound (part_patched name patch b))
 
 -- ---- relationships
@@ -95,11 +95,11 @@ module _ (s : State) (source id : List ℕ) (edge : Edge Stored) (tree : Tree) w
       ap (λ k. link_at k id (with_link l s)) (sym b.from) ∙ ap (λ k. link_at edge.source k (with_link l s)) (sym b.own) ∙ edge-with l s.links edge.source edge.id ∙ ap (λ b. cond b (Some l) (link_at edge.source edge.id s)) (ap is_eq (tied_itself keys_total (key edge))) in
       inr (b.free, (l, subst (λ (x : State). link_at source id x ≡ Some l) b.put at, ap body b.printed))
 
-  pub link_typed : (name target : List ℕ) (given : Tree) → WellTyped s → IsSound (asks.PutRel source id name target given) → BringsLink s (asks.PutRel source id name target given) source id edge tree → WellTyped (with_link (link_of edge) s)
+  pub link_typed : (name target : List ℕ) (given : Tree) → WellTyped s → IsSoundAsk (asks.PutRel source id name target given) → BringsLink s (asks.PutRel source id name target given) source id edge tree → WellTyped (with_link (link_of edge) s)
   link_typed name target given w sound b = subst WellTyped (sym b.put) (keeps_typed s (asks.PutRel source id name target given) (replies.Body tree) w sound (link_put name target given b))
 
   pub link_patched : (patch : Patch) → BringsLink s (asks.PatchRel source id patch) source id edge tree → Allows s (asks.PatchRel source id patch) replies.Done
   link_patched patch b = inr (b.free, refl)
 
-  pub patch_typed : (patch : Patch) → WellTyped s → IsSound (asks.PatchRel source id patch) → BringsLink s (asks.PatchRel source id patch) source id edge tree → WellTyped (with_link (link_of edge) s)
+  pub patch_typed : (patch : Patch) → WellTyped s → IsSoundAsk (asks.PatchRel source id patch) → BringsLink s (asks.PatchRel source id patch) source id edge tree → WellTyped (with_link (link_of edge) s)
   patch_typed patch w sound b = subst WellTyped (sym b.put) (keeps_typed s (asks.PatchRel source id patch) replies.Done w sound (link_patched patch b))

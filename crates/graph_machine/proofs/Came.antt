@@ -2,7 +2,7 @@
 use Rattle.std.proofs.Common.{◌≡◌, ℕ, List, [], map, Result, Ok, Err, IfOk, OnOk, OnErr, sym, ap, subst}
 use Rattle.std.specs.Prelude.{MatchResult}
 use Rattle.std.specs.List.{AllByRecursion}
-use Rattle.dtmi_name.specs.Grammar.{Identifier}
+use Rattle.dt_base.specs.names.Grammar.{Identifier}
 use Rattle.dtdl_terms.specs.Sets.{InOrder}
 use Rattle.dtdl_terms.specs.declared.resolved.Resolved.{Resolved}
 use Rattle.dtdl_terms.specs.declared.uploaded.Uploaded.{Uploaded}
@@ -14,30 +14,30 @@ use Rattle.graph_asks.specs.declared.ask.Ask.TheVariants as asks
 use Rattle.graph_asks.specs.declared.refusal.Refusal.{Refusal}
 use Rattle.graph_asks.specs.declared.reply.Reply.{Reply}
 use Rattle.graph_asks.specs.declared.reply.Reply.TheVariants as replies
-use Rattle.graph_bodies.specs.Bodies.{FailsBy}
-use Rattle.graph_bodies.specs.declared.failure.BodyFailure.{BodyFailure}
-use Rattle.graph_bodies.specs.declared.failure.BodyFailure.TheVariants as failures
-use Rattle.model_life.specs.Models.{Model, interfaces_of, with_models}
+use Rattle.graph_steps.specs.bodies.Bodies.{FailsBy}
+use Rattle.graph_steps.specs.declared.bodies.failure.BodyFailure.{BodyFailure}
+use Rattle.graph_steps.specs.declared.bodies.failure.BodyFailure.TheVariants as failures
+use Rattle.model_life.specs.Models.{Model, interfaces_of, with_new_models}
 use Rattle.model_life.specs.Refusals.{AreNew}
-use Rattle.model_resolve.specs.Resolving.{HoldsRight}
+use Rattle.model_life.specs.resolution.Resolving.{HoldsRight}
 use Rattle.graph_steps.specs.ModelAsks.{mark_value}
 use Rattle.graph_steps.specs.Soundness.{IsSoundUpload}
 use Rattle.graph_steps.specs.States.{State, set_of}
 use Rattle.graph_steps.specs.Steps.{Refuses, changed, Allows, Answers, follows}
-use Rattle.graph_held.specs.Held.{Holding, holding, state_of, IsKept}
+use Rattle.graph_steps.specs.held.Held.{Holding, holding, state_of, HoldsTogether}
 use Rattle.graph_machine.proofs.Answered.{brought}
 use Rattle.graph_machine.proofs.Ascending.{ascend}
 use Rattle.graph_machine.proofs.Brought.{failed_allows, failed_follows}
 use Rattle.graph_machine.proofs.Kept.{models_kept, same_kept}
 
 -- ---- what stays
-pub came_kept : (h : Holding) (rs : List (Identifier × Resolved)) (bytes : ℕ) → IsKept h rs bytes → (us : List Uploaded) → AllByRecursion IsSoundUpload us → {N : Type 0} (end : Result N BodyFailure)
+pub came_kept : (h : Holding) (rs : List (Identifier × Resolved)) (bytes : ℕ) → HoldsTogether h rs bytes → (us : List Uploaded) → AllByRecursion IsSoundUpload us → {N : Type 0} (end : Result N BodyFailure)
     → MatchResult end (λ _. (r : Refusal) → Refuses (state_of h) (asks.PutModels us) r → ⊥) (FailsBy (Refuses (state_of h) (asks.PutModels us)))
-    → (ms : List Model) → OnOk end (ms ≡ with_models us h.models) → OnErr end (ms ≡ h.models) → (held : List (Identifier × Resolved)) → HoldsRight (interfaces_of ms) held → IsKept (holding ms h.twins h.links) held bytes
+    → (ms : List Model) → OnOk end (ms ≡ with_new_models us h.models) → OnErr end (ms ≡ h.models) → (held : List (Identifier × Resolved)) → HoldsRight (interfaces_of ms) held → HoldsTogether (holding ms h.twins h.links) held bytes
 came_kept h rs bytes k us each (Ok n) free ms ok err held right = models_kept h rs bytes k us each free ms ok held right
 came_kept h rs bytes k us each (Err e) fails ms ok err held right = same_kept h rs bytes k ms err held right
 
-pub came_changed : (h : Holding) (us : List Uploaded) {N E : Type 0} (end : Result N E) (ms : List Model) → OnOk end (ms ≡ with_models us h.models)
+pub came_changed : (h : Holding) (us : List Uploaded) {N E : Type 0} (end : Result N E) (ms : List Model) → OnOk end (ms ≡ with_new_models us h.models)
     → OnOk end (state_of (holding ms h.twins h.links) ≡ changed (state_of h) (asks.PutModels us))
 came_changed h us (Ok n) ms ok = ap (λ (new : List Model). state_of (holding new h.twins h.links)) ok
 came_changed h us (Err e) ms ok = tt
@@ -52,7 +52,7 @@ same_state (Err e) now old err = ap state_of err
 
 -- ---- what is answered
 module _ {N E : Type 0} (s : State) (us : List Uploaded) (tree : Tree) (end : Result N BodyFailure) (res : Result Reply E) (told : MatchResult end (λ _. res ≡ Ok (replies.Created tree)) (λ failure. IfOk res (λ reply. (r : Refusal) × (failure ≡ failures.Refused r) × (reply ≡ replies.Refused r)))) where
-  pub came_allowed : InOrder (set_of s) → view tree ≡ array (elements_of (map mark_value (with_models us []))) → IfOk end (λ _. AreNew s.models us)
+  pub came_allowed : InOrder (set_of s) → view tree ≡ array (elements_of (map mark_value (with_new_models us []))) → IfOk end (λ _. AreNew s.models us)
       → MatchResult end (λ _. (r : Refusal) → Refuses s (asks.PutModels us) r → ⊥) (FailsBy (Refuses s (asks.PutModels us))) → IfOk res (Allows s (asks.PutModels us))
   came_allowed ordered printed new judged = by end told new judged
     where

@@ -3,7 +3,7 @@ use Rattle.std.proofs.Common.{◌≡◌, false, Result, Ok, Err, IfOk, sym, subs
 use Rattle.std.specs.Prelude.{Contains}
 use Rattle.graph_asks.specs.declared.ask.Ask.{Ask}
 use Rattle.graph_asks.specs.declared.reply.Reply.{Reply}
-use Rattle.graph_laws.specs.Frozen.{StaysFrozen}
+use Rattle.graph_steps.specs.invariants.Frozen.{StaysFrozen}
 use Rattle.graph_steps.specs.States.{State, Twin, is_live}
 use Rattle.graph_steps.specs.Steps.{Allows, follows}
 use Rattle.graph_steps.specs.Typed.{WellTyped}

@@ -7,16 +7,16 @@ use Rattle.std.specs.BTreeMap.{is_at}
 use Rattle.std.proofs.lemmas.Map.Entries.{sum_by-remove_entry}
 use Rattle.std.proofs.lemmas.Option.{none-some}
 use Rattle.ordered_table.proofs.Flat.{C}
-use Rattle.dtmi_name.specs.Grammar.{Identifier}
+use Rattle.dt_base.specs.names.Grammar.{Identifier}
 use Rattle.dtdl_terms.specs.declared.resolved.Resolved.{Resolved}
 use Rattle.dtdl_terms.specs.declared.uploaded.Uploaded.{Uploaded}
-use Rattle.rel_graph.specs.Edges.{InOrder, key_cmp, key, edge_at, with_edge, without_edge}
+use Rattle.rel_graph.specs.Edges.{EdgesInOrder, key_cmp, key, edge_at, with_edge, without_edge}
 use Rattle.rel_graph.specs.declared.edge.Edge.{Edge}
 use Rattle.rel_graph.proofs.Tallies.{keys_total}
-use Rattle.twin_table.specs.Held as table
-use Rattle.twin_table.specs.declared.held.Held.{Held}
-use Rattle.model_resolve.specs.Resolving.{HoldsRight}
-use Rattle.model_life.specs.Models.{Model, interfaces_of, with_mark, with_models, without_models}
+use Rattle.graph_steps.specs.twins.Held as table
+use Rattle.graph_steps.specs.declared.twins.held.Held.{Held}
+use Rattle.model_life.specs.resolution.Resolving.{HoldsRight}
+use Rattle.model_life.specs.Models.{Model, interfaces_of, with_mark, with_new_models, without_models}
 use Rattle.graph_asks.specs.declared.refusal.Refusal.{Refusal}
 use Rattle.graph_steps.specs.ModelAsks.{RefusesPutModels, RefusesDropModel}
 use Rattle.graph_steps.specs.Soundness.{IsSoundUpload}
@@ -26,16 +26,16 @@ use Rattle.graph_steps.specs.TwinAsks.{RefusesDropTwin}
 use Rattle.graph_steps.specs.Typed.{IsSoundInterface, WellTyped}
 use Rattle.graph_steps.proofs.Empty.{empty_is_typed}
 use Rattle.graph_steps.proofs.Marked.{still_typed}
-use Rattle.graph_laws.proofs.Drops.{rel_dropped, twin_dropped}
-use Rattle.graph_laws.proofs.Keyed.{entries, values-entries, all-with, all-without, sum-with}
-use Rattle.graph_laws.proofs.ModelDrops.{model_dropped}
-use Rattle.graph_laws.proofs.ModelPuts.{models_put}
-use Rattle.graph_held.specs.Held.{Holding, holding, state_of, link_bytes, twin_of, link_of, IsHeldTwin, IsHeldLink, IsKept}
-use Rattle.graph_held.specs.declared.stored.Stored.{Stored}
+use Rattle.graph_steps.proofs.invariants.Drops.{rel_dropped, twin_dropped}
+use Rattle.graph_steps.proofs.invariants.Keyed.{entries, values-entries, all-with, all-without, sum-with}
+use Rattle.graph_steps.proofs.invariants.ModelDrops.{model_dropped}
+use Rattle.graph_steps.proofs.invariants.ModelPuts.{models_put}
+use Rattle.graph_steps.specs.held.Held.{Holding, holding, state_of, link_bytes, twin_of, link_of, IsHeldTwin, IsHeldLink, HoldsTogether}
+use Rattle.graph_steps.specs.declared.held.stored.Stored.{Stored}
 use Rattle.graph_machine.proofs.Answered.{same_interfaces}
-use Rattle.graph_held.proofs.Viewed.{bytes_held, twins_with, twins_without, links_with, links_without}
+use Rattle.graph_steps.proofs.held.Viewed.{bytes_held, twins_with, twins_without, links_with, links_without}
 
-pub none_kept : IsKept (holding [] [] []) [] 0
+pub none_kept : HoldsTogether (holding [] [] []) [] 0
 none_kept = record { typed = empty_is_typed; right = λ id r e. absurd (none-some r e); held = record { twins = tt; links = tt; sum = refl } }
 
 abbrev size : Edge Stored → ℕ
@@ -44,23 +44,23 @@ size e = e.payload.bytes
 total-without : (source id : List ℕ) (es : List (Edge Stored)) → link_bytes (without_edge source id es) + unwrap_or (option_map size (edge_at source id es)) 0 ≡ link_bytes es
 total-without source id es = sum_by-remove_entry size (is_at (key_cmp (source, id))) (entries key es) ∙ ap (sum_by size) (values-entries key es)
 
-total-with : (e : Edge Stored) (es : List (Edge Stored)) → InOrder es → link_bytes (with_edge e es) ≡ link_bytes (without_edge e.source e.id es) + e.payload.bytes
+total-with : (e : Edge Stored) (es : List (Edge Stored)) → EdgesInOrder es → link_bytes (with_edge e es) ≡ link_bytes (without_edge e.source e.id es) + e.payload.bytes
 total-with e es sorted = sum-with key key_cmp keys_total size e es sorted
 
 all_interfaces : (us : List Uploaded) → AllByRecursion IsSoundUpload us → AllByRecursion (λ u. IsSoundInterface u.interface) us
 all_interfaces [] all = tt
 all_interfaces (u ∷ us) all = (all.0.interface, all_interfaces us all.1)
 
-module _ (h : Holding) (rs : List (Identifier × Resolved)) (bytes : ℕ) (k : IsKept h rs bytes) where
+module _ (h : Holding) (rs : List (Identifier × Resolved)) (bytes : ℕ) (k : HoldsTogether h rs bytes) where
   -- ---- models
-  pub mark_kept : (id : Identifier) (on : Bool) → IsKept (holding (with_mark id on h.models) h.twins h.links) rs bytes
+  pub mark_kept : (id : Identifier) (on : Bool) → HoldsTogether (holding (with_mark id on h.models) h.twins h.links) rs bytes
   mark_kept id on = record {
     typed = still_typed (state_of h) (with_mark id on h.models) (sym (same_interfaces id on h.models)) k.typed;
     right = subst (λ is. HoldsRight is rs) (sym (same_interfaces id on h.models)) k.right;
     held = record { twins = k.held.twins; links = k.held.links; sum = k.held.sum };
   }
 
-  pub drop_kept : (id : Identifier) → ((r : Refusal) → RefusesDropModel (state_of h) id r → ⊥) → IsKept (holding (without_models (id ∷ []) h.models) h.twins h.links) [] bytes
+  pub drop_kept : (id : Identifier) → ((r : Refusal) → RefusesDropModel (state_of h) id r → ⊥) → HoldsTogether (holding (without_models (id ∷ []) h.models) h.twins h.links) [] bytes
   drop_kept id free = record {
     typed = model_dropped (state_of h) id k.typed free;
     right = λ q r e. absurd (none-some r e);
@@ -68,14 +68,14 @@ module _ (h : Holding) (rs : List (Identifier × Resolved)) (bytes : ℕ) (k : I
   }
 
   pub models_kept : (us : List Uploaded) → AllByRecursion IsSoundUpload us → ((r : Refusal) → RefusesPutModels (state_of h) us r → ⊥)
-      → (ms : List Model) → ms ≡ with_models us h.models → (held : List (Identifier × Resolved)) → HoldsRight (interfaces_of ms) held → IsKept (holding ms h.twins h.links) held bytes
+      → (ms : List Model) → ms ≡ with_new_models us h.models → (held : List (Identifier × Resolved)) → HoldsRight (interfaces_of ms) held → HoldsTogether (holding ms h.twins h.links) held bytes
   models_kept us each free ms is held right = record {
     typed = subst (λ (new : List Model). WellTyped (state_of (holding new h.twins h.links))) (sym is) (models_put (state_of h) us k.typed (all_interfaces us each) free);
     right = right;
     held = record { twins = k.held.twins; links = k.held.links; sum = k.held.sum };
   }
 
-  pub same_kept : (ms : List Model) → ms ≡ h.models → (held : List (Identifier × Resolved)) → HoldsRight (interfaces_of ms) held → IsKept (holding ms h.twins h.links) held bytes
+  pub same_kept : (ms : List Model) → ms ≡ h.models → (held : List (Identifier × Resolved)) → HoldsRight (interfaces_of ms) held → HoldsTogether (holding ms h.twins h.links) held bytes
   same_kept ms is held right = record {
     typed = subst (λ (new : List Model). WellTyped (state_of (holding new h.twins h.links))) (sym is) k.typed;
     right = right;
@@ -83,7 +83,7 @@ module _ (h : Holding) (rs : List (Identifier × Resolved)) (bytes : ℕ) (k : I
   }
 
   -- ---- twins
-  pub twin_kept_out : (id : List ℕ) → ((r : Refusal) → RefusesDropTwin (state_of h) id r → ⊥) → IsKept (holding h.models (table.without_held id h.twins) h.links) rs bytes
+  pub twin_kept_out : (id : List ℕ) → ((r : Refusal) → RefusesDropTwin (state_of h) id r → ⊥) → HoldsTogether (holding h.models (table.without_held id h.twins) h.links) rs bytes
   twin_kept_out id free = record {
     typed = subst WellTyped (sym (twins_without id h)) (twin_dropped (state_of h) id k.typed free);
     right = k.right;
@@ -95,7 +95,7 @@ module _ (h : Holding) (rs : List (Identifier × Resolved)) (bytes : ℕ) (k : I
   }
 
   -- ---- relationships
-  link_kept_out : (source id : List ℕ) (less : ℕ) → less ≡ link_bytes (without_edge source id h.links) → IsKept (holding h.models h.twins (without_edge source id h.links)) rs less
+  link_kept_out : (source id : List ℕ) (less : ℕ) → less ≡ link_bytes (without_edge source id h.links) → HoldsTogether (holding h.models h.twins (without_edge source id h.links)) rs less
   link_kept_out source id less sum = record {
     typed = subst WellTyped (sym (links_without source id h)) (rel_dropped (state_of h) source id k.typed);
     right = k.right;
@@ -106,14 +106,14 @@ module _ (h : Holding) (rs : List (Identifier × Resolved)) (bytes : ℕ) (k : I
     };
   }
 
-  pub no_link_kept : (source id : List ℕ) → None ≡ edge_at source id h.links → IsKept (holding h.models h.twins (without_edge source id h.links)) rs bytes
+  pub no_link_kept : (source id : List ℕ) → None ≡ edge_at source id h.links → HoldsTogether (holding h.models h.twins (without_edge source id h.links)) rs bytes
   no_link_kept source id none =
       let total : link_bytes (without_edge source id h.links) + 0 ≡ link_bytes h.links =
       ap (λ o. link_bytes (without_edge source id h.links) + unwrap_or (option_map size o) 0) none ∙ total-without source id h.links in
       let before = k.held.sum in
       link_kept_out source id bytes (omega (arith, total, before))
 
-  pub one_link_kept : (source id : List ℕ) (e : Edge Stored) → Some e ≡ edge_at source id h.links → IsKept (holding h.models h.twins (without_edge source id h.links)) rs (bytes - e.payload.bytes)
+  pub one_link_kept : (source id : List ℕ) (e : Edge Stored) → Some e ≡ edge_at source id h.links → HoldsTogether (holding h.models h.twins (without_edge source id h.links)) rs (bytes - e.payload.bytes)
   one_link_kept source id e found =
       let total : link_bytes (without_edge source id h.links) + e.payload.bytes ≡ link_bytes h.links =
       ap (λ o. link_bytes (without_edge source id h.links) + unwrap_or (option_map size o) 0) found ∙ total-without source id h.links in
@@ -121,14 +121,14 @@ module _ (h : Holding) (rs : List (Identifier × Resolved)) (bytes : ℕ) (k : I
       link_kept_out source id (bytes - e.payload.bytes) (omega (arith, total, before))
 
   -- ---- what comes
-  sorted_links : InOrder h.links
+  sorted_links : EdgesInOrder h.links
   sorted_links = subst (IsStrictlySortedBy key_cmp) (same_keys h.links) k.typed.links
     where
       same_keys : (es : List (Edge Stored)) → map key (map link_of es) ≡ map key es
       same_keys [] = refl
       same_keys (e ∷ es) = ap (λ ks. key e ∷ ks) (same_keys es)
 
-  pub twin_kept_in : (x : Held) → WellTyped (with_twin (twin_of x) (state_of h)) → IsHeldTwin x → IsKept (holding h.models (table.with_held x h.twins) h.links) rs bytes
+  pub twin_kept_in : (x : Held) → WellTyped (with_twin (twin_of x) (state_of h)) → IsHeldTwin x → HoldsTogether (holding h.models (table.with_held x h.twins) h.links) rs bytes
   twin_kept_in x typed held = record {
     typed = subst WellTyped (sym (twins_with x h)) typed;
     right = k.right;
@@ -139,7 +139,7 @@ module _ (h : Holding) (rs : List (Identifier × Resolved)) (bytes : ℕ) (k : I
     };
   }
 
-  pub link_kept_in : (e : Edge Stored) → WellTyped (with_link (link_of e) (state_of h)) → IsHeldLink e → (more : ℕ) → more ≡ link_bytes (with_edge e h.links) → IsKept (holding h.models h.twins (with_edge e h.links)) rs more
+  pub link_kept_in : (e : Edge Stored) → WellTyped (with_link (link_of e) (state_of h)) → IsHeldLink e → (more : ℕ) → more ≡ link_bytes (with_edge e h.links) → HoldsTogether (holding h.models h.twins (with_edge e h.links)) rs more
   link_kept_in e typed held more sum = record {
     typed = subst WellTyped (sym (links_with e h)) typed;
     right = k.right;

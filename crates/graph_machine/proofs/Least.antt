@@ -4,10 +4,10 @@ use Rattle.std.specs.Prelude.{slice_get}
 use Rattle.std.specs.Ordering.{is_lt, ordering_reverse}
 use Rattle.std.specs.List.{AllByRecursion, find}
 use Rattle.std.proofs.lemmas.Map.Keys.{sorted_head, sorted_tail}
-use Rattle.rel_graph.specs.Edges.{key_cmp, key, InOrder, is_from, is_into, out_of, into_of}
+use Rattle.rel_graph.specs.Edges.{key_cmp, key, EdgesInOrder, is_from, is_into, out_of, into_of}
 use Rattle.rel_graph.specs.declared.edge.Edge.{Edge}
 use Rattle.rel_graph.proofs.Tallies.{keys_total}
-use Rattle.graph_laws.proofs.Keyed.{tests}
+use Rattle.graph_steps.proofs.invariants.Keyed.{tests}
 use Rattle.graph_machine.specs.Machinery.Least.{least_of}
 use Rattle.graph_machine.proofs.Ascending.{all_filter, all_unmapped}
 
@@ -34,7 +34,7 @@ module _ {P : Type 0} where
   before_out e None h = refl
   before_out e (Some a) h = ap (λ o. Some (cond (is_lt o) e a)) (sym h)
 
-  pub least_first : (id : List ℕ) (es : List (Edge P)) → InOrder es
+  pub least_first : (id : List ℕ) (es : List (Edge P)) → EdgesInOrder es
       → find (ends id) es ≡ least_of (slice_get (out_of id es) 0) (slice_get (into_of id es) 0)
   least_first id [] o = refl
   least_first id (e ∷ es) o =

@@ -4,13 +4,13 @@ use Rattle.std.specs.Ordering.{is_lt, ordering_reverse}
 use Rattle.std.specs.List.{AllByRecursion}
 use Rattle.std.proofs.lemmas.Cmp.{nat_list_cmp_total}
 use Rattle.std.proofs.lemmas.Map.Keys.{sorted_head, sorted_tail}
-use Rattle.dtmi_name.specs.Grammar.{Identifier, dtmi_text, id_cmp}
+use Rattle.dt_base.specs.names.Grammar.{Identifier, dtmi_text, id_cmp}
 use Rattle.json_tree.specs.Values.{Json, array, elements_of}
 use Rattle.dtdl_terms.specs.Sets.{keyed, InOrder}
 use Rattle.dtdl_terms.specs.declared.interface.Interface.{Interface}
 use Rattle.canon_text.specs.Sorting.{is_before, put_by, sorted_by}
 use Rattle.canon_text.specs.Canonical.{interface_value, interface_pair, set_value}
-use Rattle.model_resolve.proofs.ByKey.{C, alike, apart}
+use Rattle.model_life.proofs.resolution.ByKey.{C, alike, apart}
 use Rattle.model_life.specs.Models.{Model, interfaces_of, model_at}
 use Rattle.graph_steps.specs.ModelAsks.{mark_value}
 use Rattle.graph_machine.specs.Machinery.Marks.{mark_json, mark_of, entry_json}

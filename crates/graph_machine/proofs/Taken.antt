@@ -5,19 +5,20 @@ use Rattle.std.specs.List.{AllByRecursion}
 use Rattle.std.proofs.lemmas.Option.{none-some}
 use Rattle.std.proofs.lemmas.Slice.Eq.{bytes_eq-Decides}
 use Rattle.std.specs.Ordering.{match_ordering}
-use Rattle.dtmi_name.specs.Grammar.{Identifier, dtmi_text, id_cmp, id_eq}
+use Rattle.std.proofs.lemmas.Bool.{or_right}
+use Rattle.dt_base.specs.names.Grammar.{Identifier, dtmi_text, id_cmp, id_eq}
 use Rattle.dtdl_terms.specs.Distinct.{AreDistinct, HasDeclaration}
 use Rattle.dtdl_terms.specs.Sets.{InOrder, interface_at}
 use Rattle.dtdl_terms.specs.declared.interface.Interface.{Interface}
 use Rattle.dtdl_terms.specs.declared.uploaded.Uploaded.{Uploaded}
 use Rattle.extend_resolve.specs.Breaches.{BreaksNoRule, IsSound}
-use Rattle.model_resolve.specs.Resolving.{IsWithin, LacksNone}
-use Rattle.model_resolve.specs.Machinery.Families.{IsThere}
-use Rattle.model_resolve.proofs.Changes.{lacks_none}
-use Rattle.set_laws.specs.Changing.{with_uploads, is_one_of, AreApart, AreFree}
-use Rattle.set_laws.proofs.Looking.{AreAbsent, or_else, at_append, eq_tests, one_text_of, uploads_same}
-use Rattle.set_laws.proofs.Sound.{new_apart}
-use Rattle.model_life.specs.Models.{Model, interfaces_of, model_at, with_model, with_models, without_models}
+use Rattle.model_life.specs.resolution.Resolving.{IsWithin, LacksNone}
+use Rattle.model_life.specs.resolution.Machinery.Families.{IsThere}
+use Rattle.model_life.proofs.resolution.Changes.{lacks_none}
+use Rattle.model_life.specs.sets.Changing.{with_uploads, is_one_of, HaveDistinctIds, AreFree}
+use Rattle.model_life.proofs.sets.Looking.{AreAbsent, or_else, at_append, eq_tests, one_text_of, uploads_same}
+use Rattle.model_life.proofs.sets.Sound.{new_apart}
+use Rattle.model_life.specs.Models.{Model, interfaces_of, model_at, with_model, with_new_models, without_models}
 use Rattle.model_life.specs.Refusals.{AreNew}
 use Rattle.model_life.proofs.Growing.{absent_one}
 use Rattle.model_life.proofs.Refused.{interfaces_with}
@@ -59,10 +60,6 @@ or_none : (o : Option Interface) → or_else o None ≡ o
 or_none None = refl
 or_none (Some i) = refl
 
-or_right : (a b : Bool) → b ≡ true → (a || b) ≡ true
-or_right true b h = refl
-or_right false b h = h
-
 -- each upload is one of them
 each_one : (us : List Uploaded) → AllByRecursion (λ u. is_one_of (map upload_id us) u.interface.id ≡ true) us
 each_one [] = tt
@@ -94,7 +91,7 @@ gone_one ids i on (m ∷ ms) =
       | Greater ↦ λ e. ap (λ ns. cond (not (is_one_of ids m.interface.id)) (m ∷ ns) ns) (gone_one ids i on ms)
     ] refl)
 
-gone_all : (ids : List Identifier) (us : List Uploaded) (ms : List Model) → AllByRecursion (λ u. is_one_of ids u.interface.id ≡ true) us → without_models ids (with_models us ms) ≡ without_models ids ms
+gone_all : (ids : List Identifier) (us : List Uploaded) (ms : List Model) → AllByRecursion (λ u. is_one_of ids u.interface.id ≡ true) us → without_models ids (with_new_models us ms) ≡ without_models ids ms
 gone_all ids [] ms on = refl
 gone_all ids (u ∷ us) ms on = gone_all ids us (with_model u.interface ms) on.1 ∙ gone_one ids u.interface on.0 ms
 
@@ -106,7 +103,7 @@ module _ (us : List Uploaded) (ms : List Model) (rules : BreaksNoRule (interface
   absent : AreAbsent (interfaces_of ms) us
   absent = all_absent ms us new
 
-  apart : AreApart (map interface us)
+  apart : HaveDistinctIds (map interface us)
   apart = new_apart (interfaces_of ms) us ordered absent sound
 
   pub taken_distinct : AreDistinct (map (λ (id : Identifier). dtmi_text id) (map upload_id us))
@@ -118,7 +115,7 @@ module _ (us : List Uploaded) (ms : List Model) (rules : BreaksNoRule (interface
   within_uploads : IsWithin (interfaces_of ms) (with_uploads us (interfaces_of ms))
   within_uploads p i found = same_at p ∙ ap (λ o. or_else o (interface_at p (map interface us))) found
 
-  pub taken_within : IsWithin (interfaces_of ms) (interfaces_of (with_models us ms))
+  pub taken_within : IsWithin (interfaces_of ms) (interfaces_of (with_new_models us ms))
   taken_within = subst (IsWithin (interfaces_of ms)) (sym (interfaces_with us ms)) within_uploads
 
   pub taken_whole : LacksNone (interfaces_of ms)
@@ -140,7 +137,7 @@ module _ (us : List Uploaded) (ms : List Model) (rules : BreaksNoRule (interface
           let all = taken_whole i k own in
           absurd (elim named [ inl h ↦ all.0 (p, h, absent_id p on) | inr h ↦ all.1 (p, h, absent_id p on) ])
 
-  pub taken_free : AreFree (interfaces_of (with_models us ms)) (map upload_id us)
+  pub taken_free : AreFree (interfaces_of (with_new_models us ms)) (map upload_id us)
   taken_free = subst (λ set. AreFree set (map upload_id us)) (sym (interfaces_with us ms)) free_uploads
 
   not_one : (m : Model) → is_new ms m ≡ false → is_one_of (map upload_id us) m.interface.id ≡ false
@@ -151,7 +148,7 @@ module _ (us : List Uploaded) (ms : List Model) (rules : BreaksNoRule (interface
       by true e None f = absurd (true≢false (sym (ap is_none f) ∙ there))
       by true e (Some n) f = absurd (none-some n.interface (sym (absent_id m.interface.id e) ∙ interface_found m.interface.id ms ∙ ap (option_map (λ (x : Model). x.interface)) f))
 
-  pub taken_back : without_models (map upload_id us) (with_models us ms) ≡ ms
+  pub taken_back : without_models (map upload_id us) (with_new_models us ms) ≡ ms
   taken_back =
       gone_all (map upload_id us) us ms (each_one us)
       ∙ none_gone (map upload_id us) ms (all_weaker (λ (m : Model). is_new ms m ≡ false) (λ (m : Model). is_one_of (map upload_id us) m.interface.id ≡ false) not_one ms (known ms))

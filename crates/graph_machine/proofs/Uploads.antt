@@ -5,22 +5,22 @@ use Rattle.std.specs.List.{AllByRecursion, filter}
 use Rattle.std.specs.Option.{is_none}
 use Rattle.std.specs.Map.{lookup, keys_of}
 use Rattle.std.specs.BTreeMap.{insert_entry}
-use Rattle.dtmi_name.specs.Grammar.{Identifier, dtmi_text, id_cmp}
+use Rattle.dt_base.specs.names.Grammar.{Identifier, dtmi_text, id_cmp}
 use Rattle.dtdl_terms.specs.declared.interface.Interface.{Interface}
 use Rattle.dtdl_terms.specs.declared.uploaded.Uploaded.{Uploaded}
-use Rattle.model_resolve.proofs.ByKey.{C, alike}
-use Rattle.model_life.specs.Models.{Model, by_id, model_at, with_model, with_models}
+use Rattle.model_life.proofs.resolution.ByKey.{C, alike}
+use Rattle.model_life.specs.Models.{Model, by_id, model_at, with_model, with_new_models}
 use Rattle.model_life.specs.Refusals.{AreNew}
 use Rattle.graph_steps.specs.ModelAsks.{mark_value}
 use Rattle.graph_machine.specs.Machinery.Marks.{mark_json, unmarked, id_text_of}
 use Rattle.graph_machine.proofs.Ascending.{all_weaker, filter_none, all_filter, place, all_with, new_of, Before, Ascend, before_all, same_text, first_with, ascend_with}
 
 -- ---- all of them
-pub with_one_more : (us : List Uploaded) (u : Uploaded) (ms : List Model) → with_models (us ++ u ∷ []) ms ≡ with_model u.interface (with_models us ms)
+pub with_one_more : (us : List Uploaded) (u : Uploaded) (ms : List Model) → with_new_models (us ++ u ∷ []) ms ≡ with_model u.interface (with_new_models us ms)
 with_one_more [] u ms = refl
 with_one_more (v ∷ us) u ms = with_one_more us u (with_model v.interface ms)
 
-pub all_with_uploads : (P : Model → Type 0) (us : List Uploaded) (ms : List Model) → AllByRecursion (λ u. P (new_of u.interface)) us → AllByRecursion P ms → AllByRecursion P (with_models us ms)
+pub all_with_uploads : (P : Model → Type 0) (us : List Uploaded) (ms : List Model) → AllByRecursion (λ u. P (new_of u.interface)) us → AllByRecursion P ms → AllByRecursion P (with_new_models us ms)
 all_with_uploads P [] ms new all = all
 all_with_uploads P (u ∷ us) ms new all = all_with_uploads P us (with_model u.interface ms) new.1 (all_with P u.interface ms new.0 all)
 
@@ -37,11 +37,11 @@ by_texts : (ids : List Identifier) → map unmarked ids ≡ map (λ t. mark_json
 by_texts [] = refl
 by_texts (id ∷ ids) = ap (λ vs. unmarked id ∷ vs) (by_texts ids)
 
-pub marks_of_uploads : (us : List Uploaded) (ids : List Identifier) → map dtmi_text ids ≡ map id_text_of (with_models us []) → map unmarked ids ≡ map mark_value (with_models us [])
+pub marks_of_uploads : (us : List Uploaded) (ids : List Identifier) → map dtmi_text ids ≡ map id_text_of (with_new_models us []) → map unmarked ids ≡ map mark_value (with_new_models us [])
 marks_of_uploads us ids same =
     by_texts ids
     ∙ ap (map (λ t. mark_json t false)) same
-    ∙ sym (marks_of (with_models us []) (all_with_uploads (λ (m : Model). m.decommissioned ≡ false) us [] (each_new (λ (m : Model). m.decommissioned ≡ false) (λ i. refl) us) tt))
+    ∙ sym (marks_of (with_new_models us []) (all_with_uploads (λ (m : Model). m.decommissioned ≡ false) us [] (each_new (λ (m : Model). m.decommissioned ≡ false) (λ i. refl) us) tt))
 
 -- ---- their identifiers in order
 abbrev Ids : Type 0
@@ -103,11 +103,11 @@ keeps_one old i (m ∷ ms) new up =
           ]
     ] refl)
 
-keeps_all : (old : List Model) (us : List Uploaded) (ms : List Model) → AreNew old us → Ascend ms → filter (is_new old) (with_models us ms) ≡ with_models us (filter (is_new old) ms)
+keeps_all : (old : List Model) (us : List Uploaded) (ms : List Model) → AreNew old us → Ascend ms → filter (is_new old) (with_new_models us ms) ≡ with_new_models us (filter (is_new old) ms)
 keeps_all old [] ms new up = refl
 keeps_all old (u ∷ us) ms new up =
     keeps_all old us (with_model u.interface ms) new.1 (ascend_with u.interface ms up)
-    ∙ ap (with_models us) (keeps_one old u.interface ms (ap is_none new.0) up)
+    ∙ ap (with_new_models us) (keeps_one old u.interface ms (ap is_none new.0) up)
 
 -- No model that is there is new.
 pub known : (ms : List Model) → AllByRecursion (λ m. is_new ms m ≡ false) ms
@@ -124,5 +124,5 @@ known (m ∷ ms) = (
           | false ↦ h
         ]
 
-pub new_ones : (old : List Model) (us : List Uploaded) → AreNew old us → Ascend old → filter (is_new old) (with_models us old) ≡ with_models us []
-new_ones old us new up = keeps_all old us old new up ∙ ap (with_models us) (filter_none (is_new old) old (known old))
+pub new_ones : (old : List Model) (us : List Uploaded) → AreNew old us → Ascend old → filter (is_new old) (with_new_models us old) ≡ with_new_models us []
+new_ones old us new up = keeps_all old us old new up ∙ ap (with_new_models us) (filter_none (is_new old) old (known old))

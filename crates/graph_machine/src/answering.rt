@@ -2,10 +2,10 @@
 
 ghost use Rattle.std.specs.Prelude.{◌≡◌, IfOk, IsOk, OnErr};
 ghost use Rattle.graph_asks.specs.Answers.{done};
-ghost use Rattle.graph_steps.specs.Soundness.{IsSound};
+ghost use Rattle.graph_steps.specs.Soundness.{IsSoundAsk};
 ghost use Rattle.graph_steps.specs.Steps.{Allows, Answers, follows};
 ghost use Rattle.graph_machine.specs.Memory.{NeedsNoMemory};
-ghost use Rattle.graph_held.specs.Held.{state_of};
+ghost use Rattle.graph_steps.specs.held.Held.{state_of};
 
 use crate::machine::Machine;
 use dt_base::OutOfMemory;
@@ -15,7 +15,7 @@ impl Machine {
     /// Answers an ask as the step of the graph does. `Err` is want of memory, and nothing changes; a mark and drops that are
     /// done take no memory.
     pub(crate) fn answered(&mut self, ask: &Ask) -> Result<Reply, OutOfMemory>
-        requires { IsSound ask.now }
+        requires { IsSoundAsk ask.now }
         ensures allowed { IfOk result (Allows (state_of self.old) ask.now) }
         ensures follows { IfOk result (λ reply. state_of self.new ≡ follows (state_of self.old) ask.now reply) }
         ensures unchanged { OnErr result (state_of self.new ≡ state_of self.old) }

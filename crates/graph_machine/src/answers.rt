@@ -1,13 +1,13 @@
 //! Refusals that several asks have.
 
 ghost use Rattle.std.specs.Prelude.{◌≡◌, IfOk};
-ghost use Rattle.dtmi_name.specs.Grammar.{dtmi_text};
+ghost use Rattle.dt_base.specs.names.Grammar.{dtmi_text};
 ghost use Rattle.graph_asks.specs.declared.refusal.Refusal.{Refusal as Refusals};
 
+use dt_base::names::Dtmi;
 use dt_base::{OutOfMemory, Text};
-use dtmi_name::Dtmi;
 use graph_asks::{Refusal, Reply};
-use graph_bodies::BodyFailure;
+use graph_steps::bodies::BodyFailure;
 use std::alloc::Global;
 
 /// The text of an identifier.

@@ -5,7 +5,7 @@ ghost use Rattle.json_tree.specs.View.{view};
 ghost use Rattle.dtdl_terms.specs.Sets.{keyed, InOrder};
 ghost use Rattle.canon_text.specs.Canonical.{interface_value, set_value, set_text};
 ghost use Rattle.graph_steps.specs.Steps.{Allows, follows};
-ghost use Rattle.graph_held.specs.Held.{state_of};
+ghost use Rattle.graph_steps.specs.held.Held.{state_of};
 
 use crate::machine::Machine;
 use canon_text::canon_tree;

@@ -4,12 +4,12 @@ ghost use Rattle.std.specs.Prelude.{◌≡◌, IfOk, IsOk, IsSome, OnErr};
 ghost use Rattle.graph_asks.specs.Answers.{done};
 ghost use Rattle.model_life.specs.Models.{first_user, model_at};
 ghost use Rattle.graph_steps.specs.Steps.{Allows, Answers, follows};
-ghost use Rattle.graph_held.specs.Held.{state_of};
+ghost use Rattle.graph_steps.specs.held.Held.{state_of};
 
 use crate::answers::{id_text, model_not_found};
 use crate::machine::Machine;
 use dt_base::OutOfMemory;
-use dtmi_name::Dtmi;
+use dt_base::names::Dtmi;
 use graph_asks::{Ask, Refusal, Reply};
 use model_life::DropEnd;
 

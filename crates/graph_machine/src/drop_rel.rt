@@ -6,7 +6,7 @@ ghost use Rattle.graph_asks.specs.Answers.{done};
 ghost use Rattle.graph_steps.specs.LinkAsks.{after_drop_rel};
 ghost use Rattle.graph_steps.specs.States.{twin_at};
 ghost use Rattle.graph_steps.specs.Steps.{Allows, Answers, follows};
-ghost use Rattle.graph_held.specs.Held.{state_of};
+ghost use Rattle.graph_steps.specs.held.Held.{state_of};
 
 use crate::answers::{link_not_found, twin_not_found};
 use crate::machine::Machine;

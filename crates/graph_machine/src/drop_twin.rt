@@ -8,14 +8,14 @@ ghost use Rattle.rel_graph.specs.Edges.{key_cmp, key};
 ghost use Rattle.graph_asks.specs.Answers.{done};
 ghost use Rattle.graph_steps.specs.States.{is_end, twin_at, without_twin};
 ghost use Rattle.graph_steps.specs.Steps.{Allows, Answers, follows};
-ghost use Rattle.graph_held.specs.Held.{state_of, link_of};
+ghost use Rattle.graph_steps.specs.held.Held.{state_of, link_of};
 ghost use Rattle.graph_machine.specs.Machinery.Least.{least_of};
 
 use crate::answers::twin_not_found;
 use crate::machine::Machine;
 use dt_base::{OutOfMemory, Text};
 use graph_asks::{Ask, Refusal, Reply};
-use graph_held::Stored;
+use graph_steps::held::Stored;
 use rel_graph::{Edge, Listing, Rels};
 use std::alloc::Global;
 use std::cmp::Ordering;

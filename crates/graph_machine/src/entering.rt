@@ -2,15 +2,15 @@
 
 ghost use Rattle.std.specs.Prelude.{◌≡◌, OnErr, OnOk};
 ghost use Rattle.std.specs.Option.{option_map, unwrap_or};
-ghost use Rattle.graph_bodies.specs.Kept.{twin_view};
+ghost use Rattle.graph_steps.specs.bodies.Kept.{twin_view};
 ghost use Rattle.graph_steps.specs.LinkAsks.{with_link};
 ghost use Rattle.graph_steps.specs.States.{with_twin};
 ghost use Rattle.graph_steps.specs.Typed.{WellTyped};
-ghost use Rattle.graph_held.specs.Held.{state_of, link_of, IsHeldTwin, IsHeldLink};
+ghost use Rattle.graph_steps.specs.held.Held.{state_of, link_of, IsHeldTwin, IsHeldLink};
 
 use crate::machine::Machine;
 use dt_base::OutOfMemory;
-use graph_held::Stored;
+use graph_steps::held::Stored;
 use rel_graph::Edge;
 use twin_value::Twin;
 

@@ -2,13 +2,13 @@
 
 ghost use Rattle.std.specs.Prelude.{◌≡◌, IfOk};
 ghost use Rattle.graph_steps.specs.Steps.{Allows, follows};
-ghost use Rattle.graph_held.specs.Held.{state_of};
+ghost use Rattle.graph_steps.specs.held.Held.{state_of};
 
 use crate::answers::model_not_found;
 use crate::machine::Machine;
 use crate::trees::model_tree;
 use dt_base::OutOfMemory;
-use dtmi_name::Dtmi;
+use dt_base::names::Dtmi;
 use graph_asks::{Ask, Reply};
 
 impl Machine {

@@ -1,16 +1,16 @@
 //! The ask for a component of a twin.
 
 ghost use Rattle.std.specs.Prelude.{◌≡◌, IfOk, Some};
-ghost use Rattle.graph_bodies.specs.Kept.{twin_view, IsKeptTwin};
+ghost use Rattle.graph_steps.specs.bodies.Kept.{twin_view, IsKeptTwin};
 ghost use Rattle.graph_steps.specs.States.{twin_at};
 ghost use Rattle.graph_steps.specs.Steps.{Allows, follows};
-ghost use Rattle.graph_held.specs.Held.{state_of};
+ghost use Rattle.graph_steps.specs.held.Held.{state_of};
 
 use crate::answers::{component_not_found, twin_not_found};
 use crate::machine::Machine;
 use dt_base::{OutOfMemory, Text};
 use graph_asks::{Ask, Reply};
-use graph_bodies::{kept_part, part_tree};
+use graph_steps::bodies::{kept_part, part_tree};
 use local_rules::value_in;
 use twin_value::Twin;
 

@@ -4,13 +4,13 @@ ghost use Rattle.std.specs.Prelude.{◌≡◌, IfOk, true};
 ghost use Rattle.std.specs.Option.{is_some};
 ghost use Rattle.graph_steps.specs.States.{twin_at};
 ghost use Rattle.graph_steps.specs.Steps.{Allows, follows};
-ghost use Rattle.graph_held.specs.Held.{state_of};
+ghost use Rattle.graph_steps.specs.held.Held.{state_of};
 
 use crate::answers::{link_not_found, twin_not_found};
 use crate::machine::Machine;
 use dt_base::{OutOfMemory, Text};
 use graph_asks::{Ask, Reply};
-use graph_held::stored_tree;
+use graph_steps::held::stored_tree;
 
 impl Machine {
     /// A relationship, as it is printed; refused where its source is not there, and where this has no such relationship.

@@ -2,13 +2,13 @@
 
 ghost use Rattle.std.specs.Prelude.{◌≡◌, IfOk};
 ghost use Rattle.graph_steps.specs.Steps.{Allows, follows};
-ghost use Rattle.graph_held.specs.Held.{state_of};
+ghost use Rattle.graph_steps.specs.held.Held.{state_of};
 
 use crate::answers::twin_not_found;
 use crate::machine::Machine;
 use dt_base::{OutOfMemory, Text};
 use graph_asks::{Ask, Reply};
-use graph_bodies::twin_tree;
+use graph_steps::bodies::twin_tree;
 
 impl Machine {
     /// A twin, as it is printed; refused where there is no such twin. `Err` is want of memory.

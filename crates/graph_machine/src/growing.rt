@@ -1,34 +1,34 @@
 //! Models that come, and go back where a twin would not fit.
 
 ghost use Rattle.std.specs.Prelude.{◌≡◌, ◌<◌, [], map, length, slice_get, Some, IfOk, MatchResult, OnErr, OnOk};
-ghost use Rattle.dtmi_name.specs.Grammar.{dtmi_text};
+ghost use Rattle.dt_base.specs.names.Grammar.{dtmi_text};
 ghost use Rattle.dtdl_terms.specs.Distinct.{AreDistinct};
 ghost use Rattle.extend_resolve.specs.Breaches.{IsSound};
 ghost use Rattle.graph_asks.specs.declared.refusal.Refusal.{Refusal as Refusals};
-ghost use Rattle.graph_bodies.specs.Bodies.{FailsBy};
+ghost use Rattle.graph_steps.specs.bodies.Bodies.{FailsBy};
 ghost use Rattle.graph_steps.specs.ModelAsks.{RefusesPutModels};
 ghost use Rattle.graph_steps.specs.Soundness.{AreSoundUploads};
 ghost use Rattle.graph_steps.specs.States.{State};
-ghost use Rattle.set_laws.specs.Changing.{AreFree};
-ghost use Rattle.model_life.specs.Models.{interfaces_of, with_models, without_models};
+ghost use Rattle.model_life.specs.sets.Changing.{AreFree};
+ghost use Rattle.model_life.specs.Models.{interfaces_of, with_new_models, without_models};
 ghost use Rattle.model_life.specs.Refusals.{AreNew, RefusesUploads};
 ghost use Rattle.model_life.specs.Sums.{AreWithinLimits};
-ghost use Rattle.model_resolve.specs.Resolving.{HoldsRight};
-ghost use Rattle.graph_held.specs.Held.{holding, state_of, IsKept};
+ghost use Rattle.model_life.specs.resolution.Resolving.{HoldsRight};
+ghost use Rattle.graph_steps.specs.held.Held.{holding, state_of, HoldsTogether};
 
 use crate::answers::id_text;
+use dt_base::names::Dtmi;
 use dt_base::{List, OutOfMemory, Text};
 use dtdl_terms::{Uploaded, spot_pointer};
-use dtmi_name::Dtmi;
 use graph_asks::{At, Refusal};
-use graph_bodies::BodyFailure;
-use graph_fits::least_misfit;
-use graph_held::{Lent, Stored};
+use graph_judges::fits::least_misfit;
+use graph_steps::bodies::BodyFailure;
+use graph_steps::held::{Lent, Stored};
+use graph_steps::twins::Twins;
+use model_life::resolution::{Resolutions, held_stay_right};
 use model_life::{AddEnd, Models, one_sum};
-use model_resolve::{Resolutions, held_stay_right};
 use rel_graph::Rels;
 use std::alloc::Global;
-use twin_table::Twins;
 
 /// Copies of interfaces with their places.
 fn copy_uploads(alloc: Global, new: &[Uploaded]) -> Result<List<Uploaded>, OutOfMemory>
@@ -87,8 +87,8 @@ fn refused(
 /// comes.
 fn add(alloc: Global, models: &mut Models, new: &[Uploaded]) -> Result<(), BodyFailure>
     requires { AreSoundUploads new.now }
-    ensures judged { (s : State) → s.models ≡ models.old → MatchResult result (λ _. AreNew models.old new.now × IsSound (interfaces_of models.old) new.now × AreWithinLimits (with_models new.now models.old)) (FailsBy (RefusesPutModels s new.now)) }
-    ensures ok { OnOk result (models.new ≡ with_models new.now models.old) }
+    ensures judged { (s : State) → s.models ≡ models.old → MatchResult result (λ _. AreNew models.old new.now × IsSound (interfaces_of models.old) new.now × AreWithinLimits (with_new_models new.now models.old)) (FailsBy (RefusesPutModels s new.now)) }
+    ensures ok { OnOk result (models.new ≡ with_new_models new.now models.old) }
     ensures err { OnErr result (models.new ≡ models.old) }
 {
     let copies = copy_uploads(alloc, new)?;
@@ -121,12 +121,12 @@ pub(crate) fn models_come(
     new: &[Uploaded],
 ) -> Result<(), BodyFailure>
     requires sound { AreSoundUploads new.now }
-    requires kept { IsKept (holding models.old twins.now links.now) resolutions.old link_bytes }
+    requires kept { HoldsTogether (holding models.old twins.now links.now) resolutions.old link_bytes }
     ensures judged { MatchResult result
         (λ _. (r : Refusals) → RefusesPutModels (state_of (holding models.old twins.now links.now)) new.now r → ⊥)
         (FailsBy (RefusesPutModels (state_of (holding models.old twins.now links.now)) new.now)) }
     ensures new { IfOk result (λ _. AreNew models.old new.now) }
-    ensures ok { OnOk result (models.new ≡ with_models new.now models.old) }
+    ensures ok { OnOk result (models.new ≡ with_new_models new.now models.old) }
     ensures err { OnErr result (models.new ≡ models.old) }
     ensures right { HoldsRight (interfaces_of models.new) resolutions.new }
 {

@@ -5,13 +5,13 @@ ghost use Rattle.json_tree.specs.View.{view};
 ghost use Rattle.dtdl_terms.specs.Sets.{keyed};
 ghost use Rattle.model_life.specs.Models.{interfaces_of};
 ghost use Rattle.graph_steps.specs.Steps.{Allows, follows};
-ghost use Rattle.graph_held.specs.Held.{state_of};
-ghost use Rattle.graph_machine.specs.Machinery.Marks.{is_marked, entry_json};
+ghost use Rattle.graph_steps.specs.held.Held.{state_of};
+ghost use Rattle.graph_machine.specs.Machinery.Marks.{is_model_marked, entry_json};
 
 use crate::machine::Machine;
 use crate::trees::{list_tree, mark_tree};
 use dt_base::OutOfMemory;
-use dtmi_name::Dtmi;
+use dt_base::names::Dtmi;
 use graph_asks::{Ask, Reply};
 use json_tree::Tree;
 use model_life::Models;
@@ -19,7 +19,7 @@ use std::alloc::Global;
 
 /// Whether there is a model with an identifier, and it is marked.
 fn is_marked(models: &Models, id: &Dtmi) -> bool
-    ensures { result ≡ is_marked models.now id.now }
+    ensures { result ≡ is_model_marked models.now id.now }
 {
     match models.get(id) {
         Some((_, on)) => on,

@@ -4,12 +4,12 @@ ghost use Rattle.std.specs.Prelude.{◌≡◌, ◌∷◌, [], map, take, IfOk};
 ghost use Rattle.std.specs.List.{AllByRecursion, filter};
 ghost use Rattle.json_tree.specs.View.{view};
 ghost use Rattle.graph_asks.specs.Answers.{body};
-ghost use Rattle.graph_bodies.specs.Kept.{IsKeptLink};
-ghost use Rattle.graph_steps.specs.ListAsks.{is_called, listed_out, out_links};
+ghost use Rattle.graph_steps.specs.bodies.Kept.{IsKeptLink};
+ghost use Rattle.graph_steps.specs.ListAsks.{is_link_called, listed_out, out_links};
 ghost use Rattle.graph_steps.specs.Pages.{page_value};
 ghost use Rattle.graph_steps.specs.States.{link_value};
 ghost use Rattle.graph_steps.specs.Steps.{Allows, follows};
-ghost use Rattle.graph_held.specs.Held.{state_of, link_of};
+ghost use Rattle.graph_steps.specs.held.Held.{state_of, link_of};
 ghost use Rattle.graph_machine.specs.Machinery.Listings.{raw_out};
 
 use crate::answers::twin_not_found;
@@ -17,8 +17,8 @@ use crate::machine::Machine;
 use crate::rows::rows;
 use dt_base::{OutOfMemory, Text};
 use graph_asks::{Ask, Reply};
-use graph_held::Stored;
-use graph_pages::{first_called, out_token, page_tree};
+use graph_steps::held::Stored;
+use graph_steps::paging::{first_called, out_token, page_tree};
 use json_tree::Tree;
 use rel_graph::{Edge, Out};
 use std::alloc::Global;
@@ -61,7 +61,7 @@ impl Machine {
         name: &Option<Text>,
         after: &Option<Text>,
     ) -> Result<Vec<&Edge<Stored>>, OutOfMemory>
-        ensures edges { IfOk result (λ first. map (λ e. link_of e.now) first.items ≡ take 101 (filter (is_called name.now) (out_links (state_of self.now) source.now after.now))) }
+        ensures edges { IfOk result (λ first. map (λ e. link_of e.now) first.items ≡ take 101 (filter (is_link_called name.now) (out_links (state_of self.now) source.now after.now))) }
         ensures kept { IfOk result (λ first. AllByRecursion (λ e. IsKeptLink (link_of e.now)) first.items) }
     {
         first_called(self.alloc, self.all_out(source, after), name.as_ref())

@@ -2,14 +2,14 @@
 
 ghost use Rattle.std.specs.Prelude.{◌≡◌, IfSome};
 ghost use Rattle.std.specs.Option.{option_copied, option_map, is_some};
-ghost use Rattle.graph_bodies.specs.Kept.{twin_view, IsKeptTwin, IsKeptLink};
+ghost use Rattle.graph_steps.specs.bodies.Kept.{twin_view, IsKeptTwin, IsKeptLink};
 ghost use Rattle.graph_steps.specs.LinkAsks.{link_at};
 ghost use Rattle.graph_steps.specs.States.{twin_at};
-ghost use Rattle.graph_held.specs.Held.{state_of, link_of};
+ghost use Rattle.graph_steps.specs.held.Held.{state_of, link_of};
 
 use crate::machine::Machine;
 use dt_base::Text;
-use graph_held::Stored;
+use graph_steps::held::Stored;
 use rel_graph::Edge;
 use twin_value::Twin;
 

@@ -3,15 +3,15 @@
 ghost use Rattle.std.specs.Prelude.{◌≡◌, length};
 ghost use Rattle.graph_steps.specs.States.{empty};
 ghost use Rattle.graph_steps.specs.Typed.{WellTyped};
-ghost use Rattle.graph_held.specs.Held.{state_of};
+ghost use Rattle.graph_steps.specs.held.Held.{state_of};
 
-use graph_held::Stored;
+use graph_steps::held::Stored;
+use graph_steps::twins::Twins;
 use model_life::Models;
-use model_resolve::Resolutions;
+use model_life::resolution::Resolutions;
 use rel_graph::Rels;
 use std::alloc::Global;
 use std::marker::Model;
-use twin_table::Twins;
 
 /// A typed graph of digital twins (this project's own, after the graph of Azure Digital Twins), which contracts see as its
 /// models, its twins and its relationships, each in their order; `state_of` is the state of it. Every machine is well typed
@@ -27,9 +27,9 @@ pub struct Machine {
 }
 
 impl Model for Machine {
-    ghost use Rattle.graph_held.specs.Held.{Holding};
-    ghost use Rattle.graph_held.specs.Machinery.Codes.{holding_code};
-    ghost use Rattle.graph_held.specs.Held.{holding, IsKept};
+    ghost use Rattle.graph_steps.specs.held.Held.{Holding};
+    ghost use Rattle.graph_steps.specs.held.Machinery.Codes.{holding_code};
+    ghost use Rattle.graph_steps.specs.held.Held.{holding, HoldsTogether};
 
     ghost Value = { Holding };
 
@@ -37,7 +37,7 @@ impl Model for Machine {
 
     ghost view = { λ m. holding m.models m.twins m.links };
 
-    ghost invariant = { λ m. IsKept (holding m.models m.twins m.links) m.resolutions m.link_bytes };
+    ghost invariant = { λ m. HoldsTogether (holding m.models m.twins m.links) m.resolutions m.link_bytes };
 }
 
 /// How much a graph holds.

@@ -2,17 +2,17 @@
 
 ghost use Rattle.std.specs.Prelude.{◌≡◌, Contains, IfOk, IsOk, OnErr, false};
 ghost use Rattle.graph_asks.specs.Answers.{done};
-ghost use Rattle.graph_laws.specs.Frozen.{StaysFrozen};
-ghost use Rattle.graph_steps.specs.Soundness.{IsSound};
+ghost use Rattle.graph_steps.specs.invariants.Frozen.{StaysFrozen};
+ghost use Rattle.graph_steps.specs.Soundness.{IsSoundAsk};
 ghost use Rattle.graph_steps.specs.Steps.{Allows, Answers, follows};
 ghost use Rattle.graph_steps.specs.States.{State, Twin, is_live};
 ghost use Rattle.graph_machine.specs.Memory.{NeedsNoMemory};
-ghost use Rattle.graph_held.specs.Held.{state_of};
+ghost use Rattle.graph_steps.specs.held.Held.{state_of};
 
 use crate::machine::Machine;
 use dt_base::{Object, OutOfMemory};
 use graph_asks::{Ask, Reply};
-use graph_laws::stays_frozen;
+use graph_steps::invariants::stays_frozen;
 
 impl Object for Machine {
     type Ask = Ask;
@@ -23,7 +23,7 @@ impl Object for Machine {
 
     ghost state = { state_of };
 
-    ghost sound = { IsSound };
+    ghost sound = { IsSoundAsk };
 
     ghost allowed = { Allows };
 
@@ -33,7 +33,7 @@ impl Object for Machine {
     /// there stays as it is with the relationships out of it, but for what the ask drops, and is live again only where models
     /// come. `Err` is want of memory, and nothing changes; a mark and drops that are done take no memory.
     fn step(&mut self, ask: &Ask) -> Result<Reply, OutOfMemory>
-        requires sound { IsSound ask.now }
+        requires sound { IsSoundAsk ask.now }
         ensures allowed { IfOk result (Allows (state_of self.old) ask.now) }
         ensures follows { IfOk result (λ reply. state_of self.new ≡ follows (state_of self.old) ask.now reply) }
         ensures unchanged { OnErr result (state_of self.new ≡ state_of self.old) }

@@ -1,21 +1,21 @@
 //! The ask that patches a relationship.
 
 ghost use Rattle.std.specs.Prelude.{◌≡◌, IfOk, MatchResult, OnErr};
-ghost use Rattle.graph_bodies.specs.Bodies.{FailsBy};
+ghost use Rattle.graph_steps.specs.bodies.Bodies.{FailsBy};
 ghost use Rattle.graph_steps.specs.LinkAsks.{with_link};
-ghost use Rattle.graph_steps.specs.Soundness.{IsSound};
+ghost use Rattle.graph_steps.specs.Soundness.{IsSoundAsk};
 ghost use Rattle.graph_steps.specs.Steps.{Allows, Refuses, follows};
 ghost use Rattle.graph_steps.specs.Typed.{WellTyped};
-ghost use Rattle.graph_held.specs.Held.{state_of, link_of};
+ghost use Rattle.graph_steps.specs.held.Held.{state_of, link_of};
 ghost use Rattle.graph_machine.specs.Machinery.Brought.{BringsLink};
 
 use crate::answers::failed;
 use crate::machine::Machine;
 use dt_base::{OutOfMemory, Text};
 use graph_asks::{Ask, Reply};
-use graph_bodies::BodyFailure;
-use graph_held::Lent;
-use link_judges::{NewLink, judged_rel_patch};
+use graph_judges::links::{NewLink, judged_rel_patch};
+use graph_steps::bodies::BodyFailure;
+use graph_steps::held::Lent;
 use twin_patch::Patch;
 
 impl Machine {
@@ -28,7 +28,7 @@ impl Machine {
         id: &Text,
         patch: &Patch,
     ) -> Result<Reply, OutOfMemory>
-        requires { IsSound (Ask.PatchRel source.now id.now patch.now) }
+        requires { IsSoundAsk (Ask.PatchRel source.now id.now patch.now) }
         ensures allowed { IfOk result (Allows (state_of self.old) (Ask.PatchRel source.now id.now patch.now)) }
         ensures follows { IfOk result (λ reply. state_of self.new ≡ follows (state_of self.old) (Ask.PatchRel source.now id.now patch.now) reply) }
         ensures unchanged { OnErr result (self.new ≡ self.old) }
@@ -50,7 +50,7 @@ impl Machine {
         id: &Text,
         patch: &Patch,
     ) -> Result<NewLink, BodyFailure>
-        requires { IsSound (Ask.PatchRel source.now id.now patch.now) }
+        requires { IsSoundAsk (Ask.PatchRel source.now id.now patch.now) }
         ensures judged { MatchResult result (λ new. BringsLink (state_of self.old) (Ask.PatchRel source.now id.now patch.now) source.now id.now new.edge new.tree) (FailsBy (Refuses (state_of self.old) (Ask.PatchRel source.now id.now patch.now))) }
         ensures typed { IfOk result (λ new. WellTyped (with_link (link_of new.edge) (state_of self.old))) }
         ensures same { self.new ≡ self.old }

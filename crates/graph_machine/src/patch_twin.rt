@@ -1,22 +1,22 @@
 //! The ask that patches a twin.
 
 ghost use Rattle.std.specs.Prelude.{◌≡◌, IfOk, MatchResult, OnErr};
-ghost use Rattle.graph_bodies.specs.Bodies.{FailsBy};
-ghost use Rattle.graph_bodies.specs.Kept.{twin_view};
-ghost use Rattle.graph_steps.specs.Soundness.{IsSound};
+ghost use Rattle.graph_steps.specs.bodies.Bodies.{FailsBy};
+ghost use Rattle.graph_steps.specs.bodies.Kept.{twin_view};
+ghost use Rattle.graph_steps.specs.Soundness.{IsSoundAsk};
 ghost use Rattle.graph_steps.specs.States.{with_twin};
 ghost use Rattle.graph_steps.specs.Steps.{Allows, Refuses, follows};
 ghost use Rattle.graph_steps.specs.Typed.{WellTyped};
-ghost use Rattle.graph_held.specs.Held.{state_of};
+ghost use Rattle.graph_steps.specs.held.Held.{state_of};
 ghost use Rattle.graph_machine.specs.Machinery.Brought.{BringsTwin};
 
 use crate::answers::failed;
 use crate::machine::Machine;
 use dt_base::{OutOfMemory, Text};
 use graph_asks::{Ask, Reply};
-use graph_bodies::BodyFailure;
-use graph_held::Lent;
-use twin_judges::{NewTwin, judged_patch};
+use graph_judges::twins::{NewTwin, judged_patch};
+use graph_steps::bodies::BodyFailure;
+use graph_steps::held::Lent;
 use twin_patch::Patch;
 
 impl Machine {
@@ -24,7 +24,7 @@ impl Machine {
     /// it needs, and then for what the patched body would be refused for as that of a twin that comes. `Err` is want of memory,
     /// and nothing changes.
     pub fn patch_twin(&mut self, id: &Text, patch: &Patch) -> Result<Reply, OutOfMemory>
-        requires { IsSound (Ask.PatchTwin id.now patch.now) }
+        requires { IsSoundAsk (Ask.PatchTwin id.now patch.now) }
         ensures allowed { IfOk result (Allows (state_of self.old) (Ask.PatchTwin id.now patch.now)) }
         ensures follows { IfOk result (λ reply. state_of self.new ≡ follows (state_of self.old) (Ask.PatchTwin id.now patch.now) reply) }
         ensures unchanged { OnErr result (self.new ≡ self.old) }
@@ -41,7 +41,7 @@ impl Machine {
 
     /// Judges a twin that is to be patched. What contracts see stays.
     fn patch_judged(&mut self, id: &Text, patch: &Patch) -> Result<NewTwin, BodyFailure>
-        requires { IsSound (Ask.PatchTwin id.now patch.now) }
+        requires { IsSoundAsk (Ask.PatchTwin id.now patch.now) }
         ensures judged { MatchResult result (λ new. BringsTwin (state_of self.old) (Ask.PatchTwin id.now patch.now) id.now new.twin new.bytes) (FailsBy (Refuses (state_of self.old) (Ask.PatchTwin id.now patch.now))) }
         ensures typed { IfOk result (λ new. WellTyped (with_twin (twin_view new.twin) (state_of self.old))) }
         ensures same { self.new ≡ self.old }

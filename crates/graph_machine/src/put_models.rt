@@ -2,37 +2,37 @@
 
 ghost use Rattle.std.specs.Prelude.{◌≡◌, [], map, Ok, IfOk, MatchResult, OnErr, OnOk};
 ghost use Rattle.std.specs.Map.{keys_of};
-ghost use Rattle.dtmi_name.specs.Grammar.{dtmi_text};
+ghost use Rattle.dt_base.specs.names.Grammar.{dtmi_text};
 ghost use Rattle.dtdl_terms.specs.Sets.{InOrder};
 ghost use Rattle.graph_asks.specs.declared.refusal.Refusal.{Refusal as Refusals};
-ghost use Rattle.graph_bodies.specs.Bodies.{FailsBy};
+ghost use Rattle.graph_steps.specs.bodies.Bodies.{FailsBy};
 ghost use Rattle.json_tree.specs.View.{view};
 ghost use Rattle.json_tree.specs.Values.{array, elements_of};
-ghost use Rattle.model_life.specs.Models.{with_models};
+ghost use Rattle.model_life.specs.Models.{with_new_models};
 ghost use Rattle.graph_steps.specs.ModelAsks.{mark_value};
 ghost use Rattle.graph_steps.specs.Soundness.{AreSoundUploads};
 ghost use Rattle.graph_steps.specs.States.{set_of};
 ghost use Rattle.graph_steps.specs.Steps.{Allows, Refuses, changed, follows};
 ghost use Rattle.model_life.specs.Refusals.{AreNew};
-ghost use Rattle.graph_held.specs.Held.{state_of};
+ghost use Rattle.graph_steps.specs.held.Held.{state_of};
 ghost use Rattle.graph_machine.specs.Machinery.Marks.{id_text_of, unmarked};
 
 use crate::answers::failed;
 use crate::growing::models_come;
 use crate::machine::Machine;
 use crate::trees::mark_tree;
+use dt_base::names::Dtmi;
 use dt_base::{List, OutOfMemory};
 use dtdl_terms::Uploaded;
-use dtmi_name::Dtmi;
 use graph_asks::{Ask, Reply};
-use graph_bodies::BodyFailure;
+use graph_steps::bodies::BodyFailure;
 use json_tree::Tree;
 use std::alloc::Global;
 use std::collections::BTreeMap;
 
 /// The identifiers of uploads, in their order.
 fn ids_in_order(alloc: Global, new: &[Uploaded]) -> Result<BTreeMap<Dtmi, ()>, OutOfMemory>
-    ensures { IfOk result (λ ids. map (λ id. dtmi_text id) (keys_of ids.entries) ≡ map id_text_of (with_models new.now [])) }
+    ensures { IfOk result (λ ids. map (λ id. dtmi_text id) (keys_of ids.entries) ≡ map id_text_of (with_new_models new.now [])) }
 {
     let mut ids = BTreeMap::new(alloc);
     'new: for upload in new {
@@ -54,7 +54,7 @@ fn unmarked(alloc: Global, ids: &BTreeMap<Dtmi, ()>) -> Result<Vec<Tree>, OutOfM
 
 /// What is answered where the uploads are the only models, in the order of their identifiers.
 fn created(alloc: Global, new: &[Uploaded]) -> Result<Tree, OutOfMemory>
-    ensures { IfOk result (λ tree. view tree ≡ array (elements_of (map mark_value (with_models new.now [])))) }
+    ensures { IfOk result (λ tree. view tree ≡ array (elements_of (map mark_value (with_new_models new.now [])))) }
 {
     let ids = ids_in_order(alloc, new)?;
     let trees = unmarked(alloc, &ids)?;

@@ -7,12 +7,12 @@ ghost use Rattle.query_terms.specs.Queries.{asked};
 ghost use Rattle.graph_asks.specs.Answers.{body};
 ghost use Rattle.graph_steps.specs.QueryAsks.{answer_page};
 ghost use Rattle.graph_steps.specs.Steps.{Allows, follows};
-ghost use Rattle.graph_held.specs.Held.{state_of};
+ghost use Rattle.graph_steps.specs.held.Held.{state_of};
 
 use crate::machine::Machine;
 use dt_base::{List, OutOfMemory, Text};
 use graph_asks::{Ask, Reply};
-use graph_pages::page_tree;
+use graph_steps::paging::page_tree;
 use json_tree::Tree;
 use query_eval::{Rows, page};
 use query_terms::Query;

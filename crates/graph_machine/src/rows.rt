@@ -3,12 +3,12 @@
 ghost use Rattle.std.specs.Prelude.{◌≡◌, map, take, IfOk};
 ghost use Rattle.std.specs.List.{AllByRecursion};
 ghost use Rattle.json_tree.specs.View.{view};
-ghost use Rattle.graph_bodies.specs.Kept.{IsKeptLink};
+ghost use Rattle.graph_steps.specs.bodies.Kept.{IsKeptLink};
 ghost use Rattle.graph_steps.specs.States.{link_value};
-ghost use Rattle.graph_held.specs.Held.{link_of};
+ghost use Rattle.graph_steps.specs.held.Held.{link_of};
 
 use dt_base::OutOfMemory;
-use graph_held::{Stored, stored_tree};
+use graph_steps::held::{Stored, stored_tree};
 use json_tree::Tree;
 use rel_graph::Edge;
 use std::alloc::Global;

@@ -1,7 +1,7 @@
 //! Trees of replies.
 
 ghost use Rattle.std.specs.Prelude.{◌≡◌, ◌∷◌, [], ◌++◌, map, codes, IfOk, OnOk};
-ghost use Rattle.dtmi_name.specs.Grammar.{dtmi_text};
+ghost use Rattle.dt_base.specs.names.Grammar.{dtmi_text};
 ghost use Rattle.json_tree.specs.Values.{text, truth, array, object, elements_of, members_of, member, no_members};
 ghost use Rattle.json_tree.specs.View.{view, member_view};
 ghost use Rattle.model_life.specs.Models.{model_of};
@@ -9,9 +9,9 @@ ghost use Rattle.graph_steps.specs.ModelAsks.{model_value};
 ghost use Rattle.graph_machine.specs.Machinery.Marks.{mark_json};
 
 use canon_text::canon_tree;
+use dt_base::names::Dtmi;
 use dt_base::{List, OutOfMemory, Text};
 use dtdl_terms::Interface;
-use dtmi_name::Dtmi;
 use json_tree::{Member, Tree};
 use std::alloc::Global;
 

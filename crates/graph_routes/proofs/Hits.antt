@@ -8,7 +8,7 @@ use Rattle.matchit.specs.Router.{RouteOf, map_key}
 use Rattle.matchit.proofs.SeekLemmas.{first-prefix, or_else-none}
 use Rattle.matchit.proofs.RenameLemmas.{first-rename}
 use Rattle.matchit.proofs.OnLiterals.{matchit_on_literals}
-use Rattle.graph_routes.specs.Paths.{slash, IsPart, Matches}
+use Rattle.graph_routes.specs.Paths.{slash, IsPathPart, Matches}
 use Rattle.graph_routes.specs.Machinery.Rows.{table}
 use Rattle.graph_routes.specs.declared.route.Route.{Route}
 use Rattle.graph_routes.specs.declared.route.Route.TheVariants as route
@@ -21,15 +21,15 @@ bytes_of [] h = tt
 bytes_of (b ∷ bs) h = (h 0, bytes_of bs (λ i. h (suc i)))
 
 -- ---- parts
-last_part_hit : (key : ℕ) (s : List ℕ) → IsPart s → IsText (s ++ []) → first (prepend (param_token ∷ []) (ends (Some key))) (s ++ []) ≡ Some key
+last_part_hit : (key : ℕ) (s : List ℕ) → IsPathPart s → IsText (s ++ []) → first (prepend (param_token ∷ []) (ends (Some key))) (s ++ []) ≡ Some key
 last_part_hit key [] h t = absurd (h.some refl)
 last_part_hit key (b ∷ s) h t = rw (append-nil s) (last_part_ends (Some key) b s t.0 h.one)
 
-whole_hit : (s : List ℕ) → IsPart s → IsText (s ++ []) → first behind_twins (s ++ []) ≡ Some 5
+whole_hit : (s : List ℕ) → IsPathPart s → IsText (s ++ []) → first behind_twins (s ++ []) ≡ Some 5
 whole_hit [] h t = absurd (h.some refl)
 whole_hit (b ∷ s) h t = rw (append-nil s) (part_ends twin_rows (Some 5) b s (lit< tt) t.0 h.one)
 
-front_hit : (s q : List ℕ) → IsPart s → IsText (s ++ slash ∷ q) → first behind_twins (s ++ slash ∷ q) ≡ first twin_rows q
+front_hit : (s q : List ℕ) → IsPathPart s → IsText (s ++ slash ∷ q) → first behind_twins (s ++ slash ∷ q) ≡ first twin_rows q
 front_hit [] q h t = absurd (h.some refl)
 front_hit (b ∷ s) q h t = part_goes_on twin_rows (Some 5) b s q (lit< tt) t.0 h.one ∙ first-prefix (slash ∷ []) twin_rows (slash ∷ q) (text_of (slash ∷ []) refl)
 
@@ -44,21 +44,21 @@ twins_hit : (q : List ℕ) → first all_rows (slash ∷ (codes "digitaltwins" +
 twins_hit q = root_hit (codes "digitaltwins/" ++ q) ∙ root_rows-first (codes "digitaltwins/" ++ q) ∙ or_else-none (first behind_twins q)
 
 -- A part below the models, and a last part below a twin.
-below_models : (s : List ℕ) → IsPart s → IsText (s ++ []) → first all_rows (slash ∷ (codes "models" ++ slash ∷ (s ++ []))) ≡ Some 6
+below_models : (s : List ℕ) → IsPathPart s → IsText (s ++ []) → first all_rows (slash ∷ (codes "models" ++ slash ∷ (s ++ []))) ≡ Some 6
 below_models s h t =
     let e = last_part_hit 6 s h t in
     models_hit (slash ∷ (s ++ [])) ∙ model_rows-first (slash ∷ (s ++ [])) ∙ ap (λ x. or_else x (first (([], 7) ∷ []) (slash ∷ (s ++ [])))) e
 
-component_hit : (s : List ℕ) → IsPart s → IsText (s ++ []) → first twin_rows (codes "components" ++ slash ∷ (s ++ [])) ≡ Some 1
+component_hit : (s : List ℕ) → IsPathPart s → IsText (s ++ []) → first twin_rows (codes "components" ++ slash ∷ (s ++ [])) ≡ Some 1
 component_hit s h t = twin_rows-first (codes "components/" ++ (s ++ [])) ∙ or_else-none (first (prepend (param_token ∷ []) (ends (Some 1))) (s ++ [])) ∙ last_part_hit 1 s h t
 
-relationship_hit : (s : List ℕ) → IsPart s → IsText (s ++ []) → first twin_rows (codes "relationships" ++ slash ∷ (s ++ [])) ≡ Some 3
+relationship_hit : (s : List ℕ) → IsPathPart s → IsText (s ++ []) → first twin_rows (codes "relationships" ++ slash ∷ (s ++ [])) ≡ Some 3
 relationship_hit s h t =
     let e = last_part_hit 3 s h t in
     twin_rows-first (codes "relationships/" ++ (s ++ [])) ∙ or_else-none (first relationship_rows (slash ∷ (s ++ [])))
     ∙ relationship_rows-first (slash ∷ (s ++ [])) ∙ ap (λ x. or_else x (first (([], 4) ∷ []) (slash ∷ (s ++ [])))) e
 
-below_twin : (s q : List ℕ) (k : ℕ) → IsPart s → IsText (s ++ slash ∷ q) → first twin_rows q ≡ Some k → first all_rows (slash ∷ (codes "digitaltwins" ++ slash ∷ (s ++ slash ∷ q))) ≡ Some k
+below_twin : (s q : List ℕ) (k : ℕ) → IsPathPart s → IsText (s ++ slash ∷ q) → first twin_rows q ≡ Some k → first all_rows (slash ∷ (codes "digitaltwins" ++ slash ∷ (s ++ slash ∷ q))) ≡ Some k
 below_twin s q k h t e = twins_hit (s ++ slash ∷ q) ∙ front_hit s q h t ∙ e
 
 -- ---- the paths

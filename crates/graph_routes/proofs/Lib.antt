@@ -14,10 +14,8 @@ pub mod OneTwins
 pub mod OneLinks
 pub mod OneQueries
 pub mod OnePrepared
-pub mod DistinctKeys
 pub mod Nested
-pub mod Ordinals
-pub mod Uploads
+pub mod Documents
 pub mod Agreeing
 pub mod Differing
 pub mod Listed

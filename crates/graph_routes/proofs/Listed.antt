@@ -1,6 +1,7 @@
 -- A path has no methods but those that it lists.
 use Rattle.std.proofs.Common.{◌≡◌, ℕ, zero, suc, ◌<◌, List, [], ◌∷◌, length, Bool, true, false, refl, subst, arith}
 use Rattle.std.specs.Prelude.{◌==◌, ◌||◌, Contains, slice_index_or}
+use Rattle.std.proofs.lemmas.Bool.{or_right}
 use Rattle.graph_routes.specs.declared.method.Method.{Method}
 use Rattle.graph_routes.specs.declared.method.Method.TheVariants as method
 
@@ -23,14 +24,10 @@ has_first method.Patch ns = refl
 has_first method.Post ns = refl
 has_first method.Put ns = refl
 
-or_later : (a b : Bool) → b ≡ true → (a || b) ≡ true
-or_later true b h = refl
-or_later false b h = h
-
 at_position : (ns : List Method) (m : Method) (k : ℕ) → k < length ns → slice_index_or ns k m ≡ m → has ns m ≡ true
 at_position [] m k less e = absurd (omega (arith, less))
 at_position (n ∷ ns) m zero less e = subst (λ (x : Method). has (n ∷ ns) x ≡ true) e (has_first n ns)
-at_position (n ∷ ns) m (suc k) less e = or_later (number_of n == number_of m) (has ns m) (at_position ns m k (omega (arith, less)) e)
+at_position (n ∷ ns) m (suc k) less e = or_right (number_of n == number_of m) (has ns m) (at_position ns m k (omega (arith, less)) e)
 
 pub listed_method : (ns : List Method) (m : Method) → Contains ns m → has ns m ≡ true
 listed_method ns m (k, less, e) = at_position ns m k less e

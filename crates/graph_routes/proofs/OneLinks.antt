@@ -9,7 +9,7 @@ use Rattle.graph_asks.specs.declared.refusal.Refusal.TheVariants as refusals
 use Rattle.query_bodies.proofs.OneOutcome.{token_once}
 use Rattle.graph_routes.specs.Identifiers.{link_ids}
 use Rattle.graph_routes.specs.Outcomes.{Named, WithBody}
-use Rattle.graph_routes.specs.Parameters.{BeginsPast, BeginsPastPair, name_asked, token_given}
+use Rattle.graph_routes.specs.Parameters.{BeginsPastId, BeginsPastPair, name_asked, token_given}
 use Rattle.graph_routes.specs.TwinRequests.{WithId}
 use Rattle.graph_routes.specs.LinkRequests.{AsksIncoming, AsksLink, AsksLinks, PatchesLink, PutsLink, TakesLink}
 use Rattle.graph_routes.specs.declared.method.Method.{Method}
@@ -21,7 +21,7 @@ use Rattle.graph_routes.proofs.OneModels.{one_not_allowed}
 use Rattle.graph_routes.proofs.OneTwins.{one_with_id}
 
 -- ---- tokens
-past_once : (token : Option (List ℕ)) (x y : Option (List ℕ)) → BeginsPast token x → BeginsPast token y → x ≡ y
+past_once : (token : Option (List ℕ)) (x y : Option (List ℕ)) → BeginsPastId token x → BeginsPastId token y → x ≡ y
 past_once None x y h g = h ∙ sym g
 past_once (Some token) x y (id, is, h) (other, has, g) =
     let same : id ∷ [] ≡ other ∷ [] = token_once token 1 (id ∷ []) (other ∷ []) is has in
@@ -70,8 +70,8 @@ one_of_link laws method.Post part second body = one_not_allowed route.Relationsh
 
 pub one_of_links : (m : Method) (part query : List ℕ) → IsOne (AsksLinks m part query)
 one_of_links method.Get part query =
-    one_with_id 0 part (λ source. Named (BeginsPast (token_given query)) refusals.BadToken (λ after given. given ≡ Ask (asks.ListOut source (name_asked query) after)))
-    (λ source. one_named (BeginsPast (token_given query)) refusals.BadToken (λ after given. given ≡ Ask (asks.ListOut source (name_asked query) after)) (past_once (token_given query))
+    one_with_id 0 part (λ source. Named (BeginsPastId (token_given query)) refusals.BadToken (λ after given. given ≡ Ask (asks.ListOut source (name_asked query) after)))
+    (λ source. one_named (BeginsPastId (token_given query)) refusals.BadToken (λ after given. given ≡ Ask (asks.ListOut source (name_asked query) after)) (past_once (token_given query))
     (λ after p q x y. alike p q (Ask (asks.ListOut source (name_asked query) after)) (Ask (asks.ListOut source (name_asked query) after)) x y refl))
 one_of_links method.Delete part query = one_not_allowed route.Relationships
 one_of_links method.Patch part query = one_not_allowed route.Relationships

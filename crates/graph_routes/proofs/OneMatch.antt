@@ -4,7 +4,7 @@ use Rattle.std.specs.List.{AllByRecursion}
 use Rattle.std.proofs.lemmas.Bool.Decides.{nat_tests}
 use Rattle.std.proofs.lemmas.List.{map-append}
 use Rattle.matchit.specs.Level.{IsText}
-use Rattle.graph_routes.specs.Paths.{Piece, word, part, slash, IsPart, ConsistsOf, Matches, pieces}
+use Rattle.graph_routes.specs.Paths.{Piece, word, part, slash, IsPathPart, ConsistsOf, Matches, pieces}
 use Rattle.graph_routes.specs.declared.route.Route.{Route}
 use Rattle.graph_routes.specs.declared.route.Route.TheVariants as route
 use Rattle.graph_routes.proofs.Hits.{one_match_of_bytes}
@@ -38,7 +38,7 @@ none_slash : (bs : List ℕ) → AllByRecursion (λ b. b ≢ slash) bs → AllBy
 none_slash [] h = tt
 none_slash (b ∷ bs) h = (no_slash b h.0, none_slash bs h.1)
 
-is_part : (bs : List ℕ) → IsPart bs → IsPart (as_text bs)
+is_part : (bs : List ℕ) → IsPathPart bs → IsPathPart (as_text bs)
 is_part [] h = absurd (h.some refl)
 is_part (b ∷ bs) h = record { some = λ e. cc; one = none_slash (b ∷ bs) h.one }
 

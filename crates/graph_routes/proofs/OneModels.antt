@@ -1,7 +1,7 @@
 -- Of the paths of models one thing is asked.
 use Rattle.std.proofs.Common.{◌≡◌, ℕ, List, [], ◌∷◌, Bool, refl, sym, ap, ap₂, subst, ◌∙◌, inl, inr}
-use Rattle.dtmi_name.specs.Grammar.{Identifier}
-use Rattle.dtmi_name.proofs.Cuts.{HasDtmiForm-unique}
+use Rattle.dt_base.specs.names.Grammar.{Identifier}
+use Rattle.dt_base.proofs.names.Cuts.{HasDtmiForm-unique}
 use Rattle.dtdl_terms.specs.declared.uploaded.Uploaded.{Uploaded}
 use Rattle.json_tree.specs.Values.{Json, truth}
 use Rattle.json_tree.specs.Pointers.{IsPointerOf}

@@ -17,7 +17,7 @@ use Rattle.twin_patch.specs.Operations.{Operation, operations_of}
 use Rattle.twin_patch.specs.declared.code.PatchCode.{PatchCode}
 use Rattle.twin_patch.specs.declared.entry.PatchOf.{PatchOf}
 use Rattle.twin_patch.specs.declared.patch.Patch.{Patch}
-use Rattle.twin_patch.specs.Reading.{IsPatch, IsFault as IsPatchFault}
+use Rattle.twin_patch.specs.Reading.{IsPatch, IsPatchFault}
 use Rattle.twin_value.specs.declared.code.BodyCode.{BodyCode}
 use Rattle.graph_asks.specs.Asks.{AreOneAsk}
 use Rattle.graph_asks.specs.declared.ask.Ask as ask_type

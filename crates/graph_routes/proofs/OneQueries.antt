@@ -1,7 +1,7 @@
 -- Of the path of queries one thing is asked.
 use Rattle.std.proofs.Common.{ℕ, List, Ok, Err, ap}
 use Rattle.json_tree.specs.Values.{Json}
-use Rattle.query_bodies.specs.Outcomes.{AreOneOutcome, Outcome}
+use Rattle.query_bodies.specs.Outcomes.{AreOneOutcome, AskOrRefusal}
 use Rattle.query_bodies.proofs.OneOutcome.{one_of_body}
 use Rattle.graph_routes.specs.Prepared.{ArePreparedAlike}
 use Rattle.graph_routes.specs.QueryRequests.{AsksQuery, AsksRows, prepared_of}
@@ -12,7 +12,7 @@ use Rattle.graph_routes.specs.declared.route.Route.TheVariants as route
 use Rattle.graph_routes.proofs.OneModels.{one_not_allowed}
 use Rattle.graph_routes.proofs.OneOutcome.{IsOne, Laws, alike, one_with_body}
 
-prepared_alike : (x y : Outcome) → AreOneOutcome x y → ArePreparedAlike (prepared_of x) (prepared_of y)
+prepared_alike : (x y : AskOrRefusal) → AreOneOutcome x y → ArePreparedAlike (prepared_of x) (prepared_of y)
 prepared_alike (Ok ask) (Ok other) h = h
 prepared_alike (Ok ask) (Err refusal) h = absurd h
 prepared_alike (Err refusal) (Ok ask) h = absurd h

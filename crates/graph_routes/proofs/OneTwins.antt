@@ -1,7 +1,7 @@
 -- Of the paths of twins and components one thing is asked.
 use Rattle.std.proofs.Common.{◌≡◌, ℕ, List, Some, refl, sym, ◌∙◌}
-use Rattle.dtmi_name.specs.Grammar.{Identifier, dtmi_text}
-use Rattle.dtmi_name.proofs.Cuts.{HasDtmiForm-unique}
+use Rattle.dt_base.specs.names.Grammar.{Identifier, dtmi_text}
+use Rattle.dt_base.proofs.names.Cuts.{HasDtmiForm-unique}
 use Rattle.json_tree.specs.Values.{Json}
 use Rattle.twin_patch.specs.declared.entry.PatchOf.TheVariants as patches
 use Rattle.twin_patch.specs.declared.patch.Patch.{Patch}
@@ -10,7 +10,7 @@ use Rattle.page_tokens.specs.Tokens.{NamesId}
 use Rattle.graph_asks.specs.declared.ask.Ask.TheVariants as asks
 use Rattle.graph_asks.specs.declared.refusal.Refusal.TheVariants as refusals
 use Rattle.graph_steps.specs.Soundness.{IsModelOf}
-use Rattle.graph_routes.specs.Parts.{NamesComponent}
+use Rattle.graph_routes.specs.Parts.{NamesComponentPart}
 use Rattle.graph_routes.specs.Identifiers.{twin_ids}
 use Rattle.graph_routes.specs.Outcomes.{WithBody}
 use Rattle.graph_routes.specs.TwinRequests.{AsksPart, AsksTwin, PatchesPart, PatchesTwin, PutsTwin, TakesTwin, WithComponent, WithId}
@@ -25,7 +25,7 @@ use Rattle.graph_routes.proofs.OneModels.{one_not_allowed}
 one_id_named : (part x y : List ℕ) → NamesId part x → NamesId part y → x ≡ y
 one_id_named part x y h g = sym h.decoded ∙ g.decoded
 
-one_component_named : (part x y : List ℕ) → NamesComponent part x → NamesComponent part y → x ≡ y
+one_component_named : (part x y : List ℕ) → NamesComponentPart part x → NamesComponentPart part y → x ≡ y
 one_component_named part x y h g = sym h.decoded ∙ g.decoded
 
 one_identifier : (i j : Identifier) → IsModelOf i → IsModelOf j → Some (dtmi_text i) ≡ Some (dtmi_text j) → i ≡ j
@@ -58,7 +58,7 @@ pub one_with_id : (at : ℕ) (part : List ℕ) (Gives : List ℕ → Prepared �
 one_with_id at part Gives one = one_named (NamesId part) (refusals.BadId at) Gives (one_id_named part) one
 
 one_with_component : (part : List ℕ) (Gives : List ℕ → Prepared → Type 0) → ((name : List ℕ) → IsOne (Gives name)) → IsOne (WithComponent part Gives)
-one_with_component part Gives one = one_named (NamesComponent part) (refusals.BadId 1) Gives (one_component_named part) one
+one_with_component part Gives one = one_named (NamesComponentPart part) (refusals.BadId 1) Gives (one_component_named part) one
 
 pub one_of_twin : Laws → (m : Method) (part body : List ℕ) → IsOne (AsksTwin m part body)
 one_of_twin laws method.Get part body =

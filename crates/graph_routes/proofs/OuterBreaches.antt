@@ -5,22 +5,21 @@ use Rattle.std.specs.Option.{IsSomeAnd, option_and_then}
 use Rattle.std.proofs.lemmas.Slice.Eq.{bytes_eq-Decides}
 use Rattle.json_decimal.specs.Number.{Number}
 use Rattle.json_tree.specs.Values.{Json, null, truth, number, text, array, object, Members, no_members, member}
-use Rattle.json_tree.specs.Places.{IsPart, member_at}
+use Rattle.json_tree.specs.Places.{IsPart, member_at, IsSomewhere}
 use Rattle.local_rules.specs.Members.{text_in, value_at, value_in}
-use Rattle.dtmi_name.specs.Grammar.{Identifier, NameText, OwnDtmiText, dtmi_text}
+use Rattle.dt_base.specs.names.Grammar.{Identifier, NameText, OwnDtmiText, dtmi_text}
 use Rattle.dtdl_terms.specs.Terms.{no_contents}
 use Rattle.twin_value.specs.Codes.{code_number}
 use Rattle.twin_value.specs.Fits.{is_object}
-use Rattle.twin_value.specs.Roles.{Role, member_role, twin_body, twin_metadata, model_id, target_id, link_name, link_body}
-use Rattle.twin_value.specs.Breaches.{HasPart, IsBreach, HasNoBreach, IsModelId, IsOuterBreach, IsOuterLinkBreach, IsTwinId, no_library, text_under}
+use Rattle.twin_value.specs.Roles.{Role, body_member_role, twin_body, twin_metadata, model_id, target_id, link_name, link_body}
+use Rattle.twin_value.specs.Breaches.{HasBodyPart, IsBodyBreach, HasNoBreach, IsModelId, IsOuterBreach, IsOuterLinkBreach, IsTwinId, no_library, text_under}
 use Rattle.twin_value.specs.Twins.{model_text}
 use Rattle.twin_value.specs.declared.code.BodyCode.{BodyCode}
 use Rattle.twin_value.specs.declared.code.BodyCode.TheVariants as code
 use Rattle.graph_steps.specs.Soundness.{IsModelOf}
-use Rattle.graph_routes.specs.Machinery.Found.{IsSomewhere}
 
 -- ---- places
-part_is : (r : Role) (v : Json) (i : ℕ) (s : Role) (part : Json) → HasPart r v i s part → IsPart v i part
+part_is : (r : Role) (v : Json) (i : ℕ) (s : Role) (part : Json) → HasBodyPart r v i s part → IsPart v i part
 part_is r null i s part p = absurd p
 part_is r (truth b) i s part p = absurd p
 part_is r (number n) i s part p = absurd p
@@ -28,7 +27,7 @@ part_is r (text bytes) i s part p = absurd p
 part_is r (array vs) i s part p = p.0
 part_is r (object ms) i s part p = (p.0, p.1)
 
-breach_somewhere : (r : Role) (v : Json) (place : List ℕ) (broken : BodyCode) → IsBreach r v place broken → IsSomewhere v place
+breach_somewhere : (r : Role) (v : Json) (place : List ℕ) (broken : BodyCode) → IsBodyBreach r v place broken → IsSomewhere v place
 breach_somewhere r v [] broken b = (v, refl)
 breach_somewhere r v (i ∷ place) broken (s, part, p, b) = let below = breach_somewhere s part place broken b in (below.0, (part, part_is r v i s part p, below.1))
 
@@ -47,7 +46,7 @@ link_somewhere v place broken b = breach_somewhere link_outside v place broken b
 -- ---- members
 -- Nothing is broken of what a model is not asked for.
 abbrev Free : Role → Json → Type 0
-Free r v = (place : List ℕ) (broken : BodyCode) → IsBreach r v place broken → code_number broken ≤ 3 → ⊥
+Free r v = (place : List ℕ) (broken : BodyCode) → IsBodyBreach r v place broken → code_number broken ≤ 3 → ⊥
 
 found_here : (b : Bool) (key k : List ℕ) (v : Json) (ms : Members Number) (w : Json) → bytes_eq k key ≡ b → (if b then Some v else value_at key ms) ≡ Some w
     → (value_at key ms ≡ Some w → (i : ℕ) × (member_at ms i ≡ Some (key, w))) → (i : ℕ) × (member_at (member k v ms) i ≡ Some (key, w))
@@ -61,7 +60,7 @@ found_at : (key : List ℕ) (ms : Members Number) (w : Json) → value_at key ms
 found_at key no_members w e = absurd cc
 found_at key (member k v ms) w e = found_here (bytes_eq k key) key k v ms w refl e (found_at key ms w)
 
-under : (r : Role) (v : Json) (key : List ℕ) (w : Json) → Free r v → value_in key v ≡ Some w → Free (member_role r key) w
+under : (r : Role) (v : Json) (key : List ℕ) (w : Json) → Free r v → value_in key v ≡ Some w → Free (body_member_role r key) w
 under r null key w h e = absurd cc
 under r (truth b) key w h e = absurd cc
 under r (number n) key w h e = absurd cc
@@ -69,7 +68,7 @@ under r (text bytes) key w h e = absurd cc
 under r (array vs) key w h e = absurd cc
 under r (object ms) key w h e = λ place broken b low.
     let f = found_at key ms w e in
-    h (f.0 ∷ place) broken (member_role r key, w, (key, f.1, refl), b) low
+    h (f.0 ∷ place) broken (body_member_role r key, w, (key, f.1, refl), b) low
 
 has_at : (b : Bool) (o : Option Json) → (b ≡ false → ⊥) → (IsTrue b × (o ≡ None) → ⊥) → (w : Json) × (o ≡ Some w)
 has_at b (Some w) is has = (w, refl)

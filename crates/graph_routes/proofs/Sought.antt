@@ -9,7 +9,7 @@ use Rattle.matchit.specs.Level.{IsText}
 use Rattle.matchit.specs.Router.{RouteOf, rename}
 use Rattle.matchit.proofs.SeekLemmas.{first-prefix, seek-empty, or_else-none}
 use Rattle.matchit.proofs.OnLiterals.{matchit_on_literals}
-use Rattle.graph_routes.specs.Paths.{slash, IsPart, Matches}
+use Rattle.graph_routes.specs.Paths.{slash, IsPathPart, Matches}
 use Rattle.graph_routes.specs.Machinery.Rows.{row, table}
 use Rattle.graph_routes.specs.declared.route.Route.{Route}
 use Rattle.graph_routes.specs.declared.route.Route.TheVariants as route
@@ -134,14 +134,14 @@ root_rows-first p =
 
 -- ---- what is found fits
 -- A last part, and a part with more behind it.
-part_of : (b : ℕ) (t : List ℕ) → NoSlash (b ∷ t) → IsPart (b ∷ t)
+part_of : (b : ℕ) (t : List ℕ) → NoSlash (b ∷ t) → IsPathPart (b ∷ t)
 part_of b t n = record { some = λ e. cc; one = n }
 
-pub last_part : (key : ℕ) (p : List ℕ) (k : ℕ) → IsText p → first (prepend (param_token ∷ []) (ends (Some key))) p ≡ Some k → IsPart p × (key ≡ k)
+pub last_part : (key : ℕ) (p : List ℕ) (k : ℕ) → IsText p → first (prepend (param_token ∷ []) (ends (Some key))) p ≡ Some k → IsPathPart p × (key ≡ k)
 last_part key [] k t e = let none = part_missing (ends (Some key)) in cc
 last_part key (b ∷ p) k t e = by (parted (b ∷ p))
   where
-    by : NoSlash (b ∷ p) ⊎ ((s : List ℕ) × (rest : List ℕ) × NoSlash s × (b ∷ p ≡ s ++ slash ∷ rest)) → IsPart (b ∷ p) × (key ≡ k)
+    by : NoSlash (b ∷ p) ⊎ ((s : List ℕ) × (rest : List ℕ) × NoSlash s × (b ∷ p ≡ s ++ slash ∷ rest)) → IsPathPart (b ∷ p) × (key ≡ k)
     by (inl n) = let h = last_part_ends (Some key) b p t.0 n in (part_of b p n, cc)
     by (inr (s, rest, n, is)) =
         let more : has_slash (b ∷ p) ≡ true = ap has_slash is ∙ (cut s rest n).1 in
@@ -150,8 +150,8 @@ last_part key (b ∷ p) k t e = by (parted (b ∷ p))
 
 -- What a part of a twin's path leaves: nothing, or the rest from a slash on.
 pub data TwinPart (p : List ℕ) (k : ℕ) : Type 0 where
-  whole : IsPart p → 5 ≡ k → TwinPart p k
-  front : (t rest : List ℕ) → IsPart t → p ≡ t ++ slash ∷ rest → first (prepend (slash ∷ []) twin_rows) (slash ∷ rest) ≡ Some k → TwinPart p k
+  whole : IsPathPart p → 5 ≡ k → TwinPart p k
+  front : (t rest : List ℕ) → IsPathPart t → p ≡ t ++ slash ∷ rest → first (prepend (slash ∷ []) twin_rows) (slash ∷ rest) ≡ Some k → TwinPart p k
 
 pub twin_part : (p : List ℕ) (k : ℕ) → IsText p → first behind_twins p ≡ Some k → TwinPart p k
 twin_part [] k t e = let none = part_missing (rows_of (behind twin_rows ∷ []) ++ ends (Some 5)) in cc
@@ -191,7 +191,7 @@ model_fits p k t e = by (either (if_word (slash ∷ []) p (first (prepend (param
 abbrev pub BelowTwin : ℕ → List ℕ → List ℕ → Type 0
 BelowTwin k t p = Fits k (slash ∷ (codes "digitaltwins" ++ slash ∷ (t ++ slash ∷ p)))
 
-pub relationship_fits : (p : List ℕ) (k : ℕ) (s : List ℕ) → IsPart s → IsText p → first relationship_rows p ≡ Some k → BelowTwin k s (codes "relationships" ++ p)
+pub relationship_fits : (p : List ℕ) (k : ℕ) (s : List ℕ) → IsPathPart s → IsText p → first relationship_rows p ≡ Some k → BelowTwin k s (codes "relationships" ++ p)
 relationship_fits p k s part t e = by (either (if_word (slash ∷ []) p (first (prepend (param_token ∷ []) (ends (Some 3))) (drop 1 p))) (first (([], 4) ∷ []) p) k (sym (relationship_rows-first p) ∙ e))
   where
     by : (if_word (slash ∷ []) p (first (prepend (param_token ∷ []) (ends (Some 3))) (drop 1 p)) ≡ Some k) ⊎ (first (([], 4) ∷ []) p ≡ Some k) → BelowTwin k s (codes "relationships" ++ p)
@@ -221,7 +221,7 @@ relationship_fits p k s part t e = by (either (if_word (slash ∷ []) p (first (
         subst (λ (n : ℕ). BelowTwin n s (codes "relationships" ++ p)) w.1
         (s ∷ [], (slash ∷ (s ++ rest), refl, (s, [], rest, refl, part, refl, (p, refl, (refl, w.0)))))
 
-pub below_twin_fits : (p : List ℕ) (k : ℕ) (s : List ℕ) → IsPart s → IsText p → first twin_rows p ≡ Some k → BelowTwin k s p
+pub below_twin_fits : (p : List ℕ) (k : ℕ) (s : List ℕ) → IsPathPart s → IsText p → first twin_rows p ≡ Some k → BelowTwin k s p
 below_twin_fits p k s part t e = by (either _ _ k (sym (twin_rows-first p) ∙ e))
   where
     incoming : (if_word (codes "incomingrelationships") p (first (([], 2) ∷ []) (drop 21 p)) ≡ Some k)

@@ -1,6 +1,6 @@
 -- The ask that a request makes is sound, and a refusal that its bytes decide lists the methods of a path.
 use Rattle.std.proofs.Common.{◌≡◌, ◌≤◌, ℕ, List, length, true, refl, sym, subst, inl, inr}
-use Rattle.dtmi_name.specs.Grammar.{Identifier, OwnDtmiText, dtmi_text}
+use Rattle.dt_base.specs.names.Grammar.{Identifier, OwnDtmiText, dtmi_text}
 use Rattle.json_tree.specs.Values.{Json}
 use Rattle.json_tree.specs.Grammar.{Spells}
 use Rattle.http_ends.specs.declared.request.Request.{Request}
@@ -9,7 +9,7 @@ use Rattle.graph_asks.specs.declared.ask.Ask as ask_type
 use Rattle.graph_asks.specs.declared.ask.Ask.TheVariants as asks
 use Rattle.graph_asks.specs.declared.refusal.Refusal.{Refusal}
 use Rattle.graph_asks.specs.declared.refusal.Refusal.TheVariants as refusals
-use Rattle.graph_steps.specs.Soundness.{IsModelOf, IsSound}
+use Rattle.graph_steps.specs.Soundness.{IsModelOf, IsSoundAsk}
 use Rattle.graph_routes.specs.Methods.{allow_text, methods}
 use Rattle.graph_routes.specs.Parts.{NamesModel, part_at}
 use Rattle.graph_routes.specs.Bodies.{most_models}
@@ -24,7 +24,7 @@ use Rattle.graph_routes.specs.declared.prepared.Prepared.TheVariants.{Ask, Own}
 use Rattle.graph_routes.specs.declared.route.Route.{Route}
 use Rattle.graph_routes.specs.declared.route.Route.TheVariants as route
 use Rattle.graph_routes.proofs.Listed.{has, listed_method}
-use Rattle.graph_routes.proofs.SoundModels.{TypesAreTold, sound_models}
+use Rattle.graph_routes.proofs.SoundModels.{sound_models}
 use Rattle.graph_routes.proofs.SoundOutcome.{IsDecided, IsRight, right_body, right_by, right_named}
 use Rattle.graph_routes.proofs.SoundQueries.{right_query}
 use Rattle.graph_routes.proofs.SoundTwins.{right_incoming, right_link, right_links, right_part, right_twin}
@@ -49,17 +49,17 @@ model_of part id h =
     let spelled : percent_decode part ≡ dtmi_text id = h.text.text.form.spelled in
     (subst (λ (t : List ℕ). OwnDtmiText t id) spelled h.text, subst (λ (t : List ℕ). length t ≤ 128) spelled h.short)
 
-put : TypesAreTold → (body : List ℕ) (v : Json) (p : Prepared) → Spells body v → PutsModels v p → IsRight p
-put told body v p spelled (inl (many, e)) = right_by p (Own (refusals.TooManyModels most_models)) e tt
-put told body v p spelled (inr (inl (few, (r, (place, broken, pointer, first, is, x), e)))) = right_by p (Own r) e (subst IsDecided (sym x) tt)
-put told body v p spelled (inr (inr (few, (models, h, e)))) = right_by p (Ask (asks.PutModels models)) e (sound_models told body v models spelled h)
+put : (body : List ℕ) (v : Json) (p : Prepared) → Spells body v → PutsModels v p → IsRight p
+put body v p spelled (inl (many, e)) = right_by p (Own (refusals.TooManyModels most_models)) e tt
+put body v p spelled (inr (inl (few, (r, (place, broken, pointer, first, is, x), e)))) = right_by p (Own r) e (subst IsDecided (sym x) tt)
+put body v p spelled (inr (inr (few, (models, h, e)))) = right_by p (Ask (asks.PutModels models)) e (sound_models body v models spelled h)
 
-right_models : TypesAreTold → (m : Method) (body : List ℕ) (p : Prepared) → AsksModels m body p → has (methods route.Models) m ≡ true → IsRight p
-right_models told method.Get body p e there = right_by p (Ask asks.ListModels) e tt
-right_models told method.Post body p h there = right_body body PutsModels p (λ v spelled. put told body v p spelled) h
-right_models told method.Delete body p e there = absurd cc
-right_models told method.Patch body p e there = absurd cc
-right_models told method.Put body p e there = absurd cc
+right_models : (m : Method) (body : List ℕ) (p : Prepared) → AsksModels m body p → has (methods route.Models) m ≡ true → IsRight p
+right_models method.Get body p e there = right_by p (Ask asks.ListModels) e tt
+right_models method.Post body p h there = right_body body PutsModels p (λ v spelled. put body v p spelled) h
+right_models method.Delete body p e there = absurd cc
+right_models method.Patch body p e there = absurd cc
+right_models method.Put body p e there = absurd cc
 
 right_model : (m : Method) (part body : List ℕ) (p : Prepared) → AsksModel m part body p → has (methods route.Model) m ≡ true → IsRight p
 right_model method.Get part body p h there =
@@ -79,20 +79,20 @@ right_canon method.Patch p e there = absurd cc
 right_canon method.Post p e there = absurd cc
 right_canon method.Put p e there = absurd cc
 
-asked : TypesAreTold → (r : Route) (m : Method) (parts : List (List ℕ)) (request : Request) (p : Prepared) → Asks r m parts request p → has (methods r) m ≡ true → IsRight p
-asked told route.Models m parts request p h there = right_models told m request.body p h there
-asked told route.Model m parts request p h there = right_model m (part_at 0 parts) request.body p h there
-asked told route.Canon m parts request p h there = right_canon m p h there
-asked told route.Twin m parts request p h there = right_twin m (part_at 0 parts) request.body p h there
-asked told route.Component m parts request p h there = right_part m (part_at 0 parts) (part_at 1 parts) request.body p h there
-asked told route.Relationships m parts request p h there = right_links m (part_at 0 parts) request.query p h there
-asked told route.Relationship m parts request p h there = right_link m (part_at 0 parts) (part_at 1 parts) request.body p h there
-asked told route.IncomingRelationships m parts request p h there = right_incoming m (part_at 0 parts) request.query p h there
-asked told route.Query m parts request p h there = right_query m request.body p h there
+asked : (r : Route) (m : Method) (parts : List (List ℕ)) (request : Request) (p : Prepared) → Asks r m parts request p → has (methods r) m ≡ true → IsRight p
+asked route.Models m parts request p h there = right_models m request.body p h there
+asked route.Model m parts request p h there = right_model m (part_at 0 parts) request.body p h there
+asked route.Canon m parts request p h there = right_canon m p h there
+asked route.Twin m parts request p h there = right_twin m (part_at 0 parts) request.body p h there
+asked route.Component m parts request p h there = right_part m (part_at 0 parts) (part_at 1 parts) request.body p h there
+asked route.Relationships m parts request p h there = right_links m (part_at 0 parts) request.query p h there
+asked route.Relationship m parts request p h there = right_link m (part_at 0 parts) (part_at 1 parts) request.body p h there
+asked route.IncomingRelationships m parts request p h there = right_incoming m (part_at 0 parts) request.query p h there
+asked route.Query m parts request p h there = right_query m request.body p h there
 
 -- What is made of a request can be used.
 abbrev IsUsable : Prepared → Type 0
-IsUsable (Ask ask) = IsSound ask
+IsUsable (Ask ask) = IsSoundAsk ask
 IsUsable (Own refusal) = ListsMethods refusal
 
 lists : (r : Refusal) → IsDecided r → ListsMethods r
@@ -103,21 +103,21 @@ usable : (p : Prepared) → IsRight p → IsUsable p
 usable (Ask ask) h = h
 usable (Own refusal) h = lists refusal h
 
-all_usable : TypesAreTold → (request : Request) (p : Prepared) → IsPrepared request p → IsUsable p
+all_usable : (request : Request) (p : Prepared) → IsPrepared request p → IsUsable p
 unfolding IsPrepared
-all_usable told request p (inl (none, e)) = subst IsUsable (sym e) tt
-all_usable told request p (inr (r, parts, m, inl (none, e))) = subst IsUsable (sym e) (listed r)
-all_usable told request p (inr (r, parts, m, inr (n, is, h))) = usable p (asked told r n parts request p h (listed_method (methods r) n is.1))
+all_usable request p (inl (none, e)) = subst IsUsable (sym e) tt
+all_usable request p (inr (r, parts, m, inl (none, e))) = subst IsUsable (sym e) (listed r)
+all_usable request p (inr (r, parts, m, inr (n, is, h))) = usable p (asked r n parts request p h (listed_method (methods r) n is.1))
 
-pub sound_ask : TypesAreTold → (request : Request) (ask : ask_type.Ask) → IsPrepared request (Ask ask) → IsSound ask
-sound_ask told request ask h = all_usable told request (Ask ask) h
+pub sound_ask : (request : Request) (ask : ask_type.Ask) → IsPrepared request (Ask ask) → IsSoundAsk ask
+sound_ask request ask h = all_usable request (Ask ask) h
 
-pub lists_methods : TypesAreTold → (request : Request) (refusal : Refusal) → IsPrepared request (Own refusal) → ListsMethods refusal
-lists_methods told request refusal h = all_usable told request (Own refusal) h
+pub lists_methods : (request : Request) (refusal : Refusal) → IsPrepared request (Own refusal) → ListsMethods refusal
+lists_methods request refusal h = all_usable request (Own refusal) h
 
 -- a method is refused of a path that does not have it
-pub lacks_method : TypesAreTold → (request : Request) (allow : List ℕ) → IsPrepared request (Own (refusals.BadMethod allow)) → LacksMethod request
+pub lacks_method : (request : Request) (allow : List ℕ) → IsPrepared request (Own (refusals.BadMethod allow)) → LacksMethod request
 unfolding IsPrepared
-lacks_method told request allow (inl (none, e)) = absurd (subst IsRight (sym e) tt)
-lacks_method told request allow (inr (r, parts, m, inl (none, e))) = (r, parts, m, none)
-lacks_method told request allow (inr (r, parts, m, inr (n, is, h))) = absurd (asked told r n parts request (Own (refusals.BadMethod allow)) h (listed_method (methods r) n is.1))
+lacks_method request allow (inl (none, e)) = absurd (subst IsRight (sym e) tt)
+lacks_method request allow (inr (r, parts, m, inl (none, e))) = (r, parts, m, none)
+lacks_method request allow (inr (r, parts, m, inr (n, is, h))) = absurd (asked r n parts request (Own (refusals.BadMethod allow)) h (listed_method (methods r) n is.1))

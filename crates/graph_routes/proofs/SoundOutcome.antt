@@ -12,13 +12,13 @@ use Rattle.twin_value.specs.declared.code.BodyCode.{BodyCode}
 use Rattle.graph_asks.specs.declared.ask.Ask as ask_type
 use Rattle.graph_asks.specs.declared.refusal.Refusal.{Refusal}
 use Rattle.graph_asks.specs.declared.refusal.Refusal.TheVariants as refusals
-use Rattle.graph_steps.specs.Soundness.{IsReadPatch, IsReadValue, IsSound}
+use Rattle.graph_steps.specs.Soundness.{IsReadPatch, IsReadValue, IsSoundAsk}
 use Rattle.graph_routes.specs.Bodies.{RefusesFor}
 use Rattle.graph_routes.specs.Identifiers.{first_difference}
 use Rattle.graph_routes.specs.Outcomes.{Named, WithBody, WithPatch, WithValue}
 use Rattle.graph_routes.specs.declared.prepared.Prepared.{Prepared}
 use Rattle.graph_routes.specs.declared.prepared.Prepared.TheVariants.{Ask, Own}
-use Rattle.graph_routes.proofs.DistinctKeys.{spelled_distinct}
+use Rattle.json_tree.proofs.DistinctKeys.{spelled_distinct}
 use Rattle.graph_routes.proofs.Nested.{spelled_nests}
 
 -- What is right of a refusal that comes of an ask: it is not that of a method, which the path alone decides.
@@ -28,7 +28,7 @@ IsDecided other = Unit {0}
 
 -- What is right of an answer: its ask is sound, or its refusal is right.
 abbrev pub IsRight : Prepared → Type 0
-IsRight (Ask ask) = IsSound ask
+IsRight (Ask ask) = IsSoundAsk ask
 IsRight (Own refusal) = IsDecided refusal
 
 pub right_by : (p q : Prepared) → p ≡ q → IsRight q → IsRight p
@@ -53,7 +53,7 @@ pub right_body : (body : List ℕ) (Gives : Json → Prepared → Type 0) (p : P
 right_body body Gives p right (inl (r, (fault, is, x), e)) = right_by p (Own r) e (for_fault body fault r x)
 right_body body Gives p right (inr (v, spelled, h)) = right v spelled h
 
-pub right_patch : (of : PatchOf) (ask : Patch → ask_type.Ask) (v : Json) (p : Prepared) → IsReadValue v → ((patch : Patch) → IsReadPatch of patch → IsSound (ask patch)) → WithPatch of ask v p → IsRight p
+pub right_patch : (of : PatchOf) (ask : Patch → ask_type.Ask) (v : Json) (p : Prepared) → IsReadValue v → ((patch : Patch) → IsReadPatch of patch → IsSoundAsk (ask patch)) → WithPatch of ask v p → IsRight p
 right_patch of ask v p read sound (inl (r, (index, code, h, x), e)) = right_by p (Own r) e (subst IsDecided (sym x) tt)
 right_patch of ask v p read sound (inr (patch, is, e)) = right_by p (Ask (ask patch)) e (sound patch (v, read, is))
 

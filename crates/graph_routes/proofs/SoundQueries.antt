@@ -1,7 +1,7 @@
 -- The asks for rows that requests make are sound.
 use Rattle.std.proofs.Common.{◌≡◌, ℕ, List, true, Ok, Err}
 use Rattle.json_tree.specs.Values.{Json}
-use Rattle.query_bodies.specs.Outcomes.{IsMadeOfBody, Outcome}
+use Rattle.query_bodies.specs.Outcomes.{IsMadeOfBody, AskOrRefusal}
 use Rattle.query_bodies.proofs.Soundly.{IsOfBody, of_body, sound}
 use Rattle.graph_asks.specs.declared.refusal.Refusal.{Refusal}
 use Rattle.graph_asks.specs.declared.refusal.Refusal.TheVariants as refusals
@@ -18,7 +18,7 @@ decided : (r : Refusal) → IsOfBody r → IsDecided r
 decided (refusals.BadMethod allow) h = absurd h
 decided other h = tt
 
-right_outcome : (v : Json) (x : Outcome) → IsMadeOfBody v x → IsRight (prepared_of x)
+right_outcome : (v : Json) (x : AskOrRefusal) → IsMadeOfBody v x → IsRight (prepared_of x)
 right_outcome v (Ok ask) h = sound v ask h
 right_outcome v (Err refusal) h = decided refusal (of_body v refusal h)
 

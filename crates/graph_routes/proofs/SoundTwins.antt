@@ -12,10 +12,10 @@ use Rattle.graph_asks.specs.declared.ask.Ask.TheVariants as asks
 use Rattle.graph_asks.specs.declared.refusal.Refusal.TheVariants as refusals
 use Rattle.graph_steps.specs.Soundness.{IsLinkBody, IsReadValue, IsTwinBody}
 use Rattle.graph_routes.specs.Methods.{methods}
-use Rattle.graph_routes.specs.Parts.{NamesComponent}
+use Rattle.graph_routes.specs.Parts.{NamesComponentPart}
 use Rattle.graph_routes.specs.Identifiers.{link_ids, twin_ids}
 use Rattle.graph_routes.specs.Outcomes.{Named, WithBody}
-use Rattle.graph_routes.specs.Parameters.{BeginsPast, BeginsPastPair, name_asked, token_given}
+use Rattle.graph_routes.specs.Parameters.{BeginsPastId, BeginsPastPair, name_asked, token_given}
 use Rattle.graph_routes.specs.TwinRequests.{AsksPart, AsksTwin, PatchesPart, PatchesTwin, PutsTwin, TakesTwin, WithComponent, WithId}
 use Rattle.graph_routes.specs.LinkRequests.{AsksIncoming, AsksLink, AsksLinks, PatchesLink, PutsLink, TakesLink}
 use Rattle.graph_routes.specs.declared.method.Method.{Method}
@@ -31,8 +31,8 @@ use Rattle.graph_routes.proofs.SoundOutcome.{IsRight, read_value, right_body, ri
 right_id : (at : ℕ) (part : List ℕ) (Gives : List ℕ → Prepared → Type 0) (p : Prepared) → ((id : List ℕ) → IsTwinId id → Gives id p → IsRight p) → WithId at part Gives p → IsRight p
 right_id at part Gives p right h = right_named (NamesId part) (refusals.BadId at) Gives p tt (λ id is g. right id is.grammar g) h
 
-right_component : (part : List ℕ) (Gives : List ℕ → Prepared → Type 0) (p : Prepared) → ((name : List ℕ) → NamesComponent part name → Gives name p → IsRight p) → WithComponent part Gives p → IsRight p
-right_component part Gives p right h = right_named (NamesComponent part) (refusals.BadId 1) Gives p tt right h
+right_component : (part : List ℕ) (Gives : List ℕ → Prepared → Type 0) (p : Prepared) → ((name : List ℕ) → NamesComponentPart part name → Gives name p → IsRight p) → WithComponent part Gives p → IsRight p
+right_component part Gives p right h = right_named (NamesComponentPart part) (refusals.BadId 1) Gives p tt right h
 
 -- ---- twins
 right_taken : (id : List ℕ) (v : Json) (p : Prepared) → IsTwinId id → IsReadValue v → PutsTwin id v p → IsRight p
@@ -107,7 +107,7 @@ ids_are [] (x ∷ xs) h = absurd h
 ids_are (part ∷ parts) [] h = absurd h
 ids_are (part ∷ parts) (x ∷ xs) h = (h.0.grammar, ids_are parts xs h.1)
 
-past_is : (token after : Option (List ℕ)) → BeginsPast token after → IfSome after IsTwinId
+past_is : (token after : Option (List ℕ)) → BeginsPastId token after → IfSome after IsTwinId
 past_is None after e = subst (λ (o : Option (List ℕ)). IfSome o IsTwinId) (sym e) tt
 past_is (Some token) after (id, is, e) = subst (λ (o : Option (List ℕ)). IfSome o IsTwinId) (sym e) (ids_are (token_parts token) (id ∷ []) is.named).0
 
@@ -122,8 +122,8 @@ past_pair_is (Some token) after (source, id, is, e) =
 
 pub right_links : (m : Method) (part query : List ℕ) (p : Prepared) → AsksLinks m part query p → has (methods route.Relationships) m ≡ true → IsRight p
 right_links method.Get part query p h there =
-    right_id 0 part (λ source. Named (BeginsPast (token_given query)) refusals.BadToken (λ after given. given ≡ Ask (asks.ListOut source (name_asked query) after))) p
-    (λ source from. right_named (BeginsPast (token_given query)) refusals.BadToken (λ after given. given ≡ Ask (asks.ListOut source (name_asked query) after)) p tt
+    right_id 0 part (λ source. Named (BeginsPastId (token_given query)) refusals.BadToken (λ after given. given ≡ Ask (asks.ListOut source (name_asked query) after))) p
+    (λ source from. right_named (BeginsPastId (token_given query)) refusals.BadToken (λ after given. given ≡ Ask (asks.ListOut source (name_asked query) after)) p tt
     (λ after is e. right_by p (Ask (asks.ListOut source (name_asked query) after)) e (from, past_is (token_given query) after is))) h
 right_links method.Delete part query p e there = absurd cc
 right_links method.Patch part query p e there = absurd cc

@@ -15,7 +15,7 @@ use Rattle.model_read.specs.Uploads.{AreUploaded}
 use Rattle.dtdl_terms.specs.declared.uploaded.Uploaded.{Uploaded}
 use Rattle.twin_patch.specs.Codes.{code_text}
 use Rattle.twin_patch.specs.Operations.{Change, add, replace, remove, Operation}
-use Rattle.twin_patch.specs.Reading.{IsPatch, IsFault as IsPatchFault}
+use Rattle.twin_patch.specs.Reading.{IsPatch, IsPatchFault}
 use Rattle.twin_patch.specs.declared.code.PatchCode.{PatchCode}
 use Rattle.twin_patch.specs.declared.entry.PatchOf.{PatchOf}
 use Rattle.twin_patch.specs.declared.entry.PatchOf.TheVariants as patches

@@ -5,13 +5,13 @@ use Rattle.json_tree.specs.View.{view}
 use Rattle.json_tree.specs.declared.tree.Tree.{Tree}
 use Rattle.twin_patch.specs.declared.entry.PatchOf.TheVariants as patches
 use Rattle.twin_patch.specs.declared.patch.Patch.{Patch}
-use Rattle.dtmi_name.specs.Grammar.{NameText}
+use Rattle.dt_base.specs.names.Grammar.{NameText}
 use Rattle.twin_value.specs.Breaches.{IsOuterLinkBreach, IsTwinId, text_under}
 use Rattle.graph_asks.specs.declared.ask.Ask.TheVariants as asks
 use Rattle.graph_asks.specs.declared.refusal.Refusal.TheVariants as refusals
 use Rattle.graph_routes.specs.Identifiers.{link_ids}
 use Rattle.graph_routes.specs.Outcomes.{Named, WithBody, WithPatch, WithValue, not_allowed}
-use Rattle.graph_routes.specs.Parameters.{BeginsPast, BeginsPastPair, name_asked, token_given}
+use Rattle.graph_routes.specs.Parameters.{BeginsPastId, BeginsPastPair, name_asked, token_given}
 use Rattle.graph_routes.specs.TwinRequests.{WithId}
 use Rattle.graph_routes.specs.declared.method.Method.{Method}
 use Rattle.graph_routes.specs.declared.method.Method.TheVariants as method
@@ -43,7 +43,7 @@ AsksLink other part second body answer = answer ≡ not_allowed route.Relationsh
 -- `/digitaltwins/{id}/relationships` with this part and these parameters.
 abbrev pub AsksLinks : Method → List ℕ → List ℕ → Prepared → Type 0
 AsksLinks method.Get part query answer = WithId 0 part
-    (λ source. Named (BeginsPast (token_given query)) refusals.BadToken (λ after given. given ≡ Ask (asks.ListOut source (name_asked query) after))) answer
+    (λ source. Named (BeginsPastId (token_given query)) refusals.BadToken (λ after given. given ≡ Ask (asks.ListOut source (name_asked query) after))) answer
 AsksLinks other part query answer = answer ≡ not_allowed route.Relationships
 
 -- `/digitaltwins/{id}/incomingrelationships` with this part and these parameters.

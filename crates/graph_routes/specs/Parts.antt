@@ -2,7 +2,7 @@
 use Rattle.std.specs.Prelude.{◌≡◌, ℕ, ◌≤◌, List, [], length, get_or}
 use Rattle.std.specs.Str.{IsUtf8}
 use Rattle.percent_encoding.specs.Percent.{percent_decode}
-use Rattle.dtmi_name.specs.Grammar.{Identifier, NameText, OwnDtmiText}
+use Rattle.dt_base.specs.names.Grammar.{Identifier, NameText, OwnDtmiText}
 
 -- The part at a position, counted from 0.
 abbrev pub part_at : ℕ → List (List ℕ) → List ℕ
@@ -16,6 +16,6 @@ pub record NamesModel (part : List ℕ) (id : Identifier) : Type 0 where
   pub short : length (percent_decode part) ≤ 128
 
 -- The part names this component: decoded in the same way, it is a name.
-pub record NamesComponent (part name : List ℕ) : Type 0 where
+pub record NamesComponentPart (part name : List ℕ) : Type 0 where
   pub decoded : percent_decode part ≡ name
   pub grammar : NameText name

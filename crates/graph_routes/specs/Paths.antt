@@ -26,7 +26,7 @@ abbrev pub slash : ℕ
 slash = 47
 
 -- A text that may stand for a part.
-pub record IsPart (text : List ℕ) : Type 0 where
+pub record IsPathPart (text : List ℕ) : Type 0 where
   pub some : text ≢ []
   pub one : AllByRecursion (λ b. b ≢ slash) text
 
@@ -35,7 +35,7 @@ abbrev pub ConsistsOf : List Piece → List (List ℕ) → List ℕ → Type 0
 ConsistsOf [] parts path = (parts ≡ []) × (path ≡ [])
 ConsistsOf (word text ∷ more) parts path = (rest : List ℕ) × (path ≡ slash ∷ (text ++ rest)) × ConsistsOf more parts rest
 ConsistsOf (part ∷ more) parts path = (text : List ℕ) × (texts : List (List ℕ)) × (rest : List ℕ)
-    × (parts ≡ text ∷ texts) × IsPart text × (path ≡ slash ∷ (text ++ rest)) × ConsistsOf more texts rest
+    × (parts ≡ text ∷ texts) × IsPathPart text × (path ≡ slash ∷ (text ++ rest)) × ConsistsOf more texts rest
 
 -- The path is this one of the table, with these texts for its parts, as they stand, before anything is decoded.
 abbrev pub Matches : Route → List (List ℕ) → List ℕ → Type 0

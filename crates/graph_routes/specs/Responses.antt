@@ -8,7 +8,7 @@ use Rattle.graph_asks.specs.declared.refusal.Refusal.{Refusal}
 use Rattle.graph_asks.specs.declared.refusal.Refusal.TheVariants as refusals
 use Rattle.graph_asks.specs.declared.reply.Reply.{Reply}
 use Rattle.graph_asks.specs.declared.reply.Reply.TheVariants as replies
-use Rattle.graph_routes.specs.Errors.{refusal_text, status_of}
+use Rattle.graph_routes.specs.Errors.{refusal_body, status_of}
 
 -- The methods that a refusal lists: those of a path that does not have the method of the request.
 abbrev pub allow_of : Refusal → Option (List ℕ)
@@ -16,7 +16,7 @@ allow_of (refusals.BadMethod allow) = Some allow
 allow_of other = None
 
 unfoldable pub response_to : Refusal → Response
-response_to refusal = record { status = status_of refusal; allow = allow_of refusal; body = refusal_text refusal }
+response_to refusal = record { status = status_of refusal; allow = allow_of refusal; body = refusal_body refusal }
 
 abbrev pub plain : ℕ → List ℕ → Response
 plain status body = record { status = status; allow = None; body = body }
@@ -28,12 +28,6 @@ response_for (replies.Created tree) = plain 201 (printed (view tree))
 response_for (replies.Canon bytes) = plain 200 bytes
 response_for replies.Done = plain 204 []
 response_for (replies.Refused refusal) = response_to refusal
-
--- The response can be written as a reply of HTTP/1.1.
-pub record IsWritable (r : Response) : Type 0 where
-  pub status : IsSome (phrase_of r.status)
-  pub allow : IsAllowed r.status r.allow
-  pub empty : r.status ≡ 204 → r.body ≡ []
 
 -- The methods that the refusal lists, if it lists any, are those of a path.
 abbrev pub ListsMethods : Refusal → Type 0

@@ -3,7 +3,7 @@ use Rattle.std.specs.Prelude.{◌≡◌, ℕ, List, Some}
 use Rattle.json_tree.specs.Values.{Json}
 use Rattle.json_tree.specs.View.{view}
 use Rattle.json_tree.specs.declared.tree.Tree.{Tree}
-use Rattle.dtmi_name.specs.Grammar.{Identifier, dtmi_text}
+use Rattle.dt_base.specs.names.Grammar.{Identifier, dtmi_text}
 use Rattle.twin_patch.specs.declared.entry.PatchOf.TheVariants as patches
 use Rattle.twin_patch.specs.declared.patch.Patch.{Patch}
 use Rattle.twin_value.specs.Breaches.{IsOuterBreach}
@@ -12,7 +12,7 @@ use Rattle.page_tokens.specs.Tokens.{NamesId}
 use Rattle.graph_asks.specs.declared.ask.Ask.TheVariants as asks
 use Rattle.graph_asks.specs.declared.refusal.Refusal.TheVariants as refusals
 use Rattle.graph_steps.specs.Soundness.{IsModelOf}
-use Rattle.graph_routes.specs.Parts.{NamesComponent}
+use Rattle.graph_routes.specs.Parts.{NamesComponentPart}
 use Rattle.graph_routes.specs.Identifiers.{twin_ids}
 use Rattle.graph_routes.specs.Outcomes.{Named, WithBody, WithPatch, WithValue, not_allowed}
 use Rattle.graph_routes.specs.declared.method.Method.{Method}
@@ -27,7 +27,7 @@ WithId at part Gives answer = Named (NamesId part) (refusals.BadId at) Gives ans
 
 -- The second part, which has to name a component.
 abbrev pub WithComponent : List ℕ → (List ℕ → Prepared → Type 0) → Prepared → Type 0
-WithComponent part Gives answer = Named (NamesComponent part) (refusals.BadId 1) Gives answer
+WithComponent part Gives answer = Named (NamesComponentPart part) (refusals.BadId 1) Gives answer
 
 -- The ask with the value as a twin of this id, of the model that the value names.
 abbrev pub TakesTwin : List ℕ → Json → Prepared → Type 0

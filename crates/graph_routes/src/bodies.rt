@@ -15,8 +15,8 @@ ghost use Rattle.graph_routes.specs.Outcomes.{WithBody};
 ghost use Rattle.graph_asks.specs.declared.refusal.Refusal.TheVariants as refusals;
 
 use crate::prepared::Prepared;
+use dt_base::names::Dtmi;
 use dt_base::{OutOfMemory, Text};
-use dtmi_name::Dtmi;
 use graph_asks::{Ask, At, Refusal};
 use json_read::{JsonFault, pointer_in, read};
 use json_tree::{Place, Tree, pointer_of};

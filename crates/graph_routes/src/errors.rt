@@ -1,7 +1,7 @@
 //! The bodies of refusals.
 
 ghost use Rattle.std.specs.Prelude.{◌≡◌, ◌≢◌, ◌++◌, ◌∷◌, [], codes, string_bytes, IfOk, OnOk};
-ghost use Rattle.graph_routes.specs.Errors.{code, count, error_text, fault_word, place_member, refusal_text, word};
+ghost use Rattle.graph_routes.specs.Errors.{code, count, error_text, fault_word, place_member, refusal_body, text_member};
 ghost use Rattle.graph_routes.specs.Machinery.Groups.{refusal_group};
 
 use dt_base::{List, OutOfMemory};
@@ -31,7 +31,7 @@ fn close(mut text: String) -> Result<List<u8>, OutOfMemory>
 
 /// Appends a member with a text.
 fn push_word(out: &mut String, key: &str, text: &str) -> Result<(), AllocError>
-    ensures { OnOk result (string_bytes out.new ≡ string_bytes out.old ++ word key.now text.now) }
+    ensures { OnOk result (string_bytes out.new ≡ string_bytes out.old ++ text_member key.now text.now) }
 {
     push_quoted(out, key)?;
     out.push(':')?;
@@ -68,7 +68,7 @@ fn bare(alloc: Global, name: &str) -> Result<List<u8>, OutOfMemory>
 
 /// The body with a code and a text.
 fn with_word(alloc: Global, name: &str, key: &str, text: &str) -> Result<List<u8>, OutOfMemory>
-    ensures { IfOk result (λ body. body ≡ error_text (code name.now ∷ word key.now text.now ∷ [])) }
+    ensures { IfOk result (λ body. body ≡ error_text (code name.now ∷ text_member key.now text.now ∷ [])) }
 {
     let mut out = open(alloc)?;
     push_word(&mut out, "code", name)?;
@@ -95,7 +95,7 @@ fn with_words(
     first: (&str, &str),
     second: (&str, &str),
 ) -> Result<List<u8>, OutOfMemory>
-    ensures { IfOk result (λ body. body ≡ error_text (code name.now ∷ word first.entry.0.now first.entry.1.now ∷ word second.entry.0.now second.entry.1.now ∷ [])) }
+    ensures { IfOk result (λ body. body ≡ error_text (code name.now ∷ text_member first.entry.0.now first.entry.1.now ∷ text_member second.entry.0.now second.entry.1.now ∷ [])) }
 {
     let mut out = open(alloc)?;
     push_word(&mut out, "code", name)?;
@@ -146,7 +146,7 @@ fn patch_fault(alloc: Global, fault: &str, index: u64) -> Result<List<u8>, OutOf
 
 /// The body that tells which model names the one that is to go.
 fn in_use(alloc: Global, by: &str) -> Result<List<u8>, OutOfMemory>
-    ensures { IfOk result (λ body. body ≡ error_text (word (codes "by") by.now ∷ code (codes "ModelInUse") ∷ [])) }
+    ensures { IfOk result (λ body. body ≡ error_text (text_member (codes "by") by.now ∷ code (codes "ModelInUse") ∷ [])) }
 {
     let mut out = open(alloc)?;
     push_word(&mut out, "by", by)?;
@@ -157,7 +157,7 @@ fn in_use(alloc: Global, by: &str) -> Result<List<u8>, OutOfMemory>
 
 /// The body of a refusal.
 pub fn body_of(alloc: Global, refusal: &Refusal) -> Result<List<u8>, OutOfMemory>
-    ensures { IfOk result (λ body. body ≡ refusal_text refusal.now) }
+    ensures { IfOk result (λ body. body ≡ refusal_body refusal.now) }
 {
     match refusal {
         Refusal::NoRoute => bare(alloc, "NoRoute"),
@@ -176,7 +176,7 @@ pub fn body_of(alloc: Global, refusal: &Refusal) -> Result<List<u8>, OutOfMemory
 /// The same of a refusal that `body_of` leaves to it.
 fn body_of_fault(alloc: Global, refusal: &Refusal) -> Result<List<u8>, OutOfMemory>
     requires { refusal_group refusal.now ≢ 0 }
-    ensures { IfOk result (λ body. body ≡ refusal_text refusal.now) }
+    ensures { IfOk result (λ body. body ≡ refusal_body refusal.now) }
 {
     match refusal {
         Refusal::JsonFault { at, fault } => {
@@ -221,7 +221,7 @@ fn body_of_fault(alloc: Global, refusal: &Refusal) -> Result<List<u8>, OutOfMemo
 /// The same of a refusal that both leave to it.
 fn body_of_state(alloc: Global, refusal: &Refusal) -> Result<List<u8>, OutOfMemory>
     requires { refusal_group refusal.now ≡ 2 }
-    ensures { IfOk result (λ body. body ≡ refusal_text refusal.now) }
+    ensures { IfOk result (λ body. body ≡ refusal_body refusal.now) }
 {
     match refusal {
         Refusal::ModelNotFound { id } => with_word(alloc, "ModelNotFound", "id", id.as_str()),

@@ -1,6 +1,10 @@
 //! What the definitions of prepared requests say, whatever is asked.
 
 ghost use Rattle.std.specs.Prelude.{ℕ, List};
+ghost use Rattle.json_tree.specs.Values.{HasDistinctKeys, Json};
+ghost use Rattle.dtdl_terms.specs.declared.uploaded.Uploaded.{Uploaded};
+ghost use Rattle.local_rules.specs.Breaches.{BreaksNoLocalRule};
+ghost use Rattle.model_read.specs.Uploads.{AreUploaded};
 ghost use Rattle.http_ends.specs.declared.request.Request.{Request};
 ghost use Rattle.graph_asks.specs.declared.ask.Ask.{Ask};
 ghost use Rattle.graph_asks.specs.declared.refusal.Refusal.{Refusal};
@@ -9,11 +13,16 @@ ghost use Rattle.graph_routes.specs.Prepared.{ArePreparedAlike, IsPrepared, Lack
 ghost use Rattle.graph_routes.specs.Responses.{ListsMethods};
 ghost use Rattle.graph_routes.specs.declared.prepared.Prepared.{Prepared};
 ghost use Rattle.graph_routes.specs.declared.prepared.Prepared.TheVariants as made;
-ghost use Rattle.graph_steps.specs.Soundness.{IsSound};
+ghost use Rattle.graph_steps.specs.Soundness.{AreSoundUploads, IsSoundAsk};
 
-use canon_laws::have_types;
 use json_decimal::one_number;
 use twin_patch::one_answer;
+
+/// The interfaces of a document without breach may be asked for together, in their order, where no object in the document
+/// has two members of one key, as in each document that was read from a text.
+pub fn documents_are_sound()
+    ensures { (whole : Json) (nth : ℕ) (us : List Uploaded) → HasDistinctKeys whole → BreaksNoLocalRule whole → AreUploaded whole nth us → AreSoundUploads us }
+{}
 
 /// A request makes at most one ask, or its bytes decide at most one refusal, and never both. Two asks are one but for where
 /// their trees, patches and queries lie in memory.
@@ -27,9 +36,7 @@ pub fn one_prepared()
 /// What is made of a request can be used: an ask is sound, and a refusal can be written as a reply. A method is refused only where
 /// the path does not have it, so each method that a path lists is asked something.
 pub fn prepared_is_right()
-    ensures sound { (request : Request) (ask : Ask) → IsPrepared request (made.Ask ask) → IsSound ask }
+    ensures sound { (request : Request) (ask : Ask) → IsPrepared request (made.Ask ask) → IsSoundAsk ask }
     ensures lacks { (request : Request) (allow : List ℕ) → IsPrepared request (made.Own (refusals.BadMethod allow)) → LacksMethod request }
     ensures written { (request : Request) (refusal : Refusal) → IsPrepared request (made.Own refusal) → ListsMethods refusal }
-{
-    have_types();
-}
+{}

@@ -1,7 +1,7 @@
 //! What is asked of the paths of relationships.
 
 ghost use Rattle.std.specs.Prelude.{◌≡◌, Some, ℕ, List, IfOk, codes};
-ghost use Rattle.dtmi_name.specs.Grammar.{NameText};
+ghost use Rattle.dt_base.specs.names.Grammar.{NameText};
 ghost use Rattle.json_tree.specs.View.{view};
 ghost use Rattle.twin_value.specs.Breaches.{HasNoBreach, IsOuterLinkBreach, IsTwinId, text_under};
 ghost use Rattle.graph_routes.specs.Outcomes.{WithBody};
@@ -16,8 +16,8 @@ use crate::parameters::{Page, PairPage, begins_past, begins_past_pair, name_aske
 use crate::patches::patch_in;
 use crate::prepared::Prepared;
 use crate::route::Route;
+use dt_base::names::is_name;
 use dt_base::{OutOfMemory, Text};
-use dtmi_name::is_name;
 use graph_asks::{Ask, Refusal};
 use json_read::read;
 use json_tree::Tree;

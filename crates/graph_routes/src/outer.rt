@@ -4,7 +4,8 @@ ghost use Rattle.std.specs.Prelude.{◌≡◌, Some, IfOk, MatchOption};
 ghost use Rattle.json_tree.specs.View.{view};
 ghost use Rattle.twin_value.specs.Breaches.{HasNoBreach, IsOuterBreach, IsOuterLinkBreach};
 ghost use Rattle.graph_steps.specs.TwinAsks.{BodyFault};
-ghost use Rattle.graph_routes.specs.Machinery.Found.{IsSomewhere, NamesFault};
+ghost use Rattle.graph_routes.specs.Machinery.Found.{NamesFault};
+ghost use Rattle.json_tree.specs.Places.{IsSomewhere};
 
 use dt_base::{OutOfMemory, Text};
 use graph_asks::{At, Refusal};

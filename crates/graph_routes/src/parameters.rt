@@ -1,7 +1,7 @@
 //! The parameters behind the `?` of a request's target.
 
 ghost use Rattle.std.specs.Prelude.{◌≡◌, ℕ, List, Option, IfOk, bytes_eq};
-ghost use Rattle.graph_routes.specs.Parameters.{BeginsPast, BeginsPastPair, form_text, name_asked, parameter, token_given};
+ghost use Rattle.graph_routes.specs.Parameters.{BeginsPastId, BeginsPastPair, form_text, name_asked, parameter, token_given};
 ghost use Rattle.graph_routes.specs.Machinery.Pages.{ReadsPage, ReadsPairPage};
 
 use dt_base::{OutOfMemory, Text};

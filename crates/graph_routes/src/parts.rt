@@ -3,13 +3,13 @@
 ghost use Rattle.std.specs.Prelude.{◌≡◌, ◌≤◌, ◌↔◌, ◌==◌, ◌+◌, [], ℕ, List, drop, length, get_or, slice_get, IfOk, IsTrue, MatchOption};
 ghost use Rattle.std.specs.List.{position_or_len, slice_split};
 ghost use Rattle.std.specs.Option.{option_map};
-ghost use Rattle.dtmi_name.specs.Grammar.{Identifier, NameText, OwnDtmiText};
-ghost use Rattle.graph_routes.specs.Parts.{NamesComponent, NamesModel, part_at};
+ghost use Rattle.dt_base.specs.names.Grammar.{Identifier, NameText, OwnDtmiText};
+ghost use Rattle.graph_routes.specs.Parts.{NamesComponentPart, NamesModel, part_at};
 ghost use Rattle.graph_routes.specs.Paths.{Matches};
 ghost use Rattle.graph_routes.specs.declared.route.Route.{Route};
 
+use dt_base::names::{Dtmi, NameFault, is_name};
 use dt_base::{OutOfMemory, Text};
-use dtmi_name::{Dtmi, NameFault, is_name};
 use percent_encoding::{DecodeError, percent_decode};
 use std::alloc::Global;
 
@@ -130,7 +130,7 @@ fn read_name(alloc: Global, text: &str) -> Result<Option<Text>, OutOfMemory>
 
 /// The component that a part of a path names. Only want of memory makes it fail.
 pub fn component_named(alloc: Global, part: &str) -> Result<Option<Text>, OutOfMemory>
-    ensures { IfOk result (λ found. MatchOption found ((name : List ℕ) → NamesComponent part.now name → ⊥) (λ name. NamesComponent part.now name)) }
+    ensures { IfOk result (λ found. MatchOption found ((name : List ℕ) → NamesComponentPart part.now name → ⊥) (λ name. NamesComponentPart part.now name)) }
 {
     match percent_decode(part.as_bytes()).decode_utf8(alloc) {
         Ok(text) => read_name(alloc, &text),

@@ -5,7 +5,7 @@ ghost use Rattle.json_tree.specs.View.{view};
 ghost use Rattle.twin_patch.specs.Operations.{operations_of};
 ghost use Rattle.twin_patch.specs.Reading.{IsPatch};
 ghost use Rattle.graph_routes.specs.Bodies.{RefusesPatch};
-ghost use Rattle.graph_routes.specs.Machinery.Found.{ReadsPatch};
+ghost use Rattle.graph_routes.specs.Machinery.Found.{ReadsPatchBody};
 
 use crate::bodies::fault_refusal;
 use dt_base::{OutOfMemory, Text};
@@ -35,7 +35,7 @@ pub fn patch_in(
     body: &[u8],
     of: PatchOf,
 ) -> Result<Result<Patch, Refusal>, OutOfMemory>
-    ensures { IfOk result (ReadsPatch of body.now) }
+    ensures { IfOk result (ReadsPatchBody of body.now) }
 {
     match read(alloc, body) {
         Ok(tree) => patch_of(alloc, &tree, of),

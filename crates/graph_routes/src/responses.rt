@@ -4,7 +4,8 @@ ghost use Rattle.std.specs.Prelude.{◌≡◌, IfOk};
 ghost use Rattle.json_tree.specs.Printing.{printed};
 ghost use Rattle.json_tree.specs.View.{view};
 ghost use Rattle.graph_routes.specs.Errors.{status_of};
-ghost use Rattle.graph_routes.specs.Responses.{AnswersMethods, IsWritable, ListsMethods, allow_of, plain, response_for, response_to};
+ghost use Rattle.graph_routes.specs.Responses.{AnswersMethods, ListsMethods, allow_of, plain, response_for, response_to};
+ghost use Rattle.http_ends.specs.Replies.{IsWritable};
 
 use crate::errors::body_of;
 use dt_base::{List, OutOfMemory, Text};

@@ -1,7 +1,7 @@
 //! What is asked of the paths of twins and their components.
 
 ghost use Rattle.std.specs.Prelude.{◌≡◌, Some, ℕ, List, IfOk};
-ghost use Rattle.dtmi_name.specs.Grammar.{dtmi_text};
+ghost use Rattle.dt_base.specs.names.Grammar.{dtmi_text};
 ghost use Rattle.json_tree.specs.View.{view};
 ghost use Rattle.twin_value.specs.Breaches.{HasNoBreach, IsOuterBreach};
 ghost use Rattle.twin_value.specs.Twins.{model_text};
@@ -18,8 +18,8 @@ use crate::parts::{component_named, read_model};
 use crate::patches::patch_in;
 use crate::prepared::Prepared;
 use crate::route::Route;
+use dt_base::names::Dtmi;
 use dt_base::{OutOfMemory, Text};
-use dtmi_name::Dtmi;
 use graph_asks::Ask;
 use json_read::read;
 use json_tree::Tree;

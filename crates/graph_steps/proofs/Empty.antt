@@ -5,7 +5,7 @@ use Rattle.std.specs.Ordering.{nat_cmp}
 use Rattle.std.specs.List.Sorted.{IsStrictlySortedBy}
 use Rattle.std.proofs.lemmas.Option.{none-some}
 use Rattle.dtdl_terms.specs.Sets.{InOrder as InterfacesInOrder}
-use Rattle.rel_graph.specs.Edges.{InOrder}
+use Rattle.rel_graph.specs.Edges.{EdgesInOrder}
 use Rattle.model_life.specs.Sums.{AreWithinLimits}
 use Rattle.graph_steps.specs.States.{Link, empty}
 use Rattle.graph_steps.specs.Typed.{AreSound, WellTyped}
@@ -18,7 +18,7 @@ no_twins : IsStrictlySortedBy {K = List ℕ} (slice_cmp nat_cmp) []
 unfolding IsStrictlySortedBy
 no_twins = tt
 
-no_links : (ls : List Link) → ls ≡ [] → InOrder ls
+no_links : (ls : List Link) → ls ≡ [] → EdgesInOrder ls
 unfolding IsStrictlySortedBy
 no_links [] e = tt
 no_links (l ∷ ls) e = absurd cc

@@ -1,5 +1,3 @@
 pub mod Empty
 pub mod OneAnswer
-pub mod Ordinals
-pub mod Documents
 pub mod Marked

@@ -7,12 +7,12 @@ use Rattle.std.specs.List.{AllByRecursion}
 use Rattle.std.proofs.lemmas.Cmp.{nat_list_cmp_total}
 use Rattle.std.proofs.lemmas.Option.{same_Some, none-some}
 use Rattle.std.proofs.lemmas.Map.Lookups.{exact_bytes}
-use Rattle.dtmi_name.specs.Grammar.{Identifier, dtmi_text}
+use Rattle.dt_base.specs.names.Grammar.{Identifier, dtmi_text}
 use Rattle.dtdl_terms.specs.Spots.{spot_text}
 use Rattle.dtdl_terms.specs.declared.limit.Limit.{Limit}
 use Rattle.dtdl_terms.specs.declared.limit.Limit.TheVariants as limits
 use Rattle.dtdl_terms.specs.declared.uploaded.Uploaded.{Uploaded}
-use Rattle.extend_resolve.specs.Breaches.{Breach, HasOrdinals, rule_code}
+use Rattle.extend_resolve.specs.Breaches.{Breach, HasOrdinals, set_rule_code}
 use Rattle.extend_resolve.proofs.FirstBreaches.{one_first}
 use Rattle.graph_asks.specs.Answers.{Answer, body, refused}
 use Rattle.graph_asks.specs.declared.ask.Ask.{Ask}
@@ -22,24 +22,24 @@ use Rattle.graph_asks.specs.declared.refusal.Refusal.{Refusal}
 use Rattle.graph_asks.specs.declared.refusal.Refusal.TheVariants as refusals
 use Rattle.model_life.specs.Models.{Model, model_at}
 use Rattle.model_life.specs.Refusals.{AreNew, IsFirstThere, PassesFirst}
-use Rattle.graph_steps.specs.Refusals.{or_else, when}
+use Rattle.graph_steps.specs.Refusals.{or_refuse, refuse_when}
 use Rattle.graph_steps.specs.States.{State, set_of}
 use Rattle.graph_steps.specs.ModelAsks.{ModelExists, ModelFault, ModelsFull, TwinDoesNotFit, RefusesPutModels, ModelNotFound, ModelInUse, GivesModel, model_value}
 use Rattle.graph_steps.specs.OnModels.{IsOnModels}
-use Rattle.graph_steps.specs.Soundness.{IsSound, IsSoundUpload, AreSoundUploads}
+use Rattle.graph_steps.specs.Soundness.{IsSoundAsk, IsSoundUpload, AreSoundUploads}
 use Rattle.graph_steps.specs.Steps.{Answers}
 
 -- ---- refusals in order
 abbrev One : (Refusal → Type 0) → Type 0
 One Refuse = (r q : Refusal) → Refuse r → Refuse q → r ≡ q
 
-both_or_else : (First Second : Refusal → Type 0) → One First → One Second → One (or_else First Second)
+both_or_else : (First Second : Refusal → Type 0) → One First → One Second → One (or_refuse First Second)
 both_or_else First Second f g r q (inl h) (inl k) = f r q h k
 both_or_else First Second f g r q (inl h) (inr (lacks, k)) = absurd (lacks r h)
 both_or_else First Second f g r q (inr (lacks, h)) (inl k) = absurd (lacks q k)
 both_or_else First Second f g r q (inr (lacks, h)) (inr (none, k)) = g r q h k
 
-one_when : (Condition : Type 0) (refusal : Refusal) → One (when Condition refusal)
+one_when : (Condition : Type 0) (refusal : Refusal) → One (refuse_when Condition refusal)
 one_when Condition refusal r q h k = h.1 ∙ sym k.1
 
 abbrev Of : (Refusal → Type 0) → (Answer → Type 0) → Answer → Type 0
@@ -82,7 +82,7 @@ all_weaker P Q f [] all = tt
 all_weaker P Q f (x ∷ xs) all = (f x all.0, all_weaker P Q f xs all.1)
 
 fault : Uploaded → Breach → Refusal
-fault u b = refusals.ModelFault (places.Pointer (u.base ++ spot_text u.parents_as_text b.spot)) (rule_code b.rule)
+fault u b = refusals.ModelFault (places.Pointer (u.base ++ spot_text u.parents_as_text b.spot)) (set_rule_code b.rule)
 
 one_fault : (s : State) (us : List Uploaded) → AreSoundUploads us → One (ModelFault s us)
 unfolding fault
@@ -128,8 +128,8 @@ one_unfit s us r q (t, wrong, least, e) (u, ill, first, d) = e ∙ ap refusals.T
 
 one_put : (s : State) (us : List Uploaded) → AreSoundUploads us → One (RefusesPutModels s us)
 one_put s us sound =
-    both_or_else (ModelExists s us) (or_else (ModelFault s us) (or_else (ModelsFull s us) (TwinDoesNotFit s us))) (one_exists s us)
-    (both_or_else (ModelFault s us) (or_else (ModelsFull s us) (TwinDoesNotFit s us)) (one_fault s us sound)
+    both_or_else (ModelExists s us) (or_refuse (ModelFault s us) (or_refuse (ModelsFull s us) (TwinDoesNotFit s us))) (one_exists s us)
+    (both_or_else (ModelFault s us) (or_refuse (ModelsFull s us) (TwinDoesNotFit s us)) (one_fault s us sound)
     (both_or_else (ModelsFull s us) (TwinDoesNotFit s us) (one_full s us) (one_unfit s us)))
 
 -- ---- one model
@@ -145,7 +145,7 @@ one_model s id x y (m, is, e) (n, also, d) = e ∙ ap (λ (k : Model). body (mod
 one_never : One (λ r. ⊥)
 one_never r q h k = absurd h
 
-pub one_answer : (s : State) (ask : Ask) (a b : Answer) → IsSound ask → IsOnModels ask → Answers s ask a → Answers s ask b → a ≡ b
+pub one_answer : (s : State) (ask : Ask) (a b : Answer) → IsSoundAsk ask → IsOnModels ask → Answers s ask a → Answers s ask b → a ≡ b
 one_answer s (asks.PutModels models) a b sound named h k = one_of _ _ (one_put s models sound) (given _) a b h k
 one_answer s (asks.GetModel id) a b sound named h k = one_of _ _ (one_missing s id) (one_model s id) a b h k
 one_answer s asks.ListModels a b sound named h k = one_of _ _ one_never (given _) a b h k

@@ -3,7 +3,7 @@
 -- Contents that come along two ways stand twice here; look-ups by name see the first, and both are one.
 use Rattle.std.specs.Prelude.{ℕ, zero, suc, List, [], ◌∷◌, ◌++◌, map, Bool, Option, Some, None}
 use Rattle.std.specs.List.{list_any, flat_map}
-use Rattle.dtmi_name.specs.Grammar.{Identifier, id_eq}
+use Rattle.dt_base.specs.names.Grammar.{Identifier, id_eq}
 use Rattle.dtdl_terms.specs.Sets.{interface_at}
 use Rattle.dtdl_terms.specs.Terms.{KindTerm, component}
 use Rattle.dtdl_terms.specs.TermViews.{kind_term}
@@ -47,13 +47,13 @@ component_of c = components_in (kind_term c.kind)
 abbrev pub parts : List Interface → Interface → List Interface
 parts set i = flat_map (λ r. flat_map (λ p. those (interface_at p set) (λ q. q ∷ [])) (component_of r.content)) (contents set i)
 
-abbrev pub schemas_in : Interface → NamedIn
-schemas_in i = record { of = i.id; schemas = i.schemas }
+abbrev pub named_in : Interface → NamedIn
+named_in i = record { of = i.id; schemas = i.schemas }
 
 abbrev pub inherited : List Interface → Interface → Resolved
 inherited set i = record {
   contents = contents set i;
   ancestors = map (λ a. a.id) (ancestors set i);
-  named = map schemas_in (ancestors set i ++ flat_map (ancestors set) (parts set i));
+  named = map named_in (ancestors set i ++ flat_map (ancestors set) (parts set i));
   parts = map (λ q. record { of = q.id; contents = contents set q }) (parts set i);
 }

@@ -13,3 +13,8 @@ pub mod Conditions
 pub mod QueryAsks
 pub mod Steps
 pub mod Soundness
+pub mod invariants
+pub mod bodies
+pub mod paging
+pub mod held
+pub mod twins

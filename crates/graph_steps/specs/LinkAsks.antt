@@ -1,7 +1,7 @@
 -- The asks on relationships.
 use Rattle.std.specs.Prelude.{◌≡◌, ℕ, ◌<◌, ◌≤◌, List, Bool, Option, Some, None, Result, Ok, Err, IsTrue, length, codes, not, bytes_eq, ◌&&◌}
 use Rattle.std.specs.List.{filter}
-use Rattle.dtmi_name.specs.Grammar.{Identifier, dtmi_text, id_eq}
+use Rattle.dt_base.specs.names.Grammar.{Identifier, dtmi_text, id_eq}
 use Rattle.json_tree.specs.Values.{Json, object}
 use Rattle.dtdl_terms.specs.TermViews.{kind_term}
 use Rattle.dtdl_terms.specs.declared.interface.Interface.{Interface}
@@ -17,7 +17,7 @@ use Rattle.graph_asks.specs.Answers.{Answer, body}
 use Rattle.graph_asks.specs.declared.refusal.Refusal.{Refusal}
 use Rattle.graph_asks.specs.declared.refusal.Refusal.TheVariants as refusals
 use Rattle.graph_steps.specs.Inherited.{contents, inherited, is_a}
-use Rattle.graph_steps.specs.Refusals.{or_else, when}
+use Rattle.graph_steps.specs.Refusals.{or_refuse, refuse_when}
 use Rattle.graph_steps.specs.States.{State, Twin, Link, set_of, interface_of, twin_at, link_value, link_text, graph_bytes, with_links}
 use Rattle.graph_steps.specs.Typed.{target_of, most_of}
 use Rattle.graph_steps.specs.TwinAsks.{TwinNotFound, Frozen, BodyFault}
@@ -26,7 +26,7 @@ abbrev pub link_at : List ℕ → List ℕ → State → Option Link
 link_at source id s = edge_at source id s.links
 
 abbrev pub RelationshipNotFound : State → List ℕ → List ℕ → Refusal → Type 0
-RelationshipNotFound s source id = when (link_at source id s ≡ None) (refusals.RelationshipNotFound id)
+RelationshipNotFound s source id = refuse_when (link_at source id s ≡ None) (refusals.RelationshipNotFound id)
 
 -- ---- what a relationship leads to
 -- The model of a target twin neither is nor extends the declared one; of a frozen twin, it is not the declared one.
@@ -49,9 +49,9 @@ Multiplicity s (Some c) source id name r = (most : ℕ) × (most_of (kind_term c
     × (most ≤ length (others_named s source id name)) × (r ≡ refusals.Multiplicity most)
 
 abbrev pub LinkFull : State → Link → Refusal → Type 0
-LinkFull new l = or_else (when (4096 < length (link_text l)) (refusals.Full limits.RelationshipBytes))
-    (or_else (when (400000 < length new.links) (refusals.Full limits.Relationships))
-    (when (268435456 < graph_bytes new) (refusals.Full limits.GraphBytes)))
+LinkFull new l = or_refuse (refuse_when (4096 < length (link_text l)) (refusals.Full limits.RelationshipBytes))
+    (or_refuse (refuse_when (400000 < length new.links) (refusals.Full limits.Relationships))
+    (refuse_when (268435456 < graph_bytes new) (refusals.Full limits.GraphBytes)))
 
 -- ---- a relationship comes, or takes the place of one with its source and id
 -- The relationship for which a body out of a twin of the interface stands.
@@ -68,10 +68,10 @@ abbrev pub with_link : Link → State → State
 with_link l s = with_links (with_edge l s.links) s
 
 abbrev pub RefusesLink : State → Interface → List ℕ → List ℕ → List ℕ → List ℕ → Json → Refusal → Type 0
-RefusesLink s i source id name target v = or_else (BodyFault (IsLinkBreach (inherited (set_of s) i) v) v)
-    (or_else (TwinNotFound s target)
-    (or_else (WrongTarget s (link_called name (contents (set_of s) i)) target)
-    (or_else (Multiplicity s (link_called name (contents (set_of s) i)) source id name)
+RefusesLink s i source id name target v = or_refuse (BodyFault (IsLinkBreach (inherited (set_of s) i) v) v)
+    (or_refuse (TwinNotFound s target)
+    (or_refuse (WrongTarget s (link_called name (contents (set_of s) i)) target)
+    (or_refuse (Multiplicity s (link_called name (contents (set_of s) i)) source id name)
     (LinkFull (with_link (link_for s i source id name target v) s) (link_for s i source id name target v)))))
 
 -- the interface of the source's model, where it is there
@@ -83,7 +83,7 @@ interface_from s source = of (twin_at source s)
     of (Some t) = interface_of s t.model
 
 abbrev pub RefusesPutRel : State → List ℕ → List ℕ → List ℕ → List ℕ → Json → Refusal → Type 0
-RefusesPutRel s source id name target v = or_else (TwinNotFound s source) (or_else (Frozen s source)
+RefusesPutRel s source id name target v = or_refuse (TwinNotFound s source) (or_refuse (Frozen s source)
     (λ r. (i : Interface) × (interface_from s source ≡ Some i) × RefusesLink s i source id name target v r))
 
 abbrev pub after_put_rel : State → List ℕ → List ℕ → List ℕ → List ℕ → Json → State
@@ -98,7 +98,7 @@ abbrev pub GivesLink : State → List ℕ → List ℕ → Answer → Type 0
 GivesLink s source id answer = (l : Link) × (link_at source id s ≡ Some l) × (answer ≡ body (link_value l))
 
 abbrev pub LinkNotFound : State → List ℕ → List ℕ → Refusal → Type 0
-LinkNotFound s source id = or_else (TwinNotFound s source) (RelationshipNotFound s source id)
+LinkNotFound s source id = or_refuse (TwinNotFound s source) (RelationshipNotFound s source id)
 
 -- ---- a relationship is patched
 -- Its source, id, name and target stay.
@@ -107,7 +107,7 @@ with_payload s i v l = link_for s i l.source l.id l.name l.target v
 
 abbrev pub RefusesNewLink : State → Interface → Link → Result Json ℕ → Refusal → Type 0
 RefusesNewLink s i l (Err index) r = r ≡ refusals.PatchFault (codes "NoTarget") index
-RefusesNewLink s i l (Ok v) r = or_else (BodyFault (IsLinkBreach (inherited (set_of s) i) v) v)
+RefusesNewLink s i l (Ok v) r = or_refuse (BodyFault (IsLinkBreach (inherited (set_of s) i) v) v)
     (LinkFull (with_link (with_payload s i v l) s) (with_payload s i v l)) r
 
 pub record RefusesLinkOf (s : State) (source id : List ℕ) (os : List Operation) (r : Refusal) : Type 0 where
@@ -118,7 +118,7 @@ pub record RefusesLinkOf (s : State) (source id : List ℕ) (os : List Operation
   pub refuses : RefusesNewLink s interface link (patched_from 0 os (link_value link)) r
 
 abbrev pub RefusesPatchRel : State → List ℕ → List ℕ → List Operation → Refusal → Type 0
-RefusesPatchRel s source id os = or_else (LinkNotFound s source id) (or_else (Frozen s source) (RefusesLinkOf s source id os))
+RefusesPatchRel s source id os = or_refuse (LinkNotFound s source id) (or_refuse (Frozen s source) (RefusesLinkOf s source id os))
 
 abbrev pub after_patch_rel : State → List ℕ → List ℕ → List Operation → State
 after_patch_rel s source id os = after (interface_from s source) (link_at source id s)

@@ -4,20 +4,20 @@ use Rattle.std.specs.List.{filter}
 use Rattle.std.specs.Option.{is_none}
 use Rattle.std.specs.Ordering.{nat_cmp, is_lt}
 use Rattle.std.specs.Cmp.Lexicographic.{slice_cmp}
-use Rattle.dtmi_name.specs.Grammar.{Identifier, dtmi_text}
+use Rattle.dt_base.specs.names.Grammar.{Identifier, dtmi_text}
 use Rattle.json_tree.specs.Values.{Json, text, truth, array, object, elements_of, no_members, member}
 use Rattle.dtdl_terms.specs.Spots.{spot_text}
 use Rattle.dtdl_terms.specs.declared.uploaded.Uploaded.{Uploaded}
 use Rattle.dtdl_terms.specs.declared.limit.Limit.{Limit}
-use Rattle.extend_resolve.specs.Breaches.{Breach, IsFirstBreach, rule_code}
+use Rattle.extend_resolve.specs.Breaches.{Breach, IsFirstSetBreach, set_rule_code}
 use Rattle.canon_text.specs.Canonical.{interface_value, set_text}
 use Rattle.graph_asks.specs.Answers.{Answer, body, created, canon}
 use Rattle.graph_asks.specs.declared.refusal.At.TheVariants as places
 use Rattle.graph_asks.specs.declared.refusal.Refusal.{Refusal}
 use Rattle.graph_asks.specs.declared.refusal.Refusal.TheVariants as refusals
-use Rattle.model_life.specs.Models.{Model, model_at, with_models as with_uploads, with_mark, without_models, first_user}
+use Rattle.model_life.specs.Models.{Model, model_at, with_new_models as with_uploads, with_mark, without_models, first_user}
 use Rattle.model_life.specs.Refusals.{IsFirstThere, PassesFirst}
-use Rattle.graph_steps.specs.Refusals.{or_else, when}
+use Rattle.graph_steps.specs.Refusals.{or_refuse, refuse_when}
 use Rattle.graph_steps.specs.States.{State, Twin, Link, set_of, is_live, is_end, with_models}
 use Rattle.graph_steps.specs.Typed.{TwinIsTyped, LinkIsTyped}
 
@@ -60,8 +60,8 @@ ModelExists s us r = (index : ℕ) × (u : Uploaded) × IsFirstThere s.models us
 
 -- The pointer is that of the place in the document.
 abbrev pub ModelFault : State → List Uploaded → Refusal → Type 0
-ModelFault s us r = (b : Breach) × (u : Uploaded) × IsFirstBreach (set_of s) us b × (slice_get us b.index ≡ Some u)
-    × (r ≡ refusals.ModelFault (places.Pointer (u.base ++ spot_text u.parents_as_text b.spot)) (rule_code b.rule))
+ModelFault s us r = (b : Breach) × (u : Uploaded) × IsFirstSetBreach (set_of s) us b × (slice_get us b.index ≡ Some u)
+    × (r ≡ refusals.ModelFault (places.Pointer (u.base ++ spot_text u.parents_as_text b.spot)) (set_rule_code b.rule))
 
 abbrev pub ModelsFull : State → List Uploaded → Refusal → Type 0
 ModelsFull s us r = (limit : Limit) × PassesFirst (with_uploads us s.models) limit × (r ≡ refusals.Full limit)
@@ -73,14 +73,14 @@ TwinDoesNotFit s us r = (t : Twin) × WouldNotFit s us t
     × (r ≡ refusals.TwinDoesNotFit t.id)
 
 abbrev pub RefusesPutModels : State → List Uploaded → Refusal → Type 0
-RefusesPutModels s us = or_else (ModelExists s us) (or_else (ModelFault s us) (or_else (ModelsFull s us) (TwinDoesNotFit s us)))
+RefusesPutModels s us = or_refuse (ModelExists s us) (or_refuse (ModelFault s us) (or_refuse (ModelsFull s us) (TwinDoesNotFit s us)))
 
 abbrev pub created_models : State → List Uploaded → Answer
 created_models s us = created (array (elements_of (map mark_value (new_models s us))))
 
 -- ---- one model
 abbrev pub ModelNotFound : State → Identifier → Refusal → Type 0
-ModelNotFound s id = when (model_at id s.models ≡ None) (refusals.ModelNotFound (dtmi_text id))
+ModelNotFound s id = refuse_when (model_at id s.models ≡ None) (refusals.ModelNotFound (dtmi_text id))
 
 abbrev pub GivesModel : State → Identifier → Answer → Type 0
 GivesModel s id answer = (m : Model) × (model_at id s.models ≡ Some m) × (answer ≡ body (model_value m))
@@ -93,7 +93,7 @@ abbrev pub ModelInUse : State → Identifier → Refusal → Type 0
 ModelInUse s id r = (by : Identifier) × (first_user id s.models ≡ Some by) × (r ≡ refusals.ModelInUse (dtmi_text by))
 
 abbrev pub RefusesDropModel : State → Identifier → Refusal → Type 0
-RefusesDropModel s id = or_else (ModelNotFound s id) (ModelInUse s id)
+RefusesDropModel s id = or_refuse (ModelNotFound s id) (ModelInUse s id)
 
 abbrev pub after_drop : State → Identifier → State
 after_drop s id = with_models (without_models (id ∷ []) s.models) s

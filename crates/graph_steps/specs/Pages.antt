@@ -8,15 +8,15 @@ use Rattle.json_tree.specs.Values.{Json, text, array, object, elements_of, Membe
 use Rattle.json_decimal.specs.Number.{Number}
 
 -- A hexadecimal digit in capitals.
-abbrev pub hex_digit : ℕ → ℕ
-hex_digit n = if nat_lt n 10 then 48 + n else 55 + n
+abbrev pub capital_hex_digit : ℕ → ℕ
+capital_hex_digit n = if nat_lt n 10 then 48 + n else 55 + n
 
 -- A byte of an id in a token: letters and digits as they are, all others percent-encoded.
-abbrev pub token_byte : ℕ → List ℕ
-token_byte b = if is_ascii_alphanumeric b then b ∷ [] else 37 ∷ hex_digit (b / 16) ∷ hex_digit (b % 16) ∷ []
+abbrev pub page_token_byte : ℕ → List ℕ
+page_token_byte b = if is_ascii_alphanumeric b then b ∷ [] else 37 ∷ capital_hex_digit (b / 16) ∷ capital_hex_digit (b % 16) ∷ []
 
 abbrev pub token_part : List ℕ → List ℕ
-token_part id = flat_map token_byte id
+token_part id = flat_map page_token_byte id
 
 -- The token of a key: its ids, joined by `/`.
 abbrev pub token_of : List (List ℕ) → List ℕ

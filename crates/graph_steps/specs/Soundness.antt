@@ -4,7 +4,7 @@ use Rattle.std.specs.List.{AllByRecursion}
 use Rattle.std.specs.List.Sorted.{IsStrictlySortedBy}
 use Rattle.std.specs.Ordering.{nat_cmp}
 use Rattle.std.specs.Cmp.Lexicographic.{slice_cmp}
-use Rattle.dtmi_name.specs.Grammar.{Identifier, NameText, OwnDtmiText, dtmi_text}
+use Rattle.dt_base.specs.names.Grammar.{Identifier, NameText, OwnDtmiText, dtmi_text}
 use Rattle.json_tree.specs.Values.{Json, HasDistinctKeys}
 use Rattle.json_tree.specs.Printing.{NestsWithin}
 use Rattle.json_tree.specs.View.{view}
@@ -87,23 +87,23 @@ abbrev pub FitsKey : Query → Option (List (List ℕ)) → Type 0
 FitsKey query after = IfSome after (λ ids. (length ids ≡ key_length (asked query)) × AllByRecursion IsTwinId ids)
 
 -- ---- asks
-abbrev pub IsSound : Ask → Type 0
-IsSound (asks.PutModels models) = AreSoundUploads models
-IsSound (asks.GetModel id) = IsModelOf id
-IsSound asks.ListModels = Unit {0}
-IsSound (asks.Mark id on) = IsModelOf id
-IsSound (asks.DropModel id) = IsModelOf id
-IsSound asks.Canon = Unit {0}
-IsSound (asks.PutTwin id model tree) = IsTwinId id × IsModelOf model × IsTwinBody id model (view tree)
-IsSound (asks.GetTwin id) = IsTwinId id
-IsSound (asks.PatchTwin id patch) = IsTwinId id × IsReadPatch patches.Twin patch
-IsSound (asks.DropTwin id) = IsTwinId id
-IsSound (asks.GetPart id name) = IsTwinId id × IsNameOf name
-IsSound (asks.PatchPart id name patch) = IsTwinId id × IsNameOf name × IsReadPatch patches.Part patch
-IsSound (asks.PutRel source id name target tree) = IsTwinId source × IsTwinId id × IsNameOf name × IsTwinId target × IsLinkBody source id name target (view tree)
-IsSound (asks.GetRel source id) = IsTwinId source × IsTwinId id
-IsSound (asks.PatchRel source id patch) = IsTwinId source × IsTwinId id × IsReadPatch patches.Rel patch
-IsSound (asks.DropRel source id) = IsTwinId source × IsTwinId id
-IsSound (asks.ListOut source name after) = IsTwinId source × IfSome after IsTwinId
-IsSound (asks.ListIn target after) = IsTwinId target × IfSome after (λ ids. IsTwinId ids.0 × IsTwinId ids.1)
-IsSound (asks.Query query after) = IsReadQuery query × FitsKey query after
+abbrev pub IsSoundAsk : Ask → Type 0
+IsSoundAsk (asks.PutModels models) = AreSoundUploads models
+IsSoundAsk (asks.GetModel id) = IsModelOf id
+IsSoundAsk asks.ListModels = Unit {0}
+IsSoundAsk (asks.Mark id on) = IsModelOf id
+IsSoundAsk (asks.DropModel id) = IsModelOf id
+IsSoundAsk asks.Canon = Unit {0}
+IsSoundAsk (asks.PutTwin id model tree) = IsTwinId id × IsModelOf model × IsTwinBody id model (view tree)
+IsSoundAsk (asks.GetTwin id) = IsTwinId id
+IsSoundAsk (asks.PatchTwin id patch) = IsTwinId id × IsReadPatch patches.Twin patch
+IsSoundAsk (asks.DropTwin id) = IsTwinId id
+IsSoundAsk (asks.GetPart id name) = IsTwinId id × IsNameOf name
+IsSoundAsk (asks.PatchPart id name patch) = IsTwinId id × IsNameOf name × IsReadPatch patches.Part patch
+IsSoundAsk (asks.PutRel source id name target tree) = IsTwinId source × IsTwinId id × IsNameOf name × IsTwinId target × IsLinkBody source id name target (view tree)
+IsSoundAsk (asks.GetRel source id) = IsTwinId source × IsTwinId id
+IsSoundAsk (asks.PatchRel source id patch) = IsTwinId source × IsTwinId id × IsReadPatch patches.Rel patch
+IsSoundAsk (asks.DropRel source id) = IsTwinId source × IsTwinId id
+IsSoundAsk (asks.ListOut source name after) = IsTwinId source × IfSome after IsTwinId
+IsSoundAsk (asks.ListIn target after) = IsTwinId target × IfSome after (λ ids. IsTwinId ids.0 × IsTwinId ids.1)
+IsSoundAsk (asks.Query query after) = IsReadQuery query × FitsKey query after

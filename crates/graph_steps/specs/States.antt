@@ -7,7 +7,7 @@ use Rattle.std.specs.Ordering.{nat_cmp}
 use Rattle.std.specs.Cmp.Lexicographic.{slice_cmp}
 use Rattle.std.specs.Map.{values_of, remove_entry}
 use Rattle.std.specs.BTreeMap.{is_at, insert_entry}
-use Rattle.dtmi_name.specs.Grammar.{Identifier, dtmi_text}
+use Rattle.dt_base.specs.names.Grammar.{Identifier, dtmi_text}
 use Rattle.json_tree.specs.Values.{Json, text, object, no_members, member}
 use Rattle.json_tree.specs.Printing.{printed}
 use Rattle.local_rules.specs.Members.{members_in}
@@ -15,7 +15,7 @@ use Rattle.dtdl_terms.specs.Sets.{interface_at}
 use Rattle.dtdl_terms.specs.declared.interface.Interface.{Interface}
 use Rattle.rel_graph.specs.declared.edge.Edge.{Edge}
 use Rattle.twin_patch.specs.Objects.{sorted_value}
-use Rattle.twin_value.specs.Twins.{picked, joined, any_key, with_metadata}
+use Rattle.twin_value.specs.Twins.{picked, joined_members, any_key, with_metadata}
 use Rattle.model_life.specs.Models.{Model, interfaces_of}
 
 -- A twin: its identifier, its model, the values of its properties, and its components by name with theirs. Both are objects
@@ -87,7 +87,7 @@ abbrev pub twin_object : Twin → Json
 twin_object t = object
     (member (codes "$dtId") (text t.id)
     (member (codes "$metadata") (object (member (codes "$model") (text (dtmi_text t.model)) no_members))
-    (joined (members_in t.values) (picked any_key with_metadata (members_in t.parts)))))
+    (joined_members (members_in t.values) (picked any_key with_metadata (members_in t.parts)))))
 
 abbrev pub link_object : Link → Json
 link_object l = object

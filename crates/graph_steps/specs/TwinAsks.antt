@@ -2,7 +2,7 @@
 use Rattle.std.specs.Prelude.{◌≡◌, ℕ, ◌<◌, List, true, false, Option, Some, None, Result, Ok, Err, Contains, IsTrue, length, codes, bytes_eq}
 use Rattle.std.specs.List.{find}
 use Rattle.std.specs.Option.{IsSomeAnd}
-use Rattle.dtmi_name.specs.Grammar.{Identifier, dtmi_text}
+use Rattle.dt_base.specs.names.Grammar.{Identifier, dtmi_text}
 use Rattle.json_tree.specs.Values.{Json, object}
 use Rattle.json_tree.specs.Pointers.{IsPointerOf}
 use Rattle.local_rules.specs.Members.{members_in, value_in}
@@ -12,9 +12,9 @@ use Rattle.rel_graph.specs.Edges.{key_cmp, key}
 use Rattle.twin_patch.specs.Objects.{sorted_value, with_member}
 use Rattle.twin_patch.specs.Operations.{Operation}
 use Rattle.twin_patch.specs.Patched.{patched_from}
-use Rattle.twin_value.specs.Breaches.{IsFirst, IsBreach, IsTwinBreach, IsOuterBreach, twin_role_of}
+use Rattle.twin_value.specs.Breaches.{IsFirstBodyBreach, IsBodyBreach, IsTwinBreach, IsOuterBreach, twin_role_of}
 use Rattle.twin_value.specs.Codes.{code_name}
-use Rattle.twin_value.specs.Roles.{Role, member_role}
+use Rattle.twin_value.specs.Roles.{Role, body_member_role}
 use Rattle.twin_value.specs.Twins.{property_members, component_members, without_metadata, model_text}
 use Rattle.twin_value.specs.declared.code.BodyCode.{BodyCode}
 use Rattle.std.specs.Ordering.{is_lt}
@@ -24,13 +24,13 @@ use Rattle.graph_asks.specs.declared.refusal.Refusal.{Refusal}
 use Rattle.graph_asks.specs.declared.refusal.Refusal.TheVariants as refusals
 use Rattle.model_life.specs.Models.{Model}
 use Rattle.graph_steps.specs.Inherited.{inherited}
-use Rattle.graph_steps.specs.Refusals.{or_else, when}
+use Rattle.graph_steps.specs.Refusals.{or_refuse, refuse_when}
 use Rattle.graph_steps.specs.States.{State, Twin, Link, set_of, interface_of, twin_at, is_live, is_end, twin_value, twin_text, part_value, graph_bytes, with_twin}
 use Rattle.graph_steps.specs.Typed.{LinkIsTyped}
 
 -- ---- conditions that several asks have
 abbrev pub TwinNotFound : State → List ℕ → Refusal → Type 0
-TwinNotFound s id = when (twin_at id s ≡ None) (refusals.TwinNotFound id)
+TwinNotFound s id = refuse_when (twin_at id s ≡ None) (refusals.TwinNotFound id)
 
 -- The twin is there, and its model is not.
 abbrev pub Frozen : State → List ℕ → Refusal → Type 0
@@ -43,7 +43,7 @@ Decommissioned s id model r = (m : Model) × Contains s.models m × (dtmi_text m
 
 -- The first breach of a tree, by the pointer to its place.
 abbrev pub BodyFault : (List ℕ → BodyCode → Type 0) → Json → Refusal → Type 0
-BodyFault Broken v r = (place pointer : List ℕ) × (code : BodyCode) × IsFirst Broken place code × IsPointerOf v place pointer
+BodyFault Broken v r = (place pointer : List ℕ) × (code : BodyCode) × IsFirstBodyBreach Broken place code × IsPointerOf v place pointer
     × (r ≡ refusals.BodyFault (places.Pointer pointer) (code_name code))
 
 -- The need of an operation is not met.
@@ -63,9 +63,9 @@ DoesNotFit new id r = (l : Link) × WouldBeIll new id l
 
 -- The first of these limits that the new state passes, by the text that is new in it.
 abbrev pub TwinFull : State → Twin → Refusal → Type 0
-TwinFull new t = or_else (when (32768 < length (twin_text t)) (refusals.Full limits.TwinBytes))
-    (or_else (when (100000 < length new.twins) (refusals.Full limits.Twins))
-    (when (268435456 < graph_bytes new) (refusals.Full limits.GraphBytes)))
+TwinFull new t = or_refuse (refuse_when (32768 < length (twin_text t)) (refusals.Full limits.TwinBytes))
+    (or_refuse (refuse_when (100000 < length new.twins) (refusals.Full limits.Twins))
+    (refuse_when (268435456 < graph_bytes new) (refusals.Full limits.GraphBytes)))
 
 -- ---- the twin of a body
 -- The twin of this id for which a body of the interface's twins stands.
@@ -85,13 +85,13 @@ with_body s id (Some i) v = with_twin (twin_for s id i v) s
 -- ---- a twin comes, or takes the place of one with its id
 abbrev pub RefusesBody : State → List ℕ → List ℕ → Json → Option Interface → Refusal → Type 0
 RefusesBody s id model v None r = r ≡ refusals.ModelNotFound model
-RefusesBody s id model v (Some i) r = or_else (Decommissioned s id model)
-    (or_else (BodyFault (IsTwinBreach (inherited (set_of s) i) v) v)
-    (or_else (DoesNotFit (with_body s id (Some i) v) id)
+RefusesBody s id model v (Some i) r = or_refuse (Decommissioned s id model)
+    (or_refuse (BodyFault (IsTwinBreach (inherited (set_of s) i) v) v)
+    (or_refuse (DoesNotFit (with_body s id (Some i) v) id)
     (TwinFull (with_body s id (Some i) v) (twin_for s id i v)))) r
 
 abbrev pub RefusesPutTwin : State → List ℕ → Identifier → Json → Refusal → Type 0
-RefusesPutTwin s id model v = or_else (Frozen s id) (RefusesBody s id (dtmi_text model) v (interface_of s model))
+RefusesPutTwin s id model v = or_refuse (Frozen s id) (RefusesBody s id (dtmi_text model) v (interface_of s model))
 
 abbrev pub after_put_twin : State → List ℕ → Identifier → Json → State
 after_put_twin s id model v = with_body s id (interface_of s model) v
@@ -113,7 +113,7 @@ interface_in s v = model_of (model_text v)
     model_of (Some model) = interface_named s model
 
 abbrev pub RefusesNewBody : State → List ℕ → Json → Refusal → Type 0
-RefusesNewBody s id v = or_else (BodyFault (IsOuterBreach v) v)
+RefusesNewBody s id v = or_refuse (BodyFault (IsOuterBreach v) v)
     (λ r. (model : List ℕ) × (model_text v ≡ Some model) × RefusesBody s id model v (interface_in s v) r)
 
 abbrev pub RefusesPatched : State → List ℕ → Result Json ℕ → Refusal → Type 0
@@ -124,7 +124,7 @@ abbrev pub RefusesPatchOf : State → List Operation → Twin → Refusal → Ty
 RefusesPatchOf s os t = RefusesPatched s t.id (patched_from 0 os (twin_value t))
 
 abbrev pub RefusesPatchTwin : State → List ℕ → List Operation → Refusal → Type 0
-RefusesPatchTwin s id os = or_else (TwinNotFound s id) (or_else (Frozen s id) (λ r. (t : Twin) × (twin_at id s ≡ Some t) × RefusesPatchOf s os t r))
+RefusesPatchTwin s id os = or_refuse (TwinNotFound s id) (or_refuse (Frozen s id) (λ r. (t : Twin) × (twin_at id s ≡ Some t) × RefusesPatchOf s os t r))
 
 abbrev pub with_patched : State → List ℕ → Result Json ℕ → State
 with_patched s id (Err index) = s
@@ -143,7 +143,7 @@ abbrev pub TwinInUse : State → List ℕ → Refusal → Type 0
 TwinInUse s id r = (l : Link) × (find (is_end id) s.links ≡ Some l) × (r ≡ refusals.TwinInUse l.id l.source)
 
 abbrev pub RefusesDropTwin : State → List ℕ → Refusal → Type 0
-RefusesDropTwin s id = or_else (TwinNotFound s id) (TwinInUse s id)
+RefusesDropTwin s id = or_refuse (TwinNotFound s id) (TwinInUse s id)
 
 -- ---- components
 abbrev pub component_at : List ℕ → Twin → Option Json
@@ -153,14 +153,14 @@ abbrev pub ComponentNotFound : State → List ℕ → List ℕ → Refusal → T
 ComponentNotFound s id name r = (t : Twin) × (twin_at id s ≡ Some t) × (component_at name t ≡ None) × (r ≡ refusals.ComponentNotFound name)
 
 abbrev pub RefusesGetPart : State → List ℕ → List ℕ → Refusal → Type 0
-RefusesGetPart s id name = or_else (TwinNotFound s id) (ComponentNotFound s id name)
+RefusesGetPart s id name = or_refuse (TwinNotFound s id) (ComponentNotFound s id name)
 
 abbrev pub GivesPart : State → List ℕ → List ℕ → Answer → Type 0
 GivesPart s id name answer = (t : Twin) × (v : Json) × (twin_at id s ≡ Some t) × (component_at name t ≡ Some v) × (answer ≡ body (part_value v))
 
 -- The role of a component of this name.
 abbrev pub part_role_in : State → Interface → List ℕ → Role
-part_role_in s i name = member_role (twin_role_of (inherited (set_of s) i)) name
+part_role_in s i name = body_member_role (twin_role_of (inherited (set_of s) i)) name
 
 -- The twin with these values as those of the component: the patched tree without its `$metadata`, sorted.
 abbrev pub with_part : List ℕ → Json → Twin → Twin
@@ -173,7 +173,7 @@ with_part name v t = record {
 
 abbrev pub RefusesNewPart : State → List ℕ → Interface → Twin → Result Json ℕ → Refusal → Type 0
 RefusesNewPart s name i t (Err index) r = r ≡ refusals.PatchFault (codes "NoTarget") index
-RefusesNewPart s name i t (Ok v) r = or_else (BodyFault (IsBreach (part_role_in s i name) v) v)
+RefusesNewPart s name i t (Ok v) r = or_refuse (BodyFault (IsBodyBreach (part_role_in s i name) v) v)
     (TwinFull (with_twin (with_part name v t) s) (with_part name v t)) r
 
 -- Of a live twin that has the component.
@@ -187,7 +187,7 @@ pub record RefusesPartOf (s : State) (id name : List ℕ) (os : List Operation) 
   pub refuses : RefusesNewPart s name interface twin (patched_from 0 os (part_value part)) r
 
 abbrev pub RefusesPatchPart : State → List ℕ → List ℕ → List Operation → Refusal → Type 0
-RefusesPatchPart s id name os = or_else (TwinNotFound s id) (or_else (Frozen s id) (or_else (ComponentNotFound s id name) (RefusesPartOf s id name os)))
+RefusesPatchPart s id name os = or_refuse (TwinNotFound s id) (or_refuse (Frozen s id) (or_refuse (ComponentNotFound s id name) (RefusesPartOf s id name os)))
 
 abbrev pub with_new_part : State → List ℕ → Twin → Result Json ℕ → State
 with_new_part s name t (Err index) = s

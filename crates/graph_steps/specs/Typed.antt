@@ -4,7 +4,7 @@ use Rattle.std.specs.List.{AllByRecursion}
 use Rattle.std.specs.List.Sorted.{IsStrictlySortedBy}
 use Rattle.std.specs.Ordering.{nat_cmp}
 use Rattle.std.specs.Cmp.Lexicographic.{slice_cmp}
-use Rattle.dtmi_name.specs.Grammar.{Identifier}
+use Rattle.dt_base.specs.names.Grammar.{Identifier}
 use Rattle.json_decimal.specs.Number.{Number}
 use Rattle.json_tree.specs.Values.{Members, no_members, member}
 use Rattle.local_rules.specs.Members.{members_in}
@@ -12,15 +12,15 @@ use Rattle.dtdl_terms.specs.Terms.{KindTerm, relationship}
 use Rattle.dtdl_terms.specs.TermViews.{kind_term}
 use Rattle.dtdl_terms.specs.declared.interface.Interface.{Interface}
 use Rattle.dtdl_terms.specs.declared.resolved.ResolvedContent.{ResolvedContent}
-use Rattle.rel_graph.specs.Edges.{InOrder, named}
+use Rattle.rel_graph.specs.Edges.{EdgesInOrder, named}
 use Rattle.twin_value.specs.Breaches.{HasNoBreach, IsTwinBreach, IsLinkBreach, link_called, twin_role_of}
-use Rattle.twin_value.specs.Roles.{member_role}
+use Rattle.twin_value.specs.Roles.{body_member_role}
 use Rattle.twin_value.specs.Twins.{is_value_role, is_part_role}
 use Rattle.dtdl_terms.specs.Distinct.{HasDeclaration}
 use Rattle.dtdl_terms.specs.Sets.{InOrder as InterfacesInOrder}
 use Rattle.extend_resolve.specs.Breaches.{BreaksNoRule}
-use Rattle.model_read.specs.Limits.{IsWithinLimits as InterfaceIsWithinLimits}
-use Rattle.canon_laws.specs.Typed.{IsTyped}
+use Rattle.local_rules.specs.Limits.{IsWithinLimits as InterfaceIsWithinLimits}
+use Rattle.local_rules.specs.Typed.{IsTyped}
 use Rattle.model_life.specs.Models.{Model, interfaces_of}
 use Rattle.model_life.specs.Sums.{AreWithinLimits}
 use Rattle.graph_steps.specs.Inherited.{contents, inherited, is_a}
@@ -48,8 +48,8 @@ AllKeys P (member key v ms) = P key × AllKeys P ms
 -- The printed tree has no breach; each value is of a property, and each component of a component of the model.
 pub record FitsModel (set : List Interface) (i : Interface) (t : Twin) : Type 0 where
   pub unbroken : HasNoBreach (IsTwinBreach (inherited set i) (twin_value t))
-  pub values : AllKeys (λ key. IsTrue (is_value_role (member_role (twin_role_of (inherited set i)) key))) (members_in t.values)
-  pub parts : AllKeys (λ key. IsTrue (is_part_role (member_role (twin_role_of (inherited set i)) key))) (members_in t.parts)
+  pub values : AllKeys (λ key. IsTrue (is_value_role (body_member_role (twin_role_of (inherited set i)) key))) (members_in t.values)
+  pub parts : AllKeys (λ key. IsTrue (is_part_role (body_member_role (twin_role_of (inherited set i)) key))) (members_in t.parts)
 
 -- Nothing is asked of a frozen twin.
 abbrev pub TwinIsTyped : State → Twin → Type 0
@@ -92,7 +92,7 @@ HasEnds s l = IsSome (twin_at l.source s) × IsSome (twin_at l.target s)
 -- ---- limits
 -- A twin's text has at most 32,768 bytes and a relationship's 4,096; there are at most 100,000 twins and 400,000
 -- relationships, and their texts have together at most 268,435,456 bytes.
-pub record IsWithinLimits (s : State) : Type 0 where
+pub record StateIsWithinLimits (s : State) : Type 0 where
   pub models : AreWithinLimits s.models
   pub twin_bytes : AllByRecursion (λ t. length (twin_text t) ≤ 32768) s.twins
   pub link_bytes : AllByRecursion (λ l. length (link_text l) ≤ 4096) s.links
@@ -103,8 +103,8 @@ pub record IsWithinLimits (s : State) : Type 0 where
 pub record WellTyped (s : State) : Type 0 where
   pub models : AreSound s.models
   pub twins : IsStrictlySortedBy (slice_cmp nat_cmp) (map (λ t. t.id) s.twins)
-  pub links : InOrder s.links
+  pub links : EdgesInOrder s.links
   pub ends : AllByRecursion (HasEnds s) s.links
   pub fit : AllByRecursion (TwinIsTyped s) s.twins
   pub links_fit : AllByRecursion (LinkIsTyped s) s.links
-  pub limits : IsWithinLimits s
+  pub limits : StateIsWithinLimits s

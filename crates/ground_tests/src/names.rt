@@ -1,6 +1,6 @@
 //! Texts from the specification's grammar and its examples, and the bounds.
 
-use dtmi_name::{Dtmi, Name, NameFault, has_dtmi_form, order, same_path};
+use dt_base::names::{Dtmi, Name, NameFault, has_dtmi_form, order, same_path};
 use std::alloc::Global;
 use std::cmp::Ordering;
 use std::test::Fail;

@@ -1,7 +1,7 @@
 //! That copies succeed and equal what they are of, and the lengths of keys.
 
+use dt_base::names::Dtmi;
 use dt_base::{List, Text};
-use dtmi_name::Dtmi;
 use json_decimal::Decimal;
 use query_terms::{Compare, Cond, Item, Join, Kind, Literal, Operand, PartKind, Projection, Query};
 use std::alloc::Global;

@@ -11,7 +11,7 @@ use Rattle.httparse.specs.Spans.{header_bytes, IsRequestAt, IsRequestWithin}
 use Rattle.httparse.proofs.GrammarLemmas.{request_prefix_free, print_request-append}
 use Rattle.http_ends.specs.declared.request_head.Head.{Head}
 use Rattle.http_ends.specs.Fields.{is_framed, length_said, lengths, codings, says_close}
-use Rattle.http_ends.specs.Heads.{fields_of, IsWithinLimits}
+use Rattle.http_ends.specs.Heads.{fields_of, HeadIsWithinLimits}
 use Rattle.http_ends.specs.Messages.{HasNoHead}
 use Rattle.http_ends.specs.reading.Judging.{is_some_list, head_from, IsHeadAt, NeverHasHead}
 
@@ -59,7 +59,7 @@ fields_fit bytes headers spans h inside at room =
     omega (arith, simp length-map at count, length-take-le spans.headers headers inside.section.count_fits, inside.section.count_fits)
 
 within_limits : (bytes : List ℕ) (headers : List HeaderSpan) (spans : RequestSpans) (h : RequestHead) → IsRequestWithin bytes headers spans → IsRequestAt bytes headers spans h
-    → length headers ≡ 64 → spans.len ≤ 16384 → IsTrue (is_framed (lengths (map (header_bytes bytes) (take spans.headers headers)))) → IsWithinLimits h
+    → length headers ≡ 64 → spans.len ≤ 16384 → IsTrue (is_framed (lengths (map (header_bytes bytes) (take spans.headers headers)))) → HeadIsWithinLimits h
 within_limits bytes headers spans h inside at room size framed = record {
   size = omega (arith, at.len);
   few = fields_fit bytes headers spans h inside at room;

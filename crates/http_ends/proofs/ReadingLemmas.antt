@@ -3,13 +3,13 @@ use Rattle.std.proofs.Common.{◌≡◌, ℕ, List, ◌++◌, Option, Some, None
 use Rattle.std.specs.Io.KnownBytes.{Consumes}
 use Rattle.std.proofs.KnownBytes.{Consumes-nil, Consumes-trans}
 use Rattle.http_ends.specs.Streams.{stream_of, OnStreams}
-use Rattle.http_ends.specs.reading.Reads.{Reads}
+use Rattle.http_ends.specs.reading.Reads.{ReadsMore}
 
-pub Reads-none : {S : Type 0} (left aside : S → Option (List ℕ)) (faults : S → ℕ) (link : S) (bytes : List ℕ) → Reads left aside faults link link bytes bytes
+pub Reads-none : {S : Type 0} (left aside : S → Option (List ℕ)) (faults : S → ℕ) (link : S) (bytes : List ℕ) → ReadsMore left aside faults link link bytes bytes
 Reads-none left aside faults link bytes = record { bytes = _; grown = sym (append-nil bytes); taken = Consumes-nil (left link); count = omega arith; beside = refl }
 
 pub Reads-trans : {S : Type 0} (left aside : S → Option (List ℕ)) (faults : S → ℕ) {a b c : S} {old mid new : List ℕ}
-    → Reads left aside faults a b old mid → Reads left aside faults b c mid new → Reads left aside faults a c old new
+    → ReadsMore left aside faults a b old mid → ReadsMore left aside faults b c mid new → ReadsMore left aside faults a c old new
 Reads-trans left aside faults {a} {b} {c} {old} x y = record {
   bytes = x.bytes ++ y.bytes;
   grown = y.grown ∙ ap (λ bs. bs ++ y.bytes) x.grown ∙ append_assoc old x.bytes y.bytes;

@@ -15,7 +15,7 @@ use Rattle.std.proofs.lemmas.Str.Ascii.{IsAscii-from_all}
 use Rattle.httparse.specs.Grammar.{is_value_byte, crlf, print_field, ResponseHead, print_response, is_token_byte}
 use Rattle.httparse.proofs.GrammarLemmas.{print_response-append}
 use Rattle.http_ends.specs.declared.response.Response.{Response}
-use Rattle.http_ends.specs.Fields.{values_named, is_number, is_framed, length_said, lengths}
+use Rattle.http_ends.specs.Fields.{values_named, is_content_length, is_framed, length_said, lengths}
 use Rattle.http_ends.specs.Laws.{RepliesReadBack}
 use Rattle.http_ends.specs.Lines.{field_line, fields_text}
 use Rattle.http_ends.specs.Replies.{phrases, phrase_in, phrase_of, method_lists, IsAllowed, content_fields, allow_fields, close_fields, status_line, reply_text}
@@ -161,7 +161,7 @@ head_text status phrase fields rest back =
 
 -- ---- what the head says
 
-pub decimal_number : (size : ℕ) → size < 10 ^ 18 → is_number (decimal size) ≡ true
+pub decimal_number : (size : ℕ) → size < 10 ^ 18 → is_content_length (decimal size) ≡ true
 decimal_number size small =
     let d = decimal_is size (omega arith) in
     and_from _ _ (lt-ltb 0 (length (decimal size)) d.some) (and_from _ _ (le-leb (length (decimal size)) 18 (length-decimal-le 18 size (omega arith) small (omega arith))) d.digits)

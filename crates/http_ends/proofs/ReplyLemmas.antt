@@ -20,7 +20,7 @@ use Rattle.http_ends.specs.Fields.{values_named, is_framed, length_said, lengths
 use Rattle.http_ends.specs.ReplyReading.{reply_fields, reply_length, IsAllow, BeginsWithReply, HasNoReply, AnswersReply}
 use Rattle.http_ends.specs.Streams.{stream_of, OnStreams}
 use Rattle.http_ends.specs.reading.Finding.{FindsValue, Finds}
-use Rattle.http_ends.specs.reading.JudgingReplies.{reply_size, FindsFirst, AllowIs, IsReplyHeadAt, ReplyEnds}
+use Rattle.http_ends.specs.reading.JudgingReplies.{reply_size, FindsFirstValue, AllowIs, IsReplyHeadAt, ReplyEnds}
 use Rattle.http_ends.proofs.HeadLemmas.{front_within}
 use Rattle.http_ends.proofs.MessageLemmas.{span-append, body_and_rest}
 use Rattle.http_ends.proofs.ReadingLemmas.{on_streams}
@@ -64,7 +64,7 @@ no_larger said size code small is = by_test (code == 204) is
     by_test true is = let none : size ≡ 0 = cc in omega arith
     by_test false is = omega (arith, small, ap (λ o. unwrap_or o 0) is)
 
-allow_found : (bytes : List ℕ) (first : Option Span) (again : Bool) (values : List (List ℕ)) → FindsValue bytes first again values → FindsFirst bytes (length bytes) first values
+allow_found : (bytes : List ℕ) (first : Option Span) (again : Bool) (values : List (List ℕ)) → FindsValue bytes first again values → FindsFirstValue bytes (length bytes) first values
 allow_found bytes None again values finds = finds
 allow_found bytes (Some s) false values finds = (finds.0, ([], finds.1))
 allow_found bytes (Some s) true values finds = (finds.0, (finds.1.0 ∷ finds.1.1, finds.1.2))
@@ -90,7 +90,7 @@ reply_found bytes headers spans size found inside head room some finds =
         size = sym (k.is ∙ ap (λ fs. if spans.code == 204 then Some 0 else length_said (lengths fs)) at.fields ∙ ap (λ code. if code == 204 then Some 0 else length_said (lengths (reply_fields h))) at.code);
         small = no_larger _ size spans.code k.small k.is;
         status = at.code;
-        allow = subst (λ fs. FindsFirst bytes (length bytes) found.first (values_named (codes "allow") fs)) at.fields (allow_found bytes found.first found.again _ finds);
+        allow = subst (λ fs. FindsFirstValue bytes (length bytes) found.first (values_named (codes "allow") fs)) at.fields (allow_found bytes found.first found.again _ finds);
       },
     )
 
@@ -118,7 +118,7 @@ no_longer_reply bytes more none many r rest whole =
 
 -- ---- what follows
 
-FindsFirst-append : (bytes more : List ℕ) (first : Option Span) (values : List (List ℕ)) → FindsFirst bytes (length bytes) first values → FindsFirst (bytes ++ more) (length (bytes ++ more)) first values
+FindsFirst-append : (bytes more : List ℕ) (first : Option Span) (values : List (List ℕ)) → FindsFirstValue bytes (length bytes) first values → FindsFirstValue (bytes ++ more) (length (bytes ++ more)) first values
 FindsFirst-append bytes more None values finds = finds
 FindsFirst-append bytes more (Some s) values finds =
     let same = span-append bytes more (length bytes) s (omega arith) finds.0 in
@@ -140,12 +140,12 @@ IsReplyHeadAt-append bytes more new head h grown at =
 
 -- ---- a reply
 
-allow_is : (bytes : List ℕ) (first : Option Span) (values : List (List ℕ)) (allow : Option (List ℕ)) → FindsFirst bytes (length bytes) first values → AllowIs bytes first allow → IsAllow values allow
+allow_is : (bytes : List ℕ) (first : Option Span) (values : List (List ℕ)) (allow : Option (List ℕ)) → FindsFirstValue bytes (length bytes) first values → AllowIs bytes first allow → IsAllow values allow
 allow_is bytes None values allow finds is = rw finds is
 allow_is bytes (Some s) values None finds is = rw finds.1.1 is
 allow_is bytes (Some s) values (Some allow) finds is = rw finds.1.1 is
 
-pub allow_within : (bytes : List ℕ) (first : Option Span) (values : List (List ℕ)) → FindsFirst bytes (length bytes) first values → IfSome first (IsWithin (length bytes))
+pub allow_within : (bytes : List ℕ) (first : Option Span) (values : List (List ℕ)) → FindsFirstValue bytes (length bytes) first values → IfSome first (IsWithin (length bytes))
 allow_within bytes None values finds = tt
 allow_within bytes (Some s) values finds = finds.0
 

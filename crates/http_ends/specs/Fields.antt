@@ -8,22 +8,22 @@ use Rattle.httparse.specs.Ascii.{comma}
 use Rattle.httparse.specs.Grammar.{trim_ows}
 
 -- The field has this name. Names are compared without regard to case (RFC 9110, section 5.1).
-abbrev pub is_named : List ℕ → List ℕ × List ℕ → Bool
-is_named name field = str_eq_ignore_ascii_case field.0 name
+abbrev pub is_field_named : List ℕ → List ℕ × List ℕ → Bool
+is_field_named name field = str_eq_ignore_ascii_case field.0 name
 
 -- The values of the fields of this name, in their order.
 abbrev pub values_named : List ℕ → List (List ℕ × List ℕ) → List (List ℕ)
 values_named name [] = []
-values_named name (field ∷ fields) = if is_named name field then field.1 ∷ values_named name fields else values_named name fields
+values_named name (field ∷ fields) = if is_field_named name field then field.1 ∷ values_named name fields else values_named name fields
 
 -- 1 to 18 digits.
-abbrev pub is_number : List ℕ → Bool
-is_number text = nat_lt 0 (length text) && (nat_le (length text) 18 && list_all is_ascii_digit text)
+abbrev pub is_content_length : List ℕ → Bool
+is_content_length text = nat_lt 0 (length text) && (nat_le (length text) 18 && list_all is_ascii_digit text)
 
 -- There is no length, or one, which is a number: a second one, also an equal one, is refused (RFC 9112, section 6.3).
 abbrev pub is_framed : List (List ℕ) → Bool
 is_framed [] = true
-is_framed (value ∷ []) = is_number value
+is_framed (value ∷ []) = is_content_length value
 is_framed (value ∷ other ∷ values) = false
 
 -- The length that is said, if one is.
@@ -45,4 +45,4 @@ is_connection_option option text = str_eq_ignore_ascii_case (trim_ows text) opti
 
 -- The field is a `Connection` that has the option `close` between its commas (RFC 9112, section 9.6).
 abbrev pub says_close : List ℕ × List ℕ → Bool
-says_close field = is_named (codes "connection") field && list_any (is_connection_option (codes "close")) (slice_split (λ b. b == comma) field.1)
+says_close field = is_field_named (codes "connection") field && list_any (is_connection_option (codes "close")) (slice_split (λ b. b == comma) field.1)

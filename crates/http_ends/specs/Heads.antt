@@ -11,7 +11,7 @@ abbrev pub fields_of : RequestHead → List (List ℕ × List ℕ)
 fields_of h = map name_and_value h.fields
 
 -- The head has at most 16,384 bytes, empty lines before it included, and 64 fields, and says at most one length.
-pub record IsWithinLimits (h : RequestHead) : Type 0 where
+pub record HeadIsWithinLimits (h : RequestHead) : Type 0 where
   pub size : length (print_request h) ≤ 16384
   pub few : length h.fields ≤ 64
   pub framed : IsTrue (is_framed (lengths (fields_of h)))
@@ -19,7 +19,7 @@ pub record IsWithinLimits (h : RequestHead) : Type 0 where
 -- The stream begins with this head, and these bytes follow it.
 pub record BeginsWith (stream : List ℕ) (h : RequestHead) (after : List ℕ) : Type 0 where
   pub reads : ReadsRequest stream h after
-  pub within : IsWithinLimits h
+  pub within : HeadIsWithinLimits h
 
 -- How many bytes the body has: none where no length is said.
 abbrev pub body_length : RequestHead → ℕ

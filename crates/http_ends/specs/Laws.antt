@@ -20,7 +20,7 @@ abbrev pub OneReply : Type 0
 OneReply = (stream : List ℕ) (a b : Response) (r q : List ℕ) → BeginsWithReply stream a r → BeginsWithReply stream b q → (a ≡ b) × (r ≡ q)
 
 -- Words of which a request is made: visible ASCII, a method that is a token, and together within the limit of a head.
-pub record AreWords (host : List ℕ) (port : ℕ) (method target : List ℕ) : Type 0 where
+pub record AreRequestWords (host : List ℕ) (port : ℕ) (method target : List ℕ) : Type 0 where
   pub host_visible : IsTrue (list_all is_ascii_graphic host)
   pub port_fits : port < 2 ^ 16
   pub method_token : IsToken method
@@ -32,7 +32,7 @@ pub record AreWords (host : List ℕ) (port : ℕ) (method target : List ℕ) : 
 abbrev pub RequestsReadBack : Type 0
 RequestsReadBack =
     (host : List ℕ) (port : ℕ) (method target : List ℕ) (body : Option (List ℕ)) (rest : List ℕ)
-    → AreWords host port method target → length (body_bytes body) ≤ 4194304
+    → AreRequestWords host port method target → length (body_bytes body) ≤ 4194304
     → IsNext (request_text host port method target body ++ rest) (Ok (record {
       method = method;
       path = before_first (λ b. b == 63) target;

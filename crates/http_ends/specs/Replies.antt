@@ -1,5 +1,5 @@
 -- The text of a reply (RFC 9112, section 4).
-use Rattle.std.specs.Prelude.{◌≡◌, ◌≢◌, ℕ, Bool, List, [], ◌∷◌, ◌++◌, length, Option, Some, None, if◌then◌else◌, ◌==◌, bytes_eq, codes, decimal, IsTrue, unwrap_or}
+use Rattle.std.specs.Prelude.{◌≡◌, ◌≢◌, ℕ, Bool, List, [], ◌∷◌, ◌++◌, length, Option, Some, None, if◌then◌else◌, ◌==◌, bytes_eq, codes, decimal, IsTrue, IsSome, unwrap_or}
 use Rattle.std.specs.List.{list_any}
 use Rattle.http_ends.specs.declared.response.Response.{Response}
 use Rattle.http_ends.specs.Lines.{fields_text}
@@ -53,3 +53,10 @@ reply_head r close =
 -- The text of a reply: its head, and its body but where the head alone was asked for (RFC 9110, section 9.3.2).
 abbrev pub reply_text : Response → Bool → Bool → List ℕ
 reply_text r close head_only = reply_head r close ++ (if head_only then [] else r.body)
+
+-- The response can be written: its status is one that is, a list of methods stands beside the status 405 alone, and the
+-- status 204 has no body.
+pub record IsWritable (response : Response) : Type 0 where
+  pub status : IsSome (phrase_of response.status)
+  pub allow : IsAllowed response.status response.allow
+  pub empty : response.status ≡ 204 → response.body ≡ []

@@ -3,7 +3,7 @@ ghost use Rattle.std.specs.Io.KnownBytes.{Consumes, IsAtEnd, Keeps};
 ghost use Rattle.dt_base.specs.Faults.{Rose};
 ghost use Rattle.http_ends.specs.declared.buffer.Filled.{Filled};
 ghost use Rattle.http_ends.specs.declared.buffer.Filled.TheVariants.{More, Ended, Failed};
-ghost use Rattle.http_ends.specs.reading.Reads.{Reads};
+ghost use Rattle.http_ends.specs.reading.Reads.{ReadsMore};
 
 use dt_base::{OutOfMemory, Source};
 use std::alloc::{AllocError, Global};
@@ -134,7 +134,7 @@ impl Buffer {
 
     /// Reads once from the link, and puts what comes at the end. After want of memory nothing was read.
     pub(crate) fn fill<S: Source>(&mut self, link: &mut S) -> Result<Filled, OutOfMemory>
-        ensures read { Reads S.left S.aside S.faults link.old link.new self.old self.new }
+        ensures read { ReadsMore S.left S.aside S.faults link.old link.new self.old self.new }
         ensures more { result ≡ Ok More → length self.old < length self.new }
         ensures ended { result ≡ Ok Ended → (self.new ≡ self.old) × IsAtEnd (S.left link.new) }
         ensures failed { result ≡ Ok Failed → (self.new ≡ self.old) × Rose (S.faults link.old) (S.faults link.new) }

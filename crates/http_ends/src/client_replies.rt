@@ -5,7 +5,7 @@ ghost use Rattle.httparse.specs.Spans.{IsWithin, span_bytes};
 ghost use Rattle.http_ends.specs.ReplyReading.{AnswersReply, IsAllow};
 ghost use Rattle.http_ends.specs.Streams.{stream_of, OnStreams};
 ghost use Rattle.http_ends.specs.reading.JudgingReplies.{IsReplyHeadAt, ReplyEnds, AllowIs};
-ghost use Rattle.http_ends.specs.reading.Reads.{Reads};
+ghost use Rattle.http_ends.specs.reading.Reads.{ReadsMore};
 
 use crate::buffer::Filled;
 use crate::reply_head::{ReplyHead, judge_reply};
@@ -19,7 +19,7 @@ use std::alloc::Global;
 
 /// Reads the head of a reply.
 fn read_reply_head<S: Source>(link: &mut S, buffer: &mut Buffer) -> Result<ReplyHead, ReplyEnd>
-    ensures read { Reads S.left S.aside S.faults link.old link.new buffer.old buffer.new }
+    ensures read { ReadsMore S.left S.aside S.faults link.old link.new buffer.old buffer.new }
     ensures head { IfOk result (λ head. (h : ResponseHead) × IsReplyHeadAt buffer.new head h) }
     ensures why { IfErr result (ReplyEnds buffer.new (S.left link.new)) }
     ensures cause { result ≡ Err ReplyEnd.ReadFault → Rose (S.faults link.old) (S.faults link.new) }

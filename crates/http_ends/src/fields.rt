@@ -4,7 +4,7 @@ ghost use Rattle.std.specs.Str.Parse.{digits_value};
 ghost use Rattle.httparse.specs.Ascii.{comma};
 ghost use Rattle.httparse.specs.Grammar.{skip_ows};
 ghost use Rattle.httparse.specs.Spans.{IsHeaderWithin, header_bytes};
-ghost use Rattle.http_ends.specs.Fields.{is_named, values_named, is_number, is_framed, length_said, lengths, is_connection_option, says_close};
+ghost use Rattle.http_ends.specs.Fields.{is_field_named, values_named, is_content_length, is_framed, length_said, lengths, is_connection_option, says_close};
 ghost use Rattle.http_ends.specs.reading.Finding.{Finds};
 
 use httparse::is_space_or_tab;
@@ -16,7 +16,7 @@ const MOST_DIGITS: usize = 18;
 /// Whether the field has this name.
 fn is_named(bytes: &[u8], field: &HeaderSpan, name: &[u8]) -> bool
     requires { IsHeaderWithin (length bytes.now) field.now }
-    ensures { result ≡ is_named name.now (header_bytes bytes.now field.now) }
+    ensures { result ≡ is_field_named name.now (header_bytes bytes.now field.now) }
 {
     field.name.of(bytes).eq_ignore_ascii_case(name)
 }
@@ -50,7 +50,7 @@ pub(crate) fn find_named(bytes: &[u8], fields: &[HeaderSpan], name: &[u8]) -> Fo
 
 /// The number that 1 to 18 digits are.
 fn number_of(text: &[u8]) -> Option<u64>
-    ensures { result ≡ (if is_number text.now then Some (digits_value 10 text.now) else None) }
+    ensures { result ≡ (if is_content_length text.now then Some (digits_value 10 text.now) else None) }
 {
     if text.is_empty() || text.len() > MOST_DIGITS {
         return None;

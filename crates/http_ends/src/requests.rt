@@ -10,7 +10,7 @@ ghost use Rattle.http_ends.specs.Heads.{BeginsWith};
 ghost use Rattle.http_ends.specs.Messages.{Holds};
 ghost use Rattle.http_ends.specs.Streams.{stream_of, OnStreams, ReadsNext};
 ghost use Rattle.http_ends.specs.reading.Judging.{IsHeadAt, HeadEnds};
-ghost use Rattle.http_ends.specs.reading.Reads.{Reads, IsUnread};
+ghost use Rattle.http_ends.specs.reading.Reads.{ReadsMore, IsUnread};
 
 use crate::buffer::Filled;
 use crate::request_head::{Head, MOST_HEAD, judge_request};
@@ -31,7 +31,7 @@ pub(crate) fn await_head<S: Source>(
     search: &mut Search,
 ) -> Result<Filled, OutOfMemory>
     requires { length buffer.old < 16384 }
-    ensures read { Reads S.left S.aside S.faults link.old link.new buffer.old buffer.new }
+    ensures read { ReadsMore S.left S.aside S.faults link.old link.new buffer.old buffer.new }
     ensures more { result ≡ Ok More → length buffer.old < length buffer.new }
     ensures ended { result ≡ Ok Ended → IsAtEnd (S.left link.new) }
     ensures failed { result ≡ Ok Failed → Rose (S.faults link.old) (S.faults link.new) }
@@ -52,7 +52,7 @@ pub(crate) fn await_body<S: Source>(
     buffer: &mut Buffer,
     size: usize,
 ) -> Result<Filled, OutOfMemory>
-    ensures read { Reads S.left S.aside S.faults link.old link.new buffer.old buffer.new }
+    ensures read { ReadsMore S.left S.aside S.faults link.old link.new buffer.old buffer.new }
     ensures more { result ≡ Ok More → size ≤ length buffer.new }
     ensures short { (result ≡ Ok Ended) ⊎ (result ≡ Ok Failed) → length buffer.new < size }
     ensures ended { result ≡ Ok Ended → IsAtEnd (S.left link.new) }
@@ -70,7 +70,7 @@ pub(crate) fn await_body<S: Source>(
 
 /// Reads the head of the next request.
 fn read_head<S: Source>(link: &mut S, buffer: &mut Buffer) -> Result<Head, HttpEnd>
-    ensures read { Reads S.left S.aside S.faults link.old link.new buffer.old buffer.new }
+    ensures read { ReadsMore S.left S.aside S.faults link.old link.new buffer.old buffer.new }
     ensures head { IfOk result (λ head. (h : RequestHead) × IsHeadAt buffer.new head h) }
     ensures why { IfErr result (HeadEnds buffer.new (S.left link.new)) }
     ensures cause { result ≡ Err ReadFault → Rose (S.faults link.old) (S.faults link.new) }

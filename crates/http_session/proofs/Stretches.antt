@@ -15,9 +15,9 @@ use Rattle.http_ends.specs.Streams.{stream_of, OnStreams, ReadsNext}
 use Rattle.http_session.specs.Refusals.{refusal_of}
 use Rattle.http_session.specs.declared.ends.SessionEnd.{SessionEnd}
 use Rattle.http_session.specs.declared.ends.SessionEnd.TheVariants.{Closed, Refused, Full, ReadFault, WriteFault, OutOfMemory}
-use Rattle.http_session.specs.Answers.{IsAnswered, text_of}
+use Rattle.http_session.specs.Answers.{IsAnswered, answer_text}
 use Rattle.http_session.specs.Sessions.{Exchange, entries_of, texts_of, IsMessage, AreRead, IsWritten, IsCause, EndsFor, EndsWith, Ends, IsOpen, Session}
-use Rattle.http_session.specs.Turns.{World, world, Refuses, Moves, Responds, Turns, Going, Serves}
+use Rattle.http_session.specs.Turns.{World, world, RefusesSession, Moves, Responds, Turns, Going, Serves}
 
 -- a stream of which nothing was read
 pub stream_of-nil : (left : Option (List ℕ)) → stream_of [] left ≡ left
@@ -41,11 +41,11 @@ module _ {E : Type 0} where
   entries_more [] x = append-nil (option_to_list x.entry)
   entries_more (y ∷ ys) x = ap (λ (es : List E). option_to_list y.entry ++ es) (entries_more ys x) ∙ sym (append_assoc (option_to_list y.entry) (entries_of ys) (option_to_list x.entry))
 
-  texts_more : (xs : List (Exchange E)) (x : Exchange E) → texts_of (xs ++ x ∷ []) ≡ texts_of xs ++ text_of x.request x.response false
-  texts_more [] x = append-nil (text_of x.request x.response false)
+  texts_more : (xs : List (Exchange E)) (x : Exchange E) → texts_of (xs ++ x ∷ []) ≡ texts_of xs ++ answer_text x.request x.response false
+  texts_more [] x = append-nil (answer_text x.request x.response false)
   texts_more (y ∷ ys) x =
-      ap (λ (bs : List ℕ). text_of y.request y.response false ++ bs) (texts_more ys x)
-      ∙ sym (append_assoc (text_of y.request y.response false) (texts_of ys) (text_of x.request x.response false))
+      ap (λ (bs : List ℕ). answer_text y.request y.response false ++ bs) (texts_more ys x)
+      ∙ sym (append_assoc (answer_text y.request y.response false) (texts_of ys) (answer_text x.request x.response false))
 
 written_weaker : (r s : Type 0) (text out : List ℕ) → (r → s) → IsWritten r text out → IsWritten s text out
 written_weaker r s text out f (inl h) = inl h
@@ -60,7 +60,7 @@ for_weaker r s WriteFault cause out f h = h
 for_weaker r s OutOfMemory cause out f h = written_weaker r s _ out f h
 
 -- what became of a closing refusal is what became of its cause
-pub refused : (rose : Type 0) (before after : Option (List ℕ)) (response : Response) (cause : HttpEnd) (end : SessionEnd) → refusal_of cause ≡ Some response → Refuses rose before after response end
+pub refused : (rose : Type 0) (before after : Option (List ℕ)) (response : Response) (cause : HttpEnd) (end : SessionEnd) → refusal_of cause ≡ Some response → RefusesSession rose before after response end
     → (out : List ℕ) × Appends before after out × EndsFor rose end cause out
 refused rose before after response cause Closed e h = absurd h.2
 refused rose before after response cause Refused e h = (h.0, h.1, (response, e, h.2))

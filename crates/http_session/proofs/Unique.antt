@@ -10,7 +10,7 @@ use Rattle.http_ends.specs.Messages.{IsNext}
 use Rattle.http_ends.proofs.OneLemmas.{one_next}
 use Rattle.http_session.specs.declared.ends.SessionEnd.{SessionEnd}
 use Rattle.http_session.specs.declared.ends.SessionEnd.TheVariants.{Closed, Refused, Full, ReadFault, WriteFault, OutOfMemory}
-use Rattle.http_session.specs.Answers.{IsAnswered, text_of}
+use Rattle.http_session.specs.Answers.{IsAnswered, answer_text}
 use Rattle.http_session.specs.Refusals.{refusal_of, refusal_text}
 use Rattle.http_session.specs.Sessions.{Exchange, entries_of, texts_of, IsMessage, AreRead, IsCause, EndsFor, Replies, EndsWith, Ends, IsOpen}
 use Rattle.http_session.specs.Legal.{AreLegal}
@@ -134,7 +134,7 @@ module _ {S E : Type 0} (own : Request → Response → Type 0) (enters : Reques
       let legal : AreLegal allowed follows s (option_to_list h.0 ++ []) t = rw (append-nil, ← h.3) l in
       let lawful : AreLegal allowed follows s (option_to_list k.0 ++ []) u = rw (append-nil, ← k.3) m in
       let one = one_answer d s t u request h.0 k.0 h.1 k.1 [] [] h.2 k.2 legal lawful in
-      (zipped same es (option_to_list h.0) fs (option_to_list k.0) h.3 k.3 one.entry, h.4 ∙ ap (λ r. text_of request r true) one.response ∙ sym k.4)
+      (zipped same es (option_to_list h.0) fs (option_to_list k.0) h.3 k.3 one.entry, h.4 ∙ ap (λ r. answer_text request r true) one.response ∙ sym k.4)
 
   one_with : AreFunctions own enters allowed follows same → (s t u : S) (last : Bool) (end other : SessionEnd) (request : Request) (es fs : List E) (out text : List ℕ)
       → IsDecided end → IsDecided other → EndsWith own enters (Unit {0}) last end request es out → EndsWith own enters (Unit {0}) last other request fs text
@@ -213,11 +213,11 @@ module _ {S E : Type 0} (own : Request → Response → Type 0) (enters : Reques
         zipped same ((option_to_list x.entry ++ entries_of xs) ++ es) (option_to_list x.entry ++ (entries_of xs ++ es)) ((option_to_list y.entry ++ entries_of ys) ++ fs) (option_to_list y.entry ++ (entries_of ys ++ fs))
             (append_assoc (option_to_list x.entry) (entries_of xs) es) (append_assoc (option_to_list y.entry) (entries_of ys) fs)
             (zip_more same (option_to_list x.entry) (option_to_list y.entry) (entries_of xs ++ es) (entries_of ys ++ fs) one.entry more.1),
-        append_assoc (text_of x.request x.response false) (texts_of xs) out
-            ∙ ap (λ (r : Request). text_of r x.response false ++ (texts_of xs ++ out)) next.request_is
-            ∙ ap (λ (r : Response). text_of y.request r false ++ (texts_of xs ++ out)) one.response
-            ∙ ap (λ (z : List ℕ). text_of y.request y.response false ++ z) more.2
-            ∙ sym (append_assoc (text_of y.request y.response false) (texts_of ys) text),
+        append_assoc (answer_text x.request x.response false) (texts_of xs) out
+            ∙ ap (λ (r : Request). answer_text r x.response false ++ (texts_of xs ++ out)) next.request_is
+            ∙ ap (λ (r : Response). answer_text y.request r false ++ (texts_of xs ++ out)) one.response
+            ∙ ap (λ (z : List ℕ). answer_text y.request y.response false ++ z) more.2
+            ∙ sym (append_assoc (answer_text y.request y.response false) (texts_of ys) text),
       )
 
 pub one_session : {S E : Type 0} (own : Request → Response → Type 0) (enters : Request → E → Response → Type 0) (allowed : S → E → Type 0) (follows : S → E → S) (same : E → E → Type 0) → OneSession own enters allowed follows same

@@ -8,24 +8,17 @@ use Rattle.http_session.specs.declared.service.Trouble.{Trouble}
 use Rattle.http_session.specs.declared.service.Trouble.TheVariants.{NoEntry, EntryInHand}
 
 -- The request has no more bytes than one that is read has: 16,384 in its path and query together, 4,194,304 in its body.
-pub record IsWithinLimits (request : Request) : Type 0 where
+pub record RequestIsWithinLimits (request : Request) : Type 0 where
   pub target : length request.path + length request.query ≤ 16384
   pub body : length request.body ≤ 4194304
-
--- The response can be written: its status is one that is, a list of methods stands beside the status 405 alone, and the
--- status 204 has no body.
-pub record IsWritable (response : Response) : Type 0 where
-  pub status : IsSome (phrase_of response.status)
-  pub allow : IsAllowed response.status response.allow
-  pub empty : response.status ≡ 204 → response.body ≡ []
 
 -- The head of the response alone is asked for (RFC 9110, section 9.3.2).
 abbrev pub is_head : Request → Bool
 is_head request = bytes_eq request.method (codes "HEAD")
 
 -- The text of the reply to a request.
-abbrev pub text_of : Request → Response → Bool → List ℕ
-text_of request response close = reply_text response close (is_head request)
+abbrev pub answer_text : Request → Response → Bool → List ℕ
+answer_text request response close = reply_text response close (is_head request)
 
 module _ {E : Type 0} (own : Request → Response → Type 0) (enters : Request → E → Response → Type 0) where
   -- The request's own bytes decide the response and there is no entry, or the request left this entry.

@@ -11,7 +11,7 @@ use Rattle.http_ends.specs.declared.request.HttpEnd.TheVariants as causes
 use Rattle.http_ends.specs.declared.response.Response.{Response}
 use Rattle.http_ends.specs.Messages.{BeginsWithMessage, IsNext, Holds}
 use Rattle.http_ends.specs.Streams.{OnStreams}
-use Rattle.http_session.specs.Answers.{IsAnswered, text_of}
+use Rattle.http_session.specs.Answers.{IsAnswered, answer_text}
 use Rattle.http_session.specs.Refusals.{refusal_of, refusal_text, unavailable}
 use Rattle.http_session.specs.declared.ends.SessionEnd.{SessionEnd}
 use Rattle.http_session.specs.declared.ends.SessionEnd.TheVariants.{Closed, Refused, Full, ReadFault, WriteFault, OutOfMemory}
@@ -30,7 +30,7 @@ entries_of (x ∷ xs) = option_to_list x.entry ++ entries_of xs
 -- The texts of their replies, none of them closing.
 abbrev pub texts_of : {E : Type 0} → List (Exchange E) → List ℕ
 texts_of [] = []
-texts_of (x ∷ xs) = text_of x.request x.response false ++ texts_of xs
+texts_of (x ∷ xs) = answer_text x.request x.response false ++ texts_of xs
 
 -- The stream begins with the message of the request, and the other stream follows.
 abbrev pub IsMessage : Option (List ℕ) → Request → Option (List ℕ) → Type 0
@@ -42,12 +42,12 @@ AreRead stream [] after = after ≡ stream
 AreRead stream (x ∷ xs) after = (mid : Option (List ℕ)) × IsMessage stream x.request mid × AreRead mid xs after
 
 -- A proper prefix of a text was written.
-abbrev pub IsCutShort : List ℕ → List ℕ → Type 0
-IsCutShort text out = (n : ℕ) × (n < length text) × (out ≡ take n text)
+abbrev pub IsProperPrefix : List ℕ → List ℕ → Type 0
+IsProperPrefix text out = (n : ℕ) × (n < length text) × (out ≡ take n text)
 
 -- A text was written whole, or a proper prefix of it where the sink's count of faults rose.
 abbrev pub IsWritten : Type 0 → List ℕ → List ℕ → Type 0
-IsWritten rose text out = (out ≡ text) ⊎ (IsCutShort text out × rose)
+IsWritten rose text out = (out ≡ text) ⊎ (IsProperPrefix text out × rose)
 
 -- Why no request was read of the stream, where its source has these bytes left. A read failed only where what was read of
 -- the stream holds no request. Want of memory has no cause in the stream.
@@ -63,14 +63,14 @@ EndsFor rose Closed cause out = (cause ≡ causes.Closed) × (out ≡ [])
 EndsFor rose Refused cause out = (response : Response) × (refusal_of cause ≡ Some response) × (out ≡ refusal_text response)
 EndsFor rose Full cause out = ⊥
 EndsFor rose ReadFault cause out = (cause ≡ causes.ReadFault) × (out ≡ [])
-EndsFor rose WriteFault cause out = (response : Response) × (refusal_of cause ≡ Some response) × IsCutShort (refusal_text response) out
+EndsFor rose WriteFault cause out = (response : Response) × (refusal_of cause ≡ Some response) × IsProperPrefix (refusal_text response) out
 EndsFor rose OutOfMemory cause out = IsWritten rose unavailable out
 
 module _ {E : Type 0} (own : Request → Response → Type 0) (enters : Request → E → Response → Type 0) where
   -- The request was answered: its entry, if it left one, and the text of its reply.
   abbrev pub Replies : Request → Bool → List E → List ℕ → Type 0
   Replies request close es out =
-      (entry : Option E) × (response : Response) × IsAnswered own enters request entry response × (es ≡ option_to_list entry) × (out ≡ text_of request response close)
+      (entry : Option E) × (response : Response) × IsAnswered own enters request entry response × (es ≡ option_to_list entry) × (out ≡ answer_text request response close)
 
   -- The session ends with this request, which was read whole: the entries that it left, and what was written. `last` says
   -- that its reply is the 1,000,000th. Where no memory was found, either no entry is in hand and the fixed text is
@@ -80,7 +80,7 @@ module _ {E : Type 0} (own : Request → Response → Type 0) (enters : Request 
   EndsWith rose last Refused request es out = ⊥
   EndsWith rose last Full request es out = Replies request true es out × (request.close ≡ false) × (last ≡ true)
   EndsWith rose last ReadFault request es out = ⊥
-  EndsWith rose last WriteFault request es out = (text : List ℕ) × Replies request (request.close || last) es text × IsCutShort text out
+  EndsWith rose last WriteFault request es out = (text : List ℕ) × Replies request (request.close || last) es text × IsProperPrefix text out
   EndsWith rose last OutOfMemory request es out =
       ((es ≡ []) × IsWritten rose unavailable out)
       ⊎ ((entry : E) × (response : Response) × enters request entry response × (es ≡ entry ∷ []) × (out ≡ []))

@@ -6,10 +6,10 @@ use Rattle.http_ends.specs.declared.request.Request.{Request}
 use Rattle.http_ends.specs.declared.request.HttpEnd.{HttpEnd}
 use Rattle.http_ends.specs.declared.response.Response.{Response}
 use Rattle.http_session.specs.declared.ends.SessionEnd.{SessionEnd}
-use Rattle.http_session.specs.Answers.{text_of}
+use Rattle.http_session.specs.Answers.{answer_text}
 use Rattle.http_session.specs.declared.ends.SessionEnd.TheVariants as ends
 use Rattle.http_session.specs.Refusals.{refusal_text, unavailable}
-use Rattle.http_session.specs.Sessions.{IsCutShort, IsWritten, Exchange, entries_of, texts_of, IsMessage, AreRead, IsOpen, Replies, EndsWith, EndsFor, Ends, Session}
+use Rattle.http_session.specs.Sessions.{IsProperPrefix, IsWritten, Exchange, entries_of, texts_of, IsMessage, AreRead, IsOpen, Replies, EndsWith, EndsFor, Ends, Session}
 
 -- What is told at a moment: the bytes that are not used or not read yet, those that were written, and the service.
 pub record World (D : Type 0) : Type 0 where
@@ -23,12 +23,12 @@ world bytes taken service = record { bytes = bytes; taken = taken; service = ser
 -- What became of a closing refusal.
 abbrev pub RefusedWith : Type 0 → Response → List ℕ → SessionEnd → Type 0
 RefusedWith rose response out ends.Refused = out ≡ refusal_text response
-RefusedWith rose response out ends.WriteFault = IsCutShort (refusal_text response) out
+RefusedWith rose response out ends.WriteFault = IsProperPrefix (refusal_text response) out
 RefusedWith rose response out ends.OutOfMemory = IsWritten rose unavailable out
 RefusedWith rose response out end = ⊥
 
-abbrev pub Refuses : Type 0 → Option (List ℕ) → Option (List ℕ) → Response → SessionEnd → Type 0
-Refuses rose before after response end = (out : List ℕ) × Appends before after out × RefusedWith rose response out end
+abbrev pub RefusesSession : Type 0 → Option (List ℕ) → Option (List ℕ) → Response → SessionEnd → Type 0
+RefusesSession rose before after response end = (out : List ℕ) × Appends before after out × RefusedWith rose response out end
 
 -- From one moment to another these entries were left and these bytes written.
 pub record Moves {D E : Type 0} (goes : D → List E → D → Type 0) (a b : World D) (es : List E) (out : List ℕ) : Type 0 where
@@ -51,7 +51,7 @@ module _ {D E : Type 0} (goes : D → List E → D → Type 0) (own : Request �
   -- One turn: a request was read and answered, or the session ended. `left` is what the source has left then.
   abbrev pub Turns : Type 0 → Bool → World D → World D → Option (List ℕ) → Option SessionEnd → Type 0
   Turns rose last a b left None =
-      (x : Exchange E) × IsMessage a.bytes x.request b.bytes × IsOpen own enters x × (last ≡ false) × Moves goes a b (option_to_list x.entry) (text_of x.request x.response false)
+      (x : Exchange E) × IsMessage a.bytes x.request b.bytes × IsOpen own enters x × (last ≡ false) × Moves goes a b (option_to_list x.entry) (answer_text x.request x.response false)
   Turns rose last a b left (Some end) = (es : List E) × (out : List ℕ) × Moves goes a b es out × Ends own enters rose last end a.bytes left es out × ((took : List ℕ) × Consumes a.bytes left took)
 
   -- The turns so far, n requests.

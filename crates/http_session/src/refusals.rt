@@ -7,7 +7,7 @@ ghost use Rattle.http_ends.specs.Replies.{phrase_of};
 ghost use Rattle.http_session.specs.declared.ends.SessionEnd.TheVariants.{WriteFault};
 ghost use Rattle.http_session.specs.Refusals.{error, unavailable};
 ghost use Rattle.http_session.specs.Sessions.{EndsFor, IsWritten};
-ghost use Rattle.http_session.specs.Turns.{Refuses};
+ghost use Rattle.http_session.specs.Turns.{RefusesSession};
 
 use crate::SessionEnd;
 use dt_base::{List, OutOfMemory, Sink, write_all};
@@ -44,7 +44,7 @@ fn make_error(alloc: Global, status: u16, body: &[u8]) -> Result<Response, OutOf
 fn refuse<K: Sink>(alloc: Global, sink: &mut K, status: u16, body: &[u8]) -> SessionEnd
     requires status { IsSome (phrase_of status) }
     requires other { (status ≢ 204) × (status ≢ 405) }
-    ensures refuses { Refuses (Rose (K.faults sink.old) (K.faults sink.new)) (K.taken sink.old) (K.taken sink.new) (error status body.now) result }
+    ensures refuses { RefusesSession (Rose (K.faults sink.old) (K.faults sink.new)) (K.taken sink.old) (K.taken sink.new) (error status body.now) result }
     ensures cause { result ≡ WriteFault → Rose (K.faults sink.old) (K.faults sink.new) }
     ensures count { K.faults sink.old ≤ K.faults sink.new }
     ensures beside { K.aside sink.new ≡ K.aside sink.old }

@@ -1,7 +1,8 @@
 ghost use Rattle.std.specs.Prelude.{IfOk, List, [], ◌++◌};
 ghost use Rattle.http_ends.specs.declared.request.Request.{Request};
 ghost use Rattle.http_ends.specs.declared.response.Response.{Response};
-ghost use Rattle.http_session.specs.Answers.{Answers, IsWithinLimits, IsWritable};
+ghost use Rattle.http_session.specs.Answers.{Answers, RequestIsWithinLimits};
+ghost use Rattle.http_ends.specs.Replies.{IsWritable};
 
 use http_ends::{Request, Response};
 use thiserror::Error;
@@ -42,7 +43,7 @@ pub trait Service {
     ///
     /// Want of memory says whether the request left its entry.
     fn answer(&mut self, request: &Request) -> Result<Answer, Trouble>
-        requires within { IsWithinLimits request.now }
+        requires within { RequestIsWithinLimits request.now }
         ensures answers { Answers own enters goes self.old self.new request.now result }
         ensures writable { IfOk result (λ answer. IsWritable answer.response) };
 

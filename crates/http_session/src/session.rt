@@ -4,7 +4,7 @@ ghost use Rattle.std.specs.Prelude.{◌≡◌, ◌≤◌, None, Some, IfOk, ◌|
 ghost use Rattle.dt_base.specs.Faults.{Rose};
 ghost use Rattle.http_ends.specs.Streams.{stream_of};
 ghost use Rattle.http_session.specs.declared.ends.SessionEnd.TheVariants.{ReadFault, WriteFault};
-ghost use Rattle.http_session.specs.Answers.{IsWithinLimits, is_head};
+ghost use Rattle.http_session.specs.Answers.{RequestIsWithinLimits, is_head};
 ghost use Rattle.http_session.specs.Turns.{world, Exchanges, Responds, Turns, Serves};
 
 use crate::refusals::{end_for, give_up};
@@ -38,7 +38,7 @@ fn exchange<D: Service, K: Sink>(
     request: &Request,
     last: bool,
 ) -> Option<SessionEnd>
-    requires { IsWithinLimits request.now }
+    requires { RequestIsWithinLimits request.now }
     ensures exchanges { Exchanges D.goes D.own D.enters (Rose (K.faults sink.old) (K.faults sink.new)) last request.now (world None (K.taken sink.old) service.old) (world None (K.taken sink.new) service.new) result }
     ensures cause { result ≡ Some WriteFault → Rose (K.faults sink.old) (K.faults sink.new) }
     ensures count { K.faults sink.old ≤ K.faults sink.new }
@@ -75,7 +75,7 @@ pub(crate) fn respond<D: Service, K: Sink>(
     next: Result<Request, HttpEnd>,
     last: bool,
 ) -> Option<SessionEnd>
-    requires { IfOk next IsWithinLimits }
+    requires { IfOk next RequestIsWithinLimits }
     ensures responds { Responds D.goes D.own D.enters (Rose (K.faults sink.old) (K.faults sink.new)) last next (world None (K.taken sink.old) service.old) (world None (K.taken sink.new) service.new) result }
     ensures cause { result ≡ Some WriteFault → Rose (K.faults sink.old) (K.faults sink.new) }
     ensures count { K.faults sink.old ≤ K.faults sink.new }

@@ -1,7 +1,7 @@
 -- What stands in front and what follows: a part of a text is the same part in front of anything else.
 use Rattle.std.proofs.Common.{◌≡◌, ℕ, zero, suc, ◌*◌, ◌+◌, inl, inr, codes, List, [], ◌∷◌, ◌++◌, append_assoc, refl, sym, ap, ◌∙◌, subst}
 use Rattle.json_tree.specs.Values.{Raw, null, truth, number, text, array, object, Elements, no_elements, element, Members, no_members, member}
-use Rattle.json_tree.specs.Grammar.{IsSpaces, AreHexDigits, IsUnit, IsUnicode, IsEscape, IsCharacter, IsCharacters, IsString, literal, IsValue, IsElements, IsMoreElements, IsMembers, IsMoreMembers}
+use Rattle.json_tree.specs.Grammar.{IsSpaces, AreHexDigits, IsUnit, IsUnicode, IsEscape, IsCharacter, IsCharacters, IsString, literal_name, IsValue, IsElements, IsMoreElements, IsMembers, IsMoreMembers}
 
 -- What the relation takes from the front stands in front of `to`, and it takes the same in front of any other bytes.
 pub record Takes (R : List ℕ → List ℕ → Type 0) (from to : List ℕ) : Type 0 where
@@ -127,7 +127,7 @@ string_taken content from to (n, mid, e, characters) =
 mutual
   pub value_taken : (v : Raw) (depth : ℕ) (from to : List ℕ) → IsValue v depth from to → Takes (IsValue v depth) from to
   value_taken null depth from to e = record { front = codes "null"; is = e; leaves = λ other. refl }
-  value_taken (truth b) depth from to e = record { front = literal b; is = e; leaves = λ other. refl }
+  value_taken (truth b) depth from to e = record { front = literal_name b; is = e; leaves = λ other. refl }
   value_taken (number bytes) depth from to (is, e) = record { front = bytes; is = e; leaves = λ other. (is, refl) }
   value_taken (text content) depth from to h = string_taken content from to h
   value_taken (array vs) depth from to (inner, mid, deep, e, h) =

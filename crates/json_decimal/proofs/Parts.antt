@@ -2,7 +2,7 @@
 use Rattle.std.proofs.Common.{◌≡◌, ◌≢◌, ℕ, ◌+◌, ◌*◌, ◌-◌, ◌<◌, ◌≤◌, Bool, true, false, ◌⊎◌, inl, inr, List, [], ◌∷◌, ◌++◌, length, slice_index, refl, ap, sym, ◌∙◌, subst, arith, if◌then◌else◌, ◌==◌, Option, Some, None, IfSome, MatchOption, ℤ, pos, ◌-ℤ◌, ne_eqb, ap₂}
 use Rattle.std.proofs.lemmas.Bool.Decides.{eqb_tells}
 use Rattle.json_decimal.specs.Literal.{Literal, Exponent, IsLiteral, IsDigit, AreDigits, IsInteger, IsExponent, spelling, minus_bytes, fraction_bytes, exponent_bytes, exponent_value, sign_bytes, signed_exponent, value_after, scale}
-use Rattle.json_decimal.specs.Machinery.Digits.{is_digit, run, after, StartsNoDigit, fraction_at, rest_at, HasNoFraction, unsigned, starts_with_minus}
+use Rattle.json_decimal.specs.Machinery.Digits.{is_digit, digits_at_front, after, StartsNoDigit, fraction_at, rest_at, HasNoFraction, unsigned, starts_with_minus}
 use Rattle.json_decimal.specs.Machinery.Reading.{IsSignedPower, IsExponentOf, IsTail, IsScanned}
 use Rattle.json_decimal.proofs.Runs.{run-append, after-append, run_after, run-AreDigits, digit_cases, run-digit}
 
@@ -39,7 +39,7 @@ exponent_by_power bytes rest mark (Some power) e m h = record {
 -- ---- the fraction
 pub fraction-spelled : (f : List ℕ) (x : Option Exponent) → AreDigits f → IfSome x IsExponent → fraction_at (fraction_bytes f ++ exponent_bytes x) ≡ f
 fraction-spelled [] None p h = refl
-fraction-spelled [] (Some x) p h = ap (λ t. if t then run (sign_bytes x.sign ++ x.digits) else []) (no_point-mark x.mark h.mark)
+fraction-spelled [] (Some x) p h = ap (λ t. if t then digits_at_front (sign_bytes x.sign ++ x.digits) else []) (no_point-mark x.mark h.mark)
 fraction-spelled (b ∷ bs) x p h = run-append (b ∷ bs) (exponent_bytes x) p (no_digit-exponent x h)
 
 pub rest-spelled : (f : List ℕ) (x : Option Exponent) → AreDigits f → IfSome x IsExponent → rest_at (fraction_bytes f ++ exponent_bytes x) ≡ exponent_bytes x
@@ -51,7 +51,7 @@ pub has_fraction : (count : ℕ) (f : List ℕ) (x : Option Exponent) → AreDig
 has_fraction count [] None p h few wrong = wrong
 has_fraction count [] (Some x) p h few wrong = elim h.mark [ inl e ↦ absurd (omega arith) | inr e ↦ absurd (omega arith) ]
 has_fraction count (b ∷ bs) x p h few wrong =
-    let whole : run ((b ∷ bs) ++ exponent_bytes x) ≡ b ∷ bs = run-append (b ∷ bs) (exponent_bytes x) p (no_digit-exponent x h) in
+    let whole : digits_at_front ((b ∷ bs) ++ exponent_bytes x) ≡ b ∷ bs = run-append (b ∷ bs) (exponent_bytes x) p (no_digit-exponent x h) in
     elim wrong.1 [ inl e ↦ cc | inr more ↦ omega (arith, ap length whole) ]
 
 pub no_tail : (bytes : List ℕ) (count n value : ℕ) (power : ℤ) → HasNoFraction count bytes → IsTail bytes count n value power → ⊥
@@ -89,24 +89,24 @@ abbrev pub FractionFound : List ℕ → List ℕ → ℕ → ℕ → ℕ → ℕ
 FractionFound bytes rest n value count number = (value ≡ value_after n (fraction_at bytes)) × (number ≡ count + length (fraction_at bytes)) × (rest ≡ rest_at bytes)
     × AreDigits (fraction_at bytes) × (bytes ≡ fraction_bytes (fraction_at bytes) ++ rest_at bytes)
 
-pub fraction_found : (bytes behind rest : List ℕ) (first n value count number : ℕ) → bytes ≡ first ∷ behind → first ≡ 46 → value ≡ value_after n (run behind)
-    → number ≡ count + length (run behind) → rest ≡ after behind → number ≢ count → FractionFound bytes rest n value count number
+pub fraction_found : (bytes behind rest : List ℕ) (first n value count number : ℕ) → bytes ≡ first ∷ behind → first ≡ 46 → value ≡ value_after n (digits_at_front behind)
+    → number ≡ count + length (digits_at_front behind) → rest ≡ after behind → number ≢ count → FractionFound bytes rest n value count number
 fraction_found bytes behind rest first n value count number e p v c r some =
     let whole : bytes ≡ 46 ∷ behind = e ∙ ap (λ t. t ∷ behind) p in
     let P : List ℕ → Type 0 = λ bs. FractionFound bs rest n value count number in
-    let more : 0 < length (run behind) = omega arith in
-    let spelled : 46 ∷ behind ≡ fraction_bytes (run behind) ++ after behind = ap (λ t. 46 ∷ t) (sym (run_after behind)) ∙ ap (λ t. t ++ after behind) (sym (fraction_bytes-some (run behind) more)) in
+    let more : 0 < length (digits_at_front behind) = omega arith in
+    let spelled : 46 ∷ behind ≡ fraction_bytes (digits_at_front behind) ++ after behind = ap (λ t. 46 ∷ t) (sym (run_after behind)) ∙ ap (λ t. t ++ after behind) (sym (fraction_bytes-some (digits_at_front behind) more)) in
     subst P (sym whole) (v, c, r, run-AreDigits behind, spelled)
 
 -- ---- the integer digits
-pub run-first : (bs : List ℕ) → 0 < length (run bs) → slice_index (run bs) 0 ≡ slice_index bs 0
+pub run-first : (bs : List ℕ) → 0 < length (digits_at_front bs) → slice_index (digits_at_front bs) 0 ≡ slice_index bs 0
 run-first [] h = refl
 run-first (b ∷ bs) h = elim (digit_cases b) [ inl p ↦ ap (λ t. slice_index t 0) (run-digit b bs p.1) | inr e ↦ absurd (run_is_empty b bs e h) ]
   where
-    run_is_empty : (b : ℕ) (bs : List ℕ) → is_digit b ≡ false → 0 < length (run (b ∷ bs)) → ⊥
-    run_is_empty b bs e h = let none' : length (run (b ∷ bs)) ≡ 0 = ap (λ t. length (if t then b ∷ run bs else [])) e in omega arith
+    run_is_empty : (b : ℕ) (bs : List ℕ) → is_digit b ≡ false → 0 < length (digits_at_front (b ∷ bs)) → ⊥
+    run_is_empty b bs e h = let none' : length (digits_at_front (b ∷ bs)) ≡ 0 = ap (λ t. length (if t then b ∷ digits_at_front bs else [])) e in omega arith
 
-pub integer_found : (bytes : List ℕ) (count : ℕ) → count ≡ length (run bytes) → count ≢ 0 → (slice_index bytes 0 ≡ 48 → count ≤ 1) → IsInteger (run bytes)
+pub integer_found : (bytes : List ℕ) (count : ℕ) → count ≡ length (digits_at_front bytes) → count ≢ 0 → (slice_index bytes 0 ≡ 48 → count ≤ 1) → IsInteger (digits_at_front bytes)
 integer_found bytes count c some leading = record {
   some = omega arith;
   leading = λ e. let one : count ≤ 1 = leading (sym (run-first bytes (omega arith)) ∙ e) in omega arith;
@@ -145,8 +145,8 @@ unsigned-spelled l h = elim l.negative as (λ n. unsigned (minus_bytes n ++ (l.i
   | false ↦ (no_minus l.integer (tail_bytes l) h.integer).1
 ]
 
-pub integer-spelled : (l : Literal) → IsLiteral l → run (unsigned (spelling l)) ≡ l.integer
-integer-spelled l h = ap run (unsigned-spelled l h) ∙ run-append l.integer (tail_bytes l) h.integer.digits (no_digit-fraction l.fraction l.exponent h.exponent)
+pub integer-spelled : (l : Literal) → IsLiteral l → digits_at_front (unsigned (spelling l)) ≡ l.integer
+integer-spelled l h = ap digits_at_front (unsigned-spelled l h) ∙ run-append l.integer (tail_bytes l) h.integer.digits (no_digit-fraction l.fraction l.exponent h.exponent)
 
 pub tail-spelled : (l : Literal) → IsLiteral l → after (unsigned (spelling l)) ≡ tail_bytes l
 tail-spelled l h = ap after (unsigned-spelled l h) ∙ after-append l.integer (tail_bytes l) h.integer.digits (no_digit-fraction l.fraction l.exponent h.exponent)
@@ -156,17 +156,17 @@ value-append n [] ys = refl
 value-append n (x ∷ xs) ys = value-append (n * 10 + (x - 48)) xs ys
 
 -- a literal has integer digits
-pub integer_of_literal : (bytes u : List ℕ) → u ≡ unsigned bytes → (IsInteger (run u) → length (run u) ≤ 38 → ⊥) → (l : Literal) → IsLiteral l → bytes ≡ spelling l → ⊥
+pub integer_of_literal : (bytes u : List ℕ) → u ≡ unsigned bytes → (IsInteger (digits_at_front u) → length (digits_at_front u) ≤ 38 → ⊥) → (l : Literal) → IsLiteral l → bytes ≡ spelling l → ⊥
 integer_of_literal bytes u e wrong l h s =
-    let integer : run u ≡ l.integer = ap run e ∙ ap (λ t. run (unsigned t)) s ∙ integer-spelled l h in
+    let integer : digits_at_front u ≡ l.integer = ap digits_at_front e ∙ ap (λ t. digits_at_front (unsigned t)) s ∙ integer-spelled l h in
     let few = h.few in
     wrong (rw integer h.integer) (omega (arith, ap length integer))
 
 -- and a tail
-pub tail_of_literal : (bytes u rest : List ℕ) (count n : ℕ) → u ≡ unsigned bytes → rest ≡ after u → count ≡ length (run u) → n ≡ value_after 0 (run u)
+pub tail_of_literal : (bytes u rest : List ℕ) (count n : ℕ) → u ≡ unsigned bytes → rest ≡ after u → count ≡ length (digits_at_front u) → n ≡ value_after 0 (digits_at_front u)
     → ((value : ℕ) (power : ℤ) → IsTail rest count n value power → ⊥) → (l : Literal) → IsLiteral l → bytes ≡ spelling l → ⊥
 tail_of_literal bytes u rest count n e r c v wrong l h s =
-    let integer : run u ≡ l.integer = ap run e ∙ ap (λ t. run (unsigned t)) s ∙ integer-spelled l h in
+    let integer : digits_at_front u ≡ l.integer = ap digits_at_front e ∙ ap (λ t. digits_at_front (unsigned t)) s ∙ integer-spelled l h in
     let few = h.few in
     wrong (value_after n l.fraction) (scale l) (record {
       fraction = l.fraction;
@@ -180,12 +180,12 @@ tail_of_literal bytes u rest count n e r c v wrong l h s =
     })
 
 pub literal_found : (bytes u rest : List ℕ) (negative : Bool) (count n value : ℕ) (power : ℤ) → negative ≡ starts_with_minus bytes → u ≡ unsigned bytes → rest ≡ after u
-    → count ≡ length (run u) → n ≡ value_after 0 (run u) → IsInteger (run u) → IsTail rest count n value power → IsScanned bytes negative value power
+    → count ≡ length (digits_at_front u) → n ≡ value_after 0 (digits_at_front u) → IsInteger (digits_at_front u) → IsTail rest count n value power → IsScanned bytes negative value power
 literal_found bytes u rest negative count n value power m e r c v i t = record {
-  literal = record { negative = negative; integer = run u; fraction = t.fraction; exponent = t.exponent };
+  literal = record { negative = negative; integer = digits_at_front u; fraction = t.fraction; exponent = t.exponent };
   is = record { integer = i; fraction = t.digits; exponent = t.is; few = let few = t.few in omega arith };
-  spelled = sym (minus_unsigned bytes) ∙ ap₂ (λ n t. minus_bytes n ++ t) (sym m) (sym e ∙ sym (run_after u) ∙ ap (λ t. run u ++ t) (sym r ∙ t.spelled));
+  spelled = sym (minus_unsigned bytes) ∙ ap₂ (λ n t. minus_bytes n ++ t) (sym m) (sym e ∙ sym (run_after u) ∙ ap (λ t. digits_at_front u ++ t) (sym r ∙ t.spelled));
   sign_is = refl;
-  value_is = t.value_is ∙ ap (λ k. value_after k t.fraction) v ∙ sym (value-append 0 (run u) t.fraction);
+  value_is = t.value_is ∙ ap (λ k. value_after k t.fraction) v ∙ sym (value-append 0 (digits_at_front u) t.fraction);
   power_is = t.power_is;
 }

@@ -5,7 +5,7 @@ use Rattle.std.proofs.lemmas.Bool.{cases_order, cases_eq}
 use Rattle.std.proofs.Math.Nat.{mul-div_cancel}
 use Rattle.json_decimal.specs.Number.{Number, KeepsValue, IsNormalForm}
 use Rattle.json_decimal.specs.Literal.{Literal, Exponent, Sign, no_sign, plus, minus, IsLiteral, IsDigit, AreDigits, IsPower, IsExponent, IsLiteralOf, StandsFor, spelling, exponent_bytes, exponent_value, sign_bytes, signed_exponent, value_after, digits_value, scale}
-use Rattle.json_decimal.specs.Machinery.Digits.{run, after, fraction_at, rest_at, unsigned, starts_with_minus}
+use Rattle.json_decimal.specs.Machinery.Digits.{digits_at_front, after, fraction_at, rest_at, unsigned, starts_with_minus}
 use Rattle.json_decimal.specs.Machinery.Reading.{IsScanned}
 use Rattle.json_decimal.proofs.Powers.{ten_positive, ten_suc}
 use Rattle.json_decimal.proofs.Parts.{tail_bytes, minus-spelled, integer-spelled, tail-spelled, fraction-spelled, rest-spelled}
@@ -83,7 +83,7 @@ one_exponent (Some x) (Some y) p q e = one_power x.sign y.sign x.digits y.digits
 
 pub one_literal : (l m : Literal) → IsLiteral l → IsLiteral m → spelling l ≡ spelling m → (l.negative ≡ m.negative) × (digits_value l ≡ digits_value m) × (scale l ≡ scale m)
 one_literal l m h k e =
-    let integer : l.integer ≡ m.integer = sym (integer-spelled l h) ∙ ap (λ t. run (unsigned t)) e ∙ integer-spelled m k in
+    let integer : l.integer ≡ m.integer = sym (integer-spelled l h) ∙ ap (λ t. digits_at_front (unsigned t)) e ∙ integer-spelled m k in
     let tail : tail_bytes l ≡ tail_bytes m = sym (tail-spelled l h) ∙ ap (λ t. after (unsigned t)) e ∙ tail-spelled m k in
     let fraction : l.fraction ≡ m.fraction = sym (fraction-spelled l.fraction l.exponent h.fraction h.exponent) ∙ ap fraction_at tail ∙ fraction-spelled m.fraction m.exponent k.fraction k.exponent in
     let rest : exponent_bytes l.exponent ≡ exponent_bytes m.exponent = sym (rest-spelled l.fraction l.exponent h.fraction h.exponent) ∙ ap rest_at tail ∙ rest-spelled m.fraction m.exponent k.fraction k.exponent in

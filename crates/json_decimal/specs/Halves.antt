@@ -2,5 +2,5 @@
 use Rattle.std.specs.Prelude.{ℕ, ◌+◌, ◌*◌, ◌^◌}
 
 -- the number with these upper and lower halves
-abbrev pub joined : ℕ → ℕ → ℕ
-joined high low = high * 2 ^ 64 + low
+abbrev pub joined_halves : ℕ → ℕ → ℕ
+joined_halves high low = high * 2 ^ 64 + low

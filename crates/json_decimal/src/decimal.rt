@@ -1,6 +1,6 @@
 //! A decimal number in normal form.
 ghost use Rattle.std.specs.Prelude.{◌≡◌, ◌%◌, ◌^◌, ◌<◌, ◌≤ℤ◌, pos, neg_ℤ, false};
-ghost use Rattle.json_decimal.specs.Halves.{joined};
+ghost use Rattle.json_decimal.specs.Halves.{joined_halves};
 
 /// The number `coefficient * 10 ^ exponent`, or its negative, each number in one form. The coefficient is the digits
 /// as a whole number, below 10 ^ 38 and, unless zero, without trailing zeros.
@@ -18,14 +18,14 @@ pub struct Decimal {
     /// Whether the number is below zero.
     pub negative: bool,
     // Below 10 ^ 38.
-    pub ghost bounded: { joined high low < 10 ^ 38 },
+    pub ghost bounded: { joined_halves high low < 10 ^ 38 },
     // No trailing zero, unless the number is zero.
-    pub ghost trimmed: { joined high low % 10 ≡ 0 → joined high low ≡ 0 },
+    pub ghost trimmed: { joined_halves high low % 10 ≡ 0 → joined_halves high low ≡ 0 },
     // From -900 to 900.
     pub ghost least: { neg_ℤ (pos 900) ≤ℤ exponent },
     pub ghost most: { exponent ≤ℤ pos 900 },
     // Zero is positive, with exponent 0.
-    pub ghost zero: { joined high low ≡ 0 → (negative ≡ false) × (exponent ≡ pos 0) },
+    pub ghost zero: { joined_halves high low ≡ 0 → (negative ≡ false) × (exponent ≡ pos 0) },
 }
 
 // In each value of a JSON tree.

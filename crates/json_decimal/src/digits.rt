@@ -1,7 +1,7 @@
 //! Digits: runs of them in a text, and the zeros at the end of a number.
 ghost use Rattle.std.specs.Prelude.{◌≡◌, ◌≢◌, ◌+◌, ◌*◌, ◌%◌, ◌^◌, ◌<◌, ◌≤◌, pos, ◌<ℤ◌, [], ◌∷◌, length, MatchOption, IfSome, decimal};
 ghost use Rattle.json_decimal.specs.Literal.{IsPower, value_after};
-ghost use Rattle.json_decimal.specs.Machinery.Digits.{run, after, StartsNoDigit};
+ghost use Rattle.json_decimal.specs.Machinery.Digits.{digits_at_front, after, StartsNoDigit};
 
 /// How many digits may stand before the exponent mark.
 pub(crate) const MOST_DIGITS: u32 = 38;
@@ -44,9 +44,9 @@ pub(crate) fn digits_at(bytes: &[u8], before: Run) -> Option<(Run, &[u8])>
     requires count { before.count ≤ 38 }
     requires value { before.value < 10 ^ before.count }
     ensures cases { MatchOption result
-        (38 < before.count + length (run bytes.now))
-        (λ p. (p.0.value ≡ value_after before.value (run bytes.now))
-        × (p.0.count ≡ before.count + length (run bytes.now))
+        (38 < before.count + length (digits_at_front bytes.now))
+        (λ p. (p.0.value ≡ value_after before.value (digits_at_front bytes.now))
+        × (p.0.count ≡ before.count + length (digits_at_front bytes.now))
         × (p.1.now ≡ after bytes.now)) }
     ensures bound { IfSome result (λ p. (p.0.count ≤ 38) × (p.0.value < 10 ^ p.0.count)) }
 {
@@ -62,8 +62,8 @@ pub(crate) fn digits_at(bytes: &[u8], before: Run) -> Option<(Run, &[u8])>
 fn short_digits_at(bytes: &[u8], value: u64, count: u32) -> (u64, u32, &[u8])
     requires count { count ≤ 19 }
     requires value { value < 10 ^ count }
-    ensures value { value_after result.0 (run result.2.now) ≡ value_after value (run bytes.now) }
-    ensures count { result.1 + length (run result.2.now) ≡ count + length (run bytes.now) }
+    ensures value { value_after result.0 (digits_at_front result.2.now) ≡ value_after value (digits_at_front bytes.now) }
+    ensures count { result.1 + length (digits_at_front result.2.now) ≡ count + length (digits_at_front bytes.now) }
     ensures rest { after result.2.now ≡ after bytes.now }
     ensures few { result.1 ≤ 19 }
     ensures below { result.0 < 10 ^ result.1 }
@@ -87,9 +87,9 @@ fn long_digits_at(bytes: &[u8], value: u128, count: u32) -> Option<(Run, &[u8])>
     requires count { count ≤ 38 }
     requires value { value < 10 ^ count }
     ensures cases { MatchOption result
-        (38 < count + length (run bytes.now))
-        (λ p. (p.0.value ≡ value_after value (run bytes.now))
-        × (p.0.count ≡ count + length (run bytes.now))
+        (38 < count + length (digits_at_front bytes.now))
+        (λ p. (p.0.value ≡ value_after value (digits_at_front bytes.now))
+        × (p.0.count ≡ count + length (digits_at_front bytes.now))
         × (p.1.now ≡ after bytes.now)) }
     ensures bound { IfSome result (λ p. (p.0.count ≤ 38) × (p.0.value < 10 ^ p.0.count)) }
 {

@@ -2,7 +2,7 @@
 ghost use Rattle.std.specs.Prelude.{◌≡◌, ◌^◌, ◌<◌, pos, neg_ℤ, ◌<ℤ◌, MatchOption, List, ℕ};
 ghost use Rattle.json_decimal.specs.Number.{Number, IsNormalForm, IsOutOfRange};
 ghost use Rattle.json_decimal.specs.Literal.{Literal, IsLiteral, IsLiteralOf, StandsFor, spelling};
-ghost use Rattle.json_decimal.specs.Decimals.{number_of, Reads, IsReadingOf};
+ghost use Rattle.json_decimal.specs.Decimals.{number_of, ReadsDecimal, IsReadingOf};
 
 use crate::DecimalFault;
 use crate::decimal::Decimal;
@@ -19,7 +19,7 @@ impl Decimal {
     /// coefficient, is outside -900 to 900. The bounds on digits and exponents are this project's own.
     pub fn read(literal: &[u8]) -> Result<Decimal, DecimalFault>
         // What the answer says of the bytes.
-        ensures reads { Reads literal.now result }
+        ensures reads { ReadsDecimal literal.now result }
         // Which answer a literal gets.
         ensures exact { (n : Number) → IsLiteralOf literal.now n → IsReadingOf n result }
     {

@@ -1,7 +1,7 @@
 //! The parts of a literal, read from the front: a sign, integer digits, a fraction and an exponent.
 ghost use Rattle.std.specs.Prelude.{◌≡◌, ◌+◌, ◌<◌, ◌≤◌, ◌^◌, pos, neg_ℤ, ◌<ℤ◌, ◌++◌, length, MatchOption, IfSome, ℕ, ℤ};
 ghost use Rattle.json_decimal.specs.Literal.{Literal, IsLiteral, IsInteger, AreDigits, value_after, spelling, fraction_bytes};
-ghost use Rattle.json_decimal.specs.Machinery.Digits.{run, after, fraction_at, rest_at, HasNoFraction, unsigned, starts_with_minus};
+ghost use Rattle.json_decimal.specs.Machinery.Digits.{digits_at_front, after, fraction_at, rest_at, HasNoFraction, unsigned, starts_with_minus};
 ghost use Rattle.json_decimal.specs.Machinery.Reading.{IsSignedPower, IsExponentOf, IsTail, IsScanned};
 
 use crate::digits::{Run, digits_at, front, power_of};
@@ -54,10 +54,10 @@ fn sign_of(bytes: &[u8]) -> (bool, &[u8])
 /// are more than 38.
 fn integer_of(bytes: &[u8]) -> Option<(Run, &[u8])>
     ensures cases { MatchOption result
-        (IsInteger (run bytes.now) → length (run bytes.now) ≤ 38 → ⊥)
-        (λ p. IsInteger (run bytes.now)
-        × (p.0.value ≡ value_after 0 (run bytes.now))
-        × (p.0.count ≡ length (run bytes.now))
+        (IsInteger (digits_at_front bytes.now) → length (digits_at_front bytes.now) ≤ 38 → ⊥)
+        (λ p. IsInteger (digits_at_front bytes.now)
+        × (p.0.value ≡ value_after 0 (digits_at_front bytes.now))
+        × (p.0.count ≡ length (digits_at_front bytes.now))
         × (p.1.now ≡ after bytes.now)) }
     ensures bound { IfSome result (λ p. (p.0.count ≤ 38) × (p.0.value < 10 ^ p.0.count)) }
 {

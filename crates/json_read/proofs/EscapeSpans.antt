@@ -3,7 +3,7 @@ use Rattle.std.proofs.Common.{◌≡◌, ℕ, suc, ◌+◌, ◌-◌, ◌*◌, �
 use Rattle.std.proofs.lemmas.Str.{encode_ascii}
 use Rattle.std.proofs.lemmas.Bool.Decides.{leb_tells}
 use Rattle.json_read.specs.declared.fault.JsonFault.{JsonFault}
-use Rattle.json_tree.specs.Grammar.{IsHexDigit, IsShort, paired}
+use Rattle.json_tree.specs.Grammar.{IsHexDigit, IsShortEscape, paired}
 use Rattle.json_read.specs.Machinery.Automaton.{Frame, Use, in_text, in_character, Point, escaped, first_digit, behind_d, digits, high_digits, low_escape, low_letter, low_first, low_second, low_digits, Move, dead, on, done, at_hex, point_step, escape_step, first_digit_move, behind_d_move, low_first_move, low_second_move, moved, Outcome, reading}
 use Rattle.json_read.specs.Machinery.Leads.{IsOutcome, Leads}
 use Rattle.json_read.specs.Machinery.Spans.{Faults, IsHexAt, AfterMove, ReadsUnit}
@@ -194,7 +194,7 @@ pub unicode_on : (bytes : List ℕ) (at : ℕ) (u : Use) (content : List ℕ) (d
     → reading bytes (in_character escaped u content d k) at ≡ reading bytes (in_character first_digit u content d k) (at + 1)
 unicode_on bytes at u content d k h e = char_on bytes at escaped first_digit u content d k h (ap escape_step e)
 
-short_step : (b code : ℕ) → IsShort b code → escape_step b ≡ done (encode_utf8 code)
+short_step : (b code : ℕ) → IsShortEscape b code → escape_step b ≡ done (encode_utf8 code)
 short_step b code (inl h) = rw (h.0, h.1) (ap done (sym (encode_ascii 34 (lit< tt))))
 short_step b code (inr (inl h)) = rw (h.0, h.1) (ap done (sym (encode_ascii 92 (lit< tt))))
 short_step b code (inr (inr (inl h))) = rw (h.0, h.1) (ap done (sym (encode_ascii 47 (lit< tt))))
@@ -204,13 +204,13 @@ short_step b code (inr (inr (inr (inr (inr (inl h)))))) = rw (h.0, h.1) (ap done
 short_step b code (inr (inr (inr (inr (inr (inr (inl h))))))) = rw (h.0, h.1) (ap done (sym (encode_ascii 13 (lit< tt))))
 short_step b code (inr (inr (inr (inr (inr (inr (inr h))))))) = rw (h.0, h.1) (ap done (sym (encode_ascii 9 (lit< tt))))
 
-pub short_reads : (bytes : List ℕ) (at code : ℕ) (u : Use) (content : List ℕ) (d : ℕ) (k : List Frame) → at < length bytes → IsShort (get_or bytes at 0) code
+pub short_reads : (bytes : List ℕ) (at code : ℕ) (u : Use) (content : List ℕ) (d : ℕ) (k : List Frame) → at < length bytes → IsShortEscape (get_or bytes at 0) code
     → reading bytes (in_character escaped u content d k) at ≡ reading bytes (in_text u (content ++ encode_utf8 code) d k) (at + 1)
 short_reads bytes at code u content d k h e =
     reading_next bytes (in_character escaped u content d k) (in_text u (content ++ encode_utf8 code) d k) at h
     (ap (moved u content d k) (short_step (get_or bytes at 0) code e))
 
-pub escape_none : (b : ℕ) → (b ≡ 117 → ⊥) → ((code : ℕ) → IsShort b code → ⊥) → escape_step b ≡ dead
+pub escape_none : (b : ℕ) → (b ≡ 117 → ⊥) → ((code : ℕ) → IsShortEscape b code → ⊥) → escape_step b ≡ dead
 escape_none b q h =
     past_byte b 34 _ _ (λ e. h 34 (inl (e, refl)))
     ∙ past_byte b 92 _ _ (λ e. h 92 (inr (inl (e, refl))))
@@ -222,5 +222,5 @@ escape_none b q h =
     ∙ past_byte b 116 _ _ (λ e. h 9 (inr (inr (inr (inr (inr (inr (inr (e, refl)))))))))
     ∙ past_byte b 117 _ _ q
 
-pub short_some : (b code : ℕ) → IsShort b code → 0 < b
+pub short_some : (b code : ℕ) → IsShortEscape b code → 0 < b
 short_some b code h = grind arith

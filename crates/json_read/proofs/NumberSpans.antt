@@ -8,39 +8,39 @@ use Rattle.json_read.specs.declared.fault.JsonFault.{JsonFault}
 use Rattle.json_tree.specs.Values.{number}
 use Rattle.json_tree.specs.Grammar.{IsNumber}
 use Rattle.json_read.specs.Machinery.Remains.{IsNumberRest}
-use Rattle.json_read.specs.Machinery.Automaton.{Frame, State, after, value, in_number, Part, behind_minus, behind_zero, in_integer, behind_point, in_fraction, behind_mark, behind_sign, in_power, number_step, number_next, at_mark, at_digit, may_end, number_end, number_at_end, step, followed, outcome, reading, after_step}
+use Rattle.json_read.specs.Machinery.Automaton.{Frame, State, after, value, in_number, Part, behind_minus, behind_zero, in_integer, behind_point, in_fraction, behind_mark, behind_sign, in_power, number_step, number_next, at_mark, at_digit, may_end, number_end, number_at_end, step, followed_step, outcome, reading, after_step}
 use Rattle.json_read.specs.Machinery.Leads.{IsOutcome, Leads}
-use Rattle.json_read.specs.Machinery.Spans.{Faults, Fails, Passes, Reaches, Ends, CountsDown, Continues, point_or_mark, none_follows, IsMinusEnd}
+use Rattle.json_read.specs.Machinery.Spans.{Faults, Fails, NumberPasses, NumberReaches, MayEndOrGoOn, CountsDown, Continues, point_or_mark, none_follows, IsMinusEnd}
 use Rattle.json_read.proofs.Readings.{reading_next, reading_same, outcome_from}
 use Rattle.json_read.proofs.Slices.{slice_none, slice_one, slice_join, at_byte, past_byte, at_range, past_range}
 use Rattle.json_read.proofs.Numbers.{back-number_step, back-may_end, number_minus}
 
-passes_append : (from mid to : Part) (xs ys : List ℕ) → Passes from xs mid → Passes mid ys to → Passes from (xs ++ ys) to
-passes_append from mid to [] ys p q = subst (λ (x : Part). Passes x ys to) (sym p) q
+passes_append : (from mid to : Part) (xs ys : List ℕ) → NumberPasses from xs mid → NumberPasses mid ys to → NumberPasses from (xs ++ ys) to
+passes_append from mid to [] ys p q = subst (λ (x : Part). NumberPasses x ys to) (sym p) q
 passes_append from mid to (b ∷ xs) ys p q = (p.0, p.1, passes_append p.0 mid to xs ys p.2 q)
 
-pub reaches_here : (bytes : List ℕ) (part : Part) (at : ℕ) → at ≤ length bytes → Reaches bytes part at part at
+pub reaches_here : (bytes : List ℕ) (part : Part) (at : ℕ) → at ≤ length bytes → NumberReaches bytes part at part at
 reaches_here bytes part at h = record {
   forward = omega arith;
   within = h;
-  passes = subst (λ (xs : List ℕ). Passes part xs part) (sym (slice_none bytes at)) refl;
+  passes = subst (λ (xs : List ℕ). NumberPasses part xs part) (sym (slice_none bytes at)) refl;
 }
 
-pub reaches_one : (bytes : List ℕ) (from to : Part) (at : ℕ) → at < length bytes → number_step from (get_or bytes at 0) ≡ Some to → Reaches bytes from at to (at + 1)
+pub reaches_one : (bytes : List ℕ) (from to : Part) (at : ℕ) → at < length bytes → number_step from (get_or bytes at 0) ≡ Some to → NumberReaches bytes from at to (at + 1)
 reaches_one bytes from to at h e = record {
   forward = omega arith;
   within = omega arith;
-  passes = subst (λ (xs : List ℕ). Passes from xs to) (sym (slice_one bytes at h)) (to, e, refl);
+  passes = subst (λ (xs : List ℕ). NumberPasses from xs to) (sym (slice_one bytes at h)) (to, e, refl);
 }
 
-pub reaches_more : (bytes : List ℕ) (from mid to : Part) (at place stop : ℕ) → Reaches bytes from at mid place → Reaches bytes mid place to stop → Reaches bytes from at to stop
+pub reaches_more : (bytes : List ℕ) (from mid to : Part) (at place stop : ℕ) → NumberReaches bytes from at mid place → NumberReaches bytes mid place to stop → NumberReaches bytes from at to stop
 reaches_more bytes from mid to at place stop p q =
     let first = p.forward in
     let second = q.forward in
     record {
       forward = omega arith;
       within = q.within;
-      passes = subst (λ (xs : List ℕ). Passes from xs to) (sym (slice_join bytes at place stop first second))
+      passes = subst (λ (xs : List ℕ). NumberPasses from xs to) (sym (slice_join bytes at place stop first second))
           (passes_append from mid to (slice_range bytes at place) (slice_range bytes place stop) p.passes q.passes);
     }
 
@@ -53,7 +53,7 @@ step_none : (part : Part) (b : ℕ) (content : List ℕ) (d : ℕ) (k : List Fra
 step_none part b content d k e f = ap (λ (o : Option Part). number_next o part content d k b) e
     ∙ ap (λ (t : Bool). number_end t (after_step d k (number content) b)) f
 
-passes-outcome : (xs rest : List ℕ) (from to : Part) (at : ℕ) (content : List ℕ) (d : ℕ) (k : List Frame) → Passes from xs to
+passes-outcome : (xs rest : List ℕ) (from to : Part) (at : ℕ) (content : List ℕ) (d : ℕ) (k : List Frame) → NumberPasses from xs to
     → outcome (in_number from content d k) at (xs ++ rest) ≡ outcome (in_number to (content ++ xs) d k) (at + length xs) rest
 passes-outcome [] rest from to at content d k p =
     let place : at + 0 ≡ at = omega arith in
@@ -61,12 +61,12 @@ passes-outcome [] rest from to at content d k p =
 passes-outcome (b ∷ xs) rest from to at content d k p =
     let place : (at + 1) + length xs ≡ at + suc (length xs) = omega arith in
     let text : (content ++ b ∷ []) ++ xs ≡ content ++ (b ∷ xs) = append_assoc content (b ∷ []) xs in
-    ap (λ (o : Option State). followed o at (λ t. outcome t (at + 1) (xs ++ rest))) (step_some from p.0 b content d k p.1)
+    ap (λ (o : Option State). followed_step o at (λ t. outcome t (at + 1) (xs ++ rest))) (step_some from p.0 b content d k p.1)
     ∙ passes-outcome xs rest p.0 to (at + 1) (content ++ b ∷ []) d k p.2
     ∙ ap (λ (n : ℕ). outcome (in_number to ((content ++ b ∷ []) ++ xs) d k) n rest) place
     ∙ ap (λ (ys : List ℕ). outcome (in_number to ys d k) (at + suc (length xs)) rest) text
 
-pub reaches-reading : (bytes : List ℕ) (from to : Part) (at stop : ℕ) (content : List ℕ) (d : ℕ) (k : List Frame) → Reaches bytes from at to stop
+pub reaches-reading : (bytes : List ℕ) (from to : Part) (at stop : ℕ) (content : List ℕ) (d : ℕ) (k : List Frame) → NumberReaches bytes from at to stop
     → reading bytes (in_number from content d k) at ≡ reading bytes (in_number to (content ++ slice_range bytes at stop) d k) stop
 unfolding reading
 reaches-reading bytes from to at stop content d k r =
@@ -78,7 +78,7 @@ reaches-reading bytes from to at stop content d k r =
     ∙ passes-outcome (slice_range bytes at stop) (drop stop bytes) from to at content d k r.passes
     ∙ ap (λ (n : ℕ). outcome (in_number to (content ++ slice_range bytes at stop) d k) n (drop stop bytes)) place
 
-pub fails_after : (bytes : List ℕ) (from to : Part) (at stop : ℕ) (fault : JsonFault) → Reaches bytes from at to stop → Fails bytes to stop fault → Fails bytes from at fault
+pub fails_after : (bytes : List ℕ) (from to : Part) (at stop : ℕ) (fault : JsonFault) → NumberReaches bytes from at to stop → Fails bytes to stop fault → Fails bytes from at fault
 fails_after bytes from to at stop fault r f content d k =
     outcome_from bytes fault _ _ (reaches-reading bytes from to at stop content d k r) (f (content ++ slice_range bytes at stop) d k)
 
@@ -117,12 +117,12 @@ counts_fraction n b p q = digit_some b (in_fraction n) _ p q
 pub counts_power : CountsDown in_power
 counts_power n b p q = digit_some b (in_power n) _ p q
 
-pub digit_more : (bytes : List ℕ) (part : ℕ → Part) (from : Part) (at stop left : ℕ) → CountsDown part → Reaches bytes from at (part left) stop
-    → 0 < left → stop < length bytes → 48 ≤ get_or bytes stop 0 → get_or bytes stop 0 ≤ 57 → Reaches bytes from at (part (left - 1)) (stop + 1)
+pub digit_more : (bytes : List ℕ) (part : ℕ → Part) (from : Part) (at stop left : ℕ) → CountsDown part → NumberReaches bytes from at (part left) stop
+    → 0 < left → stop < length bytes → 48 ≤ get_or bytes stop 0 → get_or bytes stop 0 ≤ 57 → NumberReaches bytes from at (part (left - 1)) (stop + 1)
 digit_more bytes part from at stop zero counts r some h p q = absurd (omega arith)
 digit_more bytes part from at stop (suc n) counts r some h p q =
     let less : suc n - 1 ≡ n = omega arith in
-    subst (λ (m : ℕ). Reaches bytes from at (part m) (stop + 1)) (sym less)
+    subst (λ (m : ℕ). NumberReaches bytes from at (part m) (stop + 1)) (sym less)
     (reaches_more bytes from (part (suc n)) (part n) at stop (stop + 1) r (reaches_one bytes (part (suc n)) (part n) stop h (counts n (get_or bytes stop 0) p q)))
 
 -- the integer
@@ -135,9 +135,9 @@ integer_ends zero b h = refl
 integer_ends (suc n) b h = digit_none b (in_integer n) _ (h (omega arith))
 
 pub integer_found : (bytes : List ℕ) (at left stop : ℕ) → at < length bytes → 48 ≤ get_or bytes at 0 → get_or bytes at 0 ≤ 57 → (get_or bytes at 0 ≡ 48 → ⊥)
-    → Reaches bytes (in_integer 37) (at + 1) (in_integer left) stop
+    → NumberReaches bytes (in_integer 37) (at + 1) (in_integer left) stop
     → (0 < left → 48 ≤ get_or bytes stop 0 → get_or bytes stop 0 ≤ 57 → ⊥)
-    → (to : Part) × Reaches bytes behind_minus at to stop × Ends to (point_or_mark left) (get_or bytes stop 0)
+    → (to : Part) × NumberReaches bytes behind_minus at to stop × MayEndOrGoOn to (point_or_mark left) (get_or bytes stop 0)
 integer_found bytes at left stop h p q z r all = (
   in_integer left,
   reaches_more bytes behind_minus (in_integer 37) (in_integer left) at (at + 1) stop
@@ -146,32 +146,32 @@ integer_found bytes at left stop h p q z r all = (
 )
 
 pub zero_found : (bytes : List ℕ) (at : ℕ) → at < length bytes → get_or bytes at 0 ≡ 48
-    → (to : Part) × Reaches bytes behind_minus at to (at + 1) × Ends to (point_or_mark 37) (get_or bytes (at + 1) 0)
+    → (to : Part) × NumberReaches bytes behind_minus at to (at + 1) × MayEndOrGoOn to (point_or_mark 37) (get_or bytes (at + 1) 0)
 zero_found bytes at h e = (behind_zero, reaches_one bytes behind_minus behind_zero at h (ap (number_step behind_minus) e), (refl, refl))
 
 -- the fraction
-point_found : (from : Part) (b left : ℕ) → Ends from (point_or_mark left) b → 0 < left → b ≡ 46 → number_step from b ≡ Some (behind_point (left - 1))
+point_found : (from : Part) (b left : ℕ) → MayEndOrGoOn from (point_or_mark left) b → 0 < left → b ≡ 46 → number_step from b ≡ Some (behind_point (left - 1))
 point_found from b zero h some e = absurd (omega arith)
 point_found from b (suc n) h some e =
     let less : suc n - 1 ≡ n = omega arith in
     rw less (h.1 ∙ at_byte b 46 (Some (behind_point n)) (at_mark b) e)
 
-pub point_reached : (bytes : List ℕ) (from : Part) (at left : ℕ) → at < length bytes → Ends from (point_or_mark left) (get_or bytes at 0) → 0 < left → get_or bytes at 0 ≡ 46
-    → Reaches bytes from at (behind_point (left - 1)) (at + 1)
+pub point_reached : (bytes : List ℕ) (from : Part) (at left : ℕ) → at < length bytes → MayEndOrGoOn from (point_or_mark left) (get_or bytes at 0) → 0 < left → get_or bytes at 0 ≡ 46
+    → NumberReaches bytes from at (behind_point (left - 1)) (at + 1)
 point_reached bytes from at left h e some mark = reaches_one bytes from (behind_point (left - 1)) at h (point_found from (get_or bytes at 0) left e some mark)
 
 fraction_ends : (left b : ℕ) → (0 < left → 48 ≤ b → b ≤ 57 → ⊥) → number_step (in_fraction left) b ≡ at_mark b
 fraction_ends zero b h = refl
 fraction_ends (suc n) b h = digit_none b (in_fraction n) (at_mark b) (h (omega arith))
 
-pub fraction_found : (bytes : List ℕ) (from : Part) (at n left stop : ℕ) → Reaches bytes from at (behind_point n) (at + 1)
+pub fraction_found : (bytes : List ℕ) (from : Part) (at n left stop : ℕ) → NumberReaches bytes from at (behind_point n) (at + 1)
     → at + 1 < length bytes → 48 ≤ get_or bytes (at + 1) 0 → get_or bytes (at + 1) 0 ≤ 57
-    → Reaches bytes (in_fraction n) (at + 2) (in_fraction left) stop
+    → NumberReaches bytes (in_fraction n) (at + 2) (in_fraction left) stop
     → (0 < left → 48 ≤ get_or bytes stop 0 → get_or bytes stop 0 ≤ 57 → ⊥)
-    → (to : Part) × Reaches bytes from at to stop × Ends to at_mark (get_or bytes stop 0)
+    → (to : Part) × NumberReaches bytes from at to stop × MayEndOrGoOn to at_mark (get_or bytes stop 0)
 fraction_found bytes from at n left stop point h p q r all =
     let place : at + 2 ≡ at + 1 + 1 = omega arith in
-    let digits = subst (λ (m : ℕ). Reaches bytes (in_fraction n) m (in_fraction left) stop) place r in
+    let digits = subst (λ (m : ℕ). NumberReaches bytes (in_fraction n) m (in_fraction left) stop) place r in
     let first = reaches_one bytes (behind_point n) (in_fraction n) (at + 1) h (digit_some (get_or bytes (at + 1) 0) (in_fraction n) None p q) in (
       in_fraction left,
       reaches_more bytes from (behind_point n) (in_fraction left) at (at + 1) stop point
@@ -184,15 +184,15 @@ mark_found : (b : ℕ) → (b ≡ 101) ⊎ (b ≡ 69) → at_mark b ≡ Some beh
 mark_found b (inl e) = rw e refl
 mark_found b (inr e) = rw e refl
 
-pub mark_reached : (bytes : List ℕ) (from : Part) (at : ℕ) → at < length bytes → Ends from at_mark (get_or bytes at 0)
-    → (get_or bytes at 0 ≡ 101) ⊎ (get_or bytes at 0 ≡ 69) → Reaches bytes from at behind_mark (at + 1)
+pub mark_reached : (bytes : List ℕ) (from : Part) (at : ℕ) → at < length bytes → MayEndOrGoOn from at_mark (get_or bytes at 0)
+    → (get_or bytes at 0 ≡ 101) ⊎ (get_or bytes at 0 ≡ 69) → NumberReaches bytes from at behind_mark (at + 1)
 mark_reached bytes from at h e mark = reaches_one bytes from behind_mark at h (e.1 ∙ mark_found (get_or bytes at 0) mark)
 
 sign_found : (b : ℕ) → (b ≡ 43) ⊎ (b ≡ 45) → number_step behind_mark b ≡ Some behind_sign
 sign_found b (inl e) = rw e refl
 sign_found b (inr e) = rw e refl
 
-pub sign_reached : (bytes : List ℕ) (at : ℕ) → at < length bytes → (get_or bytes at 0 ≡ 43) ⊎ (get_or bytes at 0 ≡ 45) → Reaches bytes behind_mark at behind_sign (at + 1)
+pub sign_reached : (bytes : List ℕ) (at : ℕ) → at < length bytes → (get_or bytes at 0 ≡ 43) ⊎ (get_or bytes at 0 ≡ 45) → NumberReaches bytes behind_mark at behind_sign (at + 1)
 sign_reached bytes at h e = reaches_one bytes behind_mark behind_sign at h (sign_found (get_or bytes at 0) e)
 
 pub no_sign_found : (b : ℕ) → (b ≡ 43 → ⊥) → (b ≡ 45 → ⊥) → number_step behind_mark b ≡ at_digit b (in_power 2) None
@@ -202,12 +202,12 @@ power_ends : (left b : ℕ) → (0 < left → 48 ≤ b → b ≤ 57 → ⊥) →
 power_ends zero b h = refl
 power_ends (suc n) b h = digit_none b (in_power n) None (h (omega arith))
 
-pub power_found : (bytes : List ℕ) (from sign : Part) (at start left stop : ℕ) → Reaches bytes from at behind_mark (at + 1)
-    → Reaches bytes behind_mark (at + 1) sign start → number_step sign (get_or bytes start 0) ≡ at_digit (get_or bytes start 0) (in_power 2) None
+pub power_found : (bytes : List ℕ) (from sign : Part) (at start left stop : ℕ) → NumberReaches bytes from at behind_mark (at + 1)
+    → NumberReaches bytes behind_mark (at + 1) sign start → number_step sign (get_or bytes start 0) ≡ at_digit (get_or bytes start 0) (in_power 2) None
     → start < length bytes → 48 ≤ get_or bytes start 0 → get_or bytes start 0 ≤ 57
-    → Reaches bytes (in_power 2) (start + 1) (in_power left) stop
+    → NumberReaches bytes (in_power 2) (start + 1) (in_power left) stop
     → (0 < left → 48 ≤ get_or bytes stop 0 → get_or bytes stop 0 ≤ 57 → ⊥)
-    → (to : Part) × Reaches bytes from at to stop × Ends to none_follows (get_or bytes stop 0)
+    → (to : Part) × NumberReaches bytes from at to stop × MayEndOrGoOn to none_follows (get_or bytes stop 0)
 power_found bytes from sign at start left stop mark signed e h p q r all =
     let first = reaches_one bytes sign (in_power 2) start h (e ∙ digit_some (get_or bytes start 0) (in_power 2) None p q) in
     let digits = reaches_more bytes sign (in_power 2) (in_power left) start (start + 1) stop first r in (
@@ -218,17 +218,17 @@ power_found bytes from sign at start left stop mark signed e h p q r all =
     )
 
 -- the whole number
-passes-rest : (from to : Part) (xs : List ℕ) → Passes from xs to → may_end to ≡ true → IsNumberRest from xs
+passes-rest : (from to : Part) (xs : List ℕ) → NumberPasses from xs to → may_end to ≡ true → IsNumberRest from xs
 passes-rest from to [] p e = back-may_end from (ap may_end p ∙ e)
 passes-rest from to (b ∷ xs) p e = back-number_step from p.0 b xs p.1 (passes-rest p.0 to xs p.2 e)
 
-pub number_is : (bytes : List ℕ) (to : Part) (at start stop : ℕ) → IsMinusEnd bytes at start → Reaches bytes behind_minus start to stop → may_end to ≡ true
+pub number_is : (bytes : List ℕ) (to : Part) (at start stop : ℕ) → IsMinusEnd bytes at start → NumberReaches bytes behind_minus start to stop → may_end to ≡ true
     → IsNumber (slice_range bytes at stop)
 number_is bytes to at start stop minus r e =
     subst IsNumber (sym (slice_join bytes at start stop minus.forward r.forward))
     (minus.number (slice_range bytes start stop) (passes-rest behind_minus to (slice_range bytes start stop) r.passes e))
 
-number_over : (bytes : List ℕ) (to : Part) (stop : ℕ) (content : List ℕ) (d : ℕ) (k : List Frame) → Ends to none_follows (get_or bytes stop 0)
+number_over : (bytes : List ℕ) (to : Part) (stop : ℕ) (content : List ℕ) (d : ℕ) (k : List Frame) → MayEndOrGoOn to none_follows (get_or bytes stop 0)
     → reading bytes (in_number to content d k) stop ≡ reading bytes (after d k (number content)) stop
 number_over bytes to stop content d k h =
     reading_same bytes (in_number to content d k) (after d k (number content)) stop
@@ -236,8 +236,8 @@ number_over bytes to stop content d k h =
     ∙ ap (λ (t : Bool). number_end t (after_step d k (number content) (get_or bytes stop 0))) h.0)
     (λ _. ap (λ (t : Bool). number_at_end t k (number content)) h.0)
 
-pub number_reads : (bytes : List ℕ) (to : Part) (at start stop : ℕ) (d : ℕ) (k : List Frame) → IsMinusEnd bytes at start → Reaches bytes behind_minus start to stop
-    → Ends to none_follows (get_or bytes stop 0)
+pub number_reads : (bytes : List ℕ) (to : Part) (at start stop : ℕ) (d : ℕ) (k : List Frame) → IsMinusEnd bytes at start → NumberReaches bytes behind_minus start to stop
+    → MayEndOrGoOn to none_follows (get_or bytes stop 0)
     → reading bytes (value d k) at ≡ reading bytes (after d k (number (slice_range bytes at stop))) stop
 number_reads bytes to at start stop d k minus r e =
     minus.reads d k
@@ -307,14 +307,14 @@ digit_found bytes at h p q =
     }
 
 -- what the exponent's answer says of the whole
-pub number_is_of : (bytes : List ℕ) (to : Part) (at start place : ℕ) (result : Result ℕ JsonFault) → IsMinusEnd bytes at start → Reaches bytes behind_minus start to place
-    → Continues bytes to place (λ t b. Ends t none_follows b) result → IfOk result (λ stop. IsNumber (slice_range bytes at stop))
+pub number_is_of : (bytes : List ℕ) (to : Part) (at start place : ℕ) (result : Result ℕ JsonFault) → IsMinusEnd bytes at start → NumberReaches bytes behind_minus start to place
+    → Continues bytes to place (λ t b. MayEndOrGoOn t none_follows b) result → IfOk result (λ stop. IsNumber (slice_range bytes at stop))
 number_is_of bytes to at start place (Ok stop) minus r h =
     number_is bytes h.0 at start stop minus (reaches_more bytes behind_minus to h.0 start place stop r h.1) h.2.0
 number_is_of bytes to at start place (Err fault) minus r h = tt
 
-pub number_reads_of : (bytes : List ℕ) (to : Part) (at start place : ℕ) (result : Result ℕ JsonFault) (d : ℕ) (k : List Frame) → IsMinusEnd bytes at start → Reaches bytes behind_minus start to place
-    → Continues bytes to place (λ t b. Ends t none_follows b) result
+pub number_reads_of : (bytes : List ℕ) (to : Part) (at start place : ℕ) (result : Result ℕ JsonFault) (d : ℕ) (k : List Frame) → IsMinusEnd bytes at start → NumberReaches bytes behind_minus start to place
+    → Continues bytes to place (λ t b. MayEndOrGoOn t none_follows b) result
     → Leads bytes (λ stop o. o ≡ reading bytes (after d k (number (slice_range bytes at stop))) stop) result (reading bytes (value d k) at)
 number_reads_of bytes to at start place (Ok stop) d k minus r h =
     number_reads bytes h.0 at start stop d k minus (reaches_more bytes behind_minus to h.0 start place stop r h.1) h.2

@@ -9,7 +9,7 @@ use Rattle.json_tree.specs.Grammar.{IsText, Spells}
 use Rattle.json_tree.specs.Places.{element_at, member_at, IsPart}
 use Rattle.json_read.specs.declared.fault.JsonFault.{JsonFault}
 use Rattle.json_read.specs.declared.fault.JsonFault.TheVariants as faults
-use Rattle.json_read.specs.Faults.{IsFirstWrong, IsCutShort, RepeatsKey, IsDuplicateAt, IsRangeAt, IsFirst, IsFault}
+use Rattle.json_read.specs.Faults.{IsFirstWrongByte, IsCutShortText, RepeatsKey, IsDuplicateAt, IsRangeAt, IsFirstFaulty, IsFault}
 use Rattle.json_read.proofs.OneValue.{OneNumber}
 use Rattle.json_read.proofs.Duplicates.{duplicate_root, duplicate_down}
 use Rattle.json_read.proofs.Ranges.{range_down}
@@ -114,7 +114,7 @@ fault_or_value one bytes (faults.Range place) value (raw, is, at, new, first) so
 fault_or_value one bytes faults.OutOfMemory value h some s = some refl
 
 -- ---- one fault
-not_cut : (bytes : List ℕ) (at : ℕ) → IsFirstWrong bytes at → IsCutShort bytes → ⊥
+not_cut : (bytes : List ℕ) (at : ℕ) → IsFirstWrongByte bytes at → IsCutShortText bytes → ⊥
 not_cut bytes at h k = h.dead (
   drop (at + 1) bytes ++ k.viable.0,
   k.viable.1,
@@ -123,14 +123,14 @@ not_cut bytes at h k = h.dead (
       k.viable.2,
 )
 
-one_wrong : (bytes : List ℕ) (at other : ℕ) → IsFirstWrong bytes at → IsFirstWrong bytes other → at ≡ other
+one_wrong : (bytes : List ℕ) (at other : ℕ) → IsFirstWrongByte bytes at → IsFirstWrongByte bytes other → at ≡ other
 one_wrong bytes at other h k = elim (cases_order at other) [
   | inl e ↦ e
   | inr (inl lt) ↦ absurd (h.dead (k.least at lt))
   | inr (inr lt) ↦ absurd (k.dead (h.least other lt))
 ]
 
-one_place : (raw : Raw) (place other : List ℕ) → IsFirst raw place → IsFirst raw other → IsDuplicateAt raw place ⊎ IsRangeAt raw place
+one_place : (raw : Raw) (place other : List ℕ) → IsFirstFaulty raw place → IsFirstFaulty raw other → IsDuplicateAt raw place ⊎ IsRangeAt raw place
     → IsDuplicateAt raw other ⊎ IsRangeAt raw other → place ≡ other
 one_place raw place other h k here there = elim (before_cases place other) [
   | inl e ↦ e
@@ -148,13 +148,13 @@ same_place p q e = ap (λ (s : List ℕ). make_place s) e
 duplicates : (bytes : List ℕ) (p q : Place) → IsFault bytes (faults.Duplicate p) → IsFault bytes (faults.Duplicate q) → p ≡ q
 duplicates bytes p q (raw, is, at, first) (other, is2, at2, first2) =
     let e = one_raw bytes raw other is is2 in
-    same_place p q (one_place other p.steps q.steps (subst (λ (r : Raw). IsFirst r p.steps) e first) first2
+    same_place p q (one_place other p.steps q.steps (subst (λ (r : Raw). IsFirstFaulty r p.steps) e first) first2
     (inl (subst (λ (r : Raw). IsDuplicateAt r p.steps) e at)) (inl at2))
 
 ranges : (bytes : List ℕ) (p q : Place) → IsFault bytes (faults.Range p) → IsFault bytes (faults.Range q) → p ≡ q
 ranges bytes p q (raw, is, at, new, first) (other, is2, at2, new2, first2) =
     let e = one_raw bytes raw other is is2 in
-    same_place p q (one_place other p.steps q.steps (subst (λ (r : Raw). IsFirst r p.steps) e first) first2
+    same_place p q (one_place other p.steps q.steps (subst (λ (r : Raw). IsFirstFaulty r p.steps) e first) first2
     (inr (subst (λ (r : Raw). IsRangeAt r p.steps) e at)) (inr at2))
 
 -- at one place a key that stands twice wins
@@ -162,7 +162,7 @@ not_both : (bytes : List ℕ) (p q : Place) → IsFault bytes (faults.Duplicate 
 not_both bytes p q (raw, is, at, first) (other, is2, at2, new2, first2) =
     let e = one_raw bytes raw other is is2 in
     let here = subst (λ (r : Raw). IsDuplicateAt r p.steps) e at in
-    let same = one_place other p.steps q.steps (subst (λ (r : Raw). IsFirst r p.steps) e first) first2 (inl here) (inr at2) in
+    let same = one_place other p.steps q.steps (subst (λ (r : Raw). IsFirstFaulty r p.steps) e first) first2 (inl here) (inr at2) in
     new2 (subst (λ (s : List ℕ). IsDuplicateAt other s) same here)
 
 pub one_fault : (bytes : List ℕ) (fault other : JsonFault) → IsFault bytes fault → IsFault bytes other

@@ -5,7 +5,7 @@ use Rattle.json_tree.specs.Values.{Value, Raw, Json, null, truth, number, text, 
 use Rattle.json_tree.specs.Grammar.{IsText}
 use Rattle.json_tree.specs.Places.{IsPart, StandsAt}
 use Rattle.json_read.specs.Faults.{IsDuplicateAt}
-use Rattle.json_tree.specs.Pointers.{HasToken, AreTokens, IsPointerOf}
+use Rattle.json_tree.specs.Pointers.{HasToken, AreReferenceTokens, IsPointerOf}
 use Rattle.json_read.specs.Machinery.Leads.{IsHeldAs}
 use Rattle.json_read.specs.Machinery.Automaton.{start, gives, reading}
 use Rattle.json_read.proofs.Held.{element_spelled, member_spelled, part_held}
@@ -38,7 +38,7 @@ token_spelled (object ms) w (ns, hs, same) i token part t =
     let r = member_spelled ms ns hs i token part s in
     (r.0, r.1, r.2)
 
-tokens_spelled : (place : List ℕ) (raw : Raw) (w : Json) → IsHeldAs raw w → (tokens : List (List ℕ)) → AreTokens w place tokens → AreTokens raw place tokens
+tokens_spelled : (place : List ℕ) (raw : Raw) (w : Json) → IsHeldAs raw w → (tokens : List (List ℕ)) → AreReferenceTokens w place tokens → AreReferenceTokens raw place tokens
 tokens_spelled [] raw w h tokens e = e
 tokens_spelled (i ∷ place) raw w h tokens (token, part, rest, has, more, e) =
     let r = token_spelled raw w h i token part has in

@@ -5,7 +5,7 @@ use Rattle.std.proofs.lemmas.List.{at_drop_more, at_drop_all, drop_more}
 use Rattle.json_read.specs.declared.fault.JsonFault.{JsonFault}
 use Rattle.json_read.specs.declared.fault.JsonFault.TheVariants as faults
 use Rattle.json_read.specs.Machinery.Leads.{IsOutcome}
-use Rattle.json_read.specs.Machinery.Automaton.{State, start, step, end, Outcome, wrong, at_end, followed, outcome, reading, Frame, in_word, word_next}
+use Rattle.json_read.specs.Machinery.Automaton.{State, start, step, end, Outcome, wrong, outcome_at_end, followed_step, outcome, reading, Frame, in_word, word_next}
 use Rattle.json_tree.specs.Values.{Raw}
 use Rattle.json_tree.specs.Grammar.{IsSpace}
 use Rattle.json_tree.proofs.Choices.{is_byte-in, no_byte-in}
@@ -13,22 +13,22 @@ use Rattle.json_read.specs.Machinery.Spans.{Faults}
 
 -- the outcome here, by the step over this byte
 pub reading_step : (bytes : List ℕ) (s : State) (at : ℕ) → at < length bytes
-    → reading bytes s at ≡ followed (step s (get_or bytes at 0)) at (λ t. reading bytes t (at + 1))
+    → reading bytes s at ≡ followed_step (step s (get_or bytes at 0)) at (λ t. reading bytes t (at + 1))
 unfolding reading
 reading_step bytes s at h = at_drop_more (outcome s at) bytes at 0 h
 
-pub reading_end : (bytes : List ℕ) (s : State) (at : ℕ) → length bytes ≤ at → reading bytes s at ≡ at_end (end s)
+pub reading_end : (bytes : List ℕ) (s : State) (at : ℕ) → length bytes ≤ at → reading bytes s at ≡ outcome_at_end (end s)
 unfolding reading
 reading_end bytes s at h = at_drop_all (outcome s at) bytes at h
 
 pub reading_next : (bytes : List ℕ) (s t : State) (at : ℕ) → at < length bytes → step s (get_or bytes at 0) ≡ Some t → reading bytes s at ≡ reading bytes t (at + 1)
-reading_next bytes s t at h f = reading_step bytes s at h ∙ ap (λ o. followed o at (λ t. reading bytes t (at + 1))) f
+reading_next bytes s t at h f = reading_step bytes s at h ∙ ap (λ o. followed_step o at (λ t. reading bytes t (at + 1))) f
 
 pub reading_byte : (bytes : List ℕ) (s t : State) (at b : ℕ) → at < length bytes → get_or bytes at 0 ≡ b → step s b ≡ Some t → reading bytes s at ≡ reading bytes t (at + 1)
 reading_byte bytes s t at b h e f = reading_next bytes s t at h (ap (step s) e ∙ f)
 
 pub reading_wrong : (bytes : List ℕ) (s : State) (at b : ℕ) → at < length bytes → get_or bytes at 0 ≡ b → step s b ≡ None → reading bytes s at ≡ wrong at
-reading_wrong bytes s at b h e f = reading_step bytes s at h ∙ ap (λ o. followed o at (λ t. reading bytes t (at + 1))) (ap (step s) e ∙ f)
+reading_wrong bytes s at b h e f = reading_step bytes s at h ∙ ap (λ o. followed_step o at (λ t. reading bytes t (at + 1))) (ap (step s) e ∙ f)
 
 pub reading_all : (bytes : List ℕ) → reading bytes start 0 ≡ outcome start 0 bytes
 unfolding reading
@@ -38,8 +38,8 @@ reading_all bytes = refl
 pub reading_same : (bytes : List ℕ) (s t : State) (at : ℕ) → (at < length bytes → step s (get_or bytes at 0) ≡ step t (get_or bytes at 0))
     → (length bytes ≤ at → end s ≡ end t) → reading bytes s at ≡ reading bytes t at
 reading_same bytes s t at p q = elim (leb_tells (length bytes) at) [
-  | inl h ↦ reading_end bytes s at h.1 ∙ ap at_end (q h.1) ∙ sym (reading_end bytes t at h.1)
-  | inr h ↦ reading_step bytes s at h.1 ∙ ap (λ o. followed o at (λ t. reading bytes t (at + 1))) (p h.1) ∙ sym (reading_step bytes t at h.1)
+  | inl h ↦ reading_end bytes s at h.1 ∙ ap outcome_at_end (q h.1) ∙ sym (reading_end bytes t at h.1)
+  | inr h ↦ reading_step bytes s at h.1 ∙ ap (λ o. followed_step o at (λ t. reading bytes t (at + 1))) (p h.1) ∙ sym (reading_step bytes t at h.1)
 ]
 
 -- what the outcome is from a later place on, it is from here on
@@ -50,7 +50,7 @@ pub faults_byte : (bytes : List ℕ) (at : ℕ) → at < length bytes → Faults
 faults_byte bytes at h s p q = reading_wrong bytes s at (get_or bytes at 0) h refl (p h)
 
 pub faults_end : (bytes : List ℕ) (at n : ℕ) → length bytes ≤ at → n ≡ length bytes → Faults bytes at (faults.Ends n)
-faults_end bytes at n h e s p q = (reading_end bytes s at h ∙ ap at_end (q h), e)
+faults_end bytes at n h e s p q = (reading_end bytes s at h ∙ ap outcome_at_end (q h), e)
 
 -- white space
 pub space_some : (b : ℕ) → IsSpace b → 0 < b

@@ -2,6 +2,7 @@
 use Rattle.std.proofs.Common.{◌≡◌, ℕ, zero, suc, ◌+◌, ◌<◌, ◌⊎◌, inl, inr, List, [], ◌∷◌, ◌++◌, length, map, take, get_or, Bool, true, false, cond, ◌||◌, bytes_eq, Some, refl, sym, ap, ◌∙◌, append_assoc, append-nil, arith, true≢false}
 use Rattle.std.proofs.lemmas.List.{take_more, map_push, get_or-take, length-take, length-map}
 use Rattle.std.proofs.lemmas.Slice.Eq.{bytes_eq-Decides}
+use Rattle.std.proofs.lemmas.Bool.{or_cases}
 use Rattle.json_tree.specs.declared.tree.Member.{Member}
 use Rattle.json_tree.specs.Values.{Value, object, Members, no_members, member}
 use Rattle.json_tree.specs.Places.{member_at}
@@ -10,10 +11,6 @@ use Rattle.json_tree.specs.View.{members_view}
 use Rattle.json_read.specs.Machinery.Ways.{has_key, repeat_at}
 use Rattle.text_buckets.specs.Buckets.{bucket_of, IsUsed, HasPut}
 use Rattle.text_buckets.specs.declared.buckets.Buckets.{Buckets}
-
-either : (a b : Bool) → (a || b) ≡ true → (a ≡ true) ⊎ (b ≡ true)
-either true b e = inl refl
-either false b e = inr e
 
 neither : (a b : Bool) → (a || b) ≡ false → (a ≡ false) × (b ≡ false)
 neither true b e = absurd cc
@@ -68,7 +65,7 @@ not-seen ms i buckets q used free =
 -- what it means that a key was seen
 seen_at : (ks : List (List ℕ)) (q : List ℕ) → has_key ks q ≡ true → (j : ℕ) × (j < length ks) × (get_or ks j [] ≡ q)
 seen_at [] q e = absurd cc
-seen_at (k ∷ ks) q e = elim (either (bytes_eq k q) (has_key ks q) e) [
+seen_at (k ∷ ks) q e = elim (or_cases (bytes_eq k q) (has_key ks q) e) [
   | inl h ↦ (0, omega arith, (bytes_eq-Decides k q).0 h)
   | inr h ↦ (let r = seen_at ks q h in let lt = r.1 in (suc r.0, omega (arith, lt), r.2))
 ]

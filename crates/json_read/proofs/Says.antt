@@ -2,8 +2,8 @@
 use Rattle.std.proofs.Common.{◌≡◌, ℕ, zero, suc, ◌+◌, ◌<◌, ◌↔◌, List, [], ◌∷◌, ◌++◌, take, Option, Some, None, refl, sym, ap, ◌∙◌, subst, arith}
 use Rattle.json_tree.specs.Values.{Raw}
 use Rattle.json_tree.specs.Grammar.{IsText, IsValue}
-use Rattle.json_read.specs.Faults.{IsFirstWrong, IsCutShort}
-use Rattle.json_read.specs.Machinery.Automaton.{State, start, step, end, Outcome, wrong, cut, gives, at_end, followed, outcome}
+use Rattle.json_read.specs.Faults.{IsFirstWrongByte, IsCutShortText}
+use Rattle.json_read.specs.Machinery.Automaton.{State, start, step, end, Outcome, wrong, cut, gives, outcome_at_end, followed_step, outcome}
 use Rattle.json_read.specs.Machinery.Remains.{Remains, Follows}
 use Rattle.json_read.specs.Machinery.Steps.{GoesOn, Says}
 use Rattle.json_read.proofs.States.{forward, backward, ends_forward, ends_backward}
@@ -28,7 +28,7 @@ is_live s = complete s
 take_more : (b : ℕ) (bytes : List ℕ) (i : ℕ) → take (suc i + 1) (b ∷ bytes) ≡ b ∷ take (i + 1) bytes
 take_more b bytes i = let e : suc i + 1 ≡ suc (i + 1) = omega arith in rw e refl
 
-says_end : (s : State) (at : ℕ) (e : Option Raw) → end s ≡ e → Says s at [] (at_end e)
+says_end : (s : State) (at : ℕ) (e : Option Raw) → end s ≡ e → Says s at [] (outcome_at_end e)
 says_end s at None e = (is_live s, λ whole h. absurd (let f : end s ≡ Some whole = ends_forward s whole h in cc))
 says_end s at (Some raw) e = λ whole. (
   λ h. (let f : end s ≡ Some whole = ends_forward s whole h in let g : Some raw ≡ Some whole = sym e ∙ f in cc),
@@ -52,7 +52,7 @@ says_more s u at b bytes cut e h = (goes_on s u b bytes e h.0, λ whole r. h.1 w
 says_more s u at b bytes (gives raw) e h = λ whole. (λ r. (h whole).0 (onward s u b bytes whole e r), λ r. backed s u b bytes whole e ((h whole).1 r))
 
 says_step : (s : State) (at b : ℕ) (bytes : List ℕ) (t : Option State) → step s b ≡ t
-    → ((u : State) → Says u (at + 1) bytes (outcome u (at + 1) bytes)) → Says s at (b ∷ bytes) (followed t at (λ u. outcome u (at + 1) bytes))
+    → ((u : State) → Says u (at + 1) bytes (outcome u (at + 1) bytes)) → Says s at (b ∷ bytes) (followed_step t at (λ u. outcome u (at + 1) bytes))
 says_step s at b bytes None e rec = (
   0,
   omega arith,
@@ -73,17 +73,17 @@ text-remains bytes raw h = (h.0, h.1, raw, h.2, h.3, (h.4, refl))
 pub remains-text : (bytes : List ℕ) (raw : Raw) → Remains start bytes raw → IsText bytes raw
 remains-text bytes raw h = (h.0, h.1, h.3, subst (λ v. IsValue v 64 h.0 h.1) (sym h.5.1) h.4, h.5.0)
 
-pub says_wrong : (bytes : List ℕ) (n : ℕ) → outcome start 0 bytes ≡ wrong n → IsFirstWrong bytes n
+pub says_wrong : (bytes : List ℕ) (n : ℕ) → outcome start 0 bytes ≡ wrong n → IsFirstWrongByte bytes n
 says_wrong bytes n e =
     let h = subst (Says start 0 bytes) e (says bytes start 0) in
     let same : h.0 ≡ n = omega (arith, h.1) in
-    subst (IsFirstWrong bytes) same (record {
+    subst (IsFirstWrongByte bytes) same (record {
       within = h.2;
       dead = λ g. h.3 (g.0, g.1, text-remains (take (h.0 + 1) bytes ++ g.0) g.1 g.2);
       least = λ j lt. let g = h.4 j lt in (g.0, g.1, remains-text (take (j + 1) bytes ++ g.0) g.1 g.2);
     })
 
-pub says_cut : (bytes : List ℕ) → outcome start 0 bytes ≡ cut → IsCutShort bytes
+pub says_cut : (bytes : List ℕ) → outcome start 0 bytes ≡ cut → IsCutShortText bytes
 says_cut bytes e =
     let h = subst (Says start 0 bytes) e (says bytes start 0) in
     record {

@@ -5,7 +5,7 @@ use Rattle.json_read.specs.declared.fault.JsonFault.{JsonFault}
 use Rattle.json_read.specs.declared.fault.JsonFault.TheVariants as faults
 use Rattle.json_tree.specs.Values.{Raw, Json, IsReadAs}
 use Rattle.json_tree.specs.Grammar.{IsText, Spells}
-use Rattle.json_read.specs.Faults.{IsFirstWrong}
+use Rattle.json_read.specs.Faults.{IsFirstWrongByte}
 use Rattle.json_read.specs.Machinery.Automaton.{Outcome, wrong, cut, gives, outcome, reading, start}
 use Rattle.json_read.specs.Machinery.Leads.{IsOutcome}
 use Rattle.json_read.proofs.Readings.{reading_all}
@@ -13,7 +13,7 @@ use Rattle.json_read.proofs.Says.{says_wrong, says_cut, says_gives}
 use Rattle.json_read.proofs.OneValue.{OneNumber, one_value}
 
 -- no byte of a text is wrong
-pub not_wrong : (bytes : List ℕ) (raw : Raw) (at : ℕ) → IsText bytes raw → IsFirstWrong bytes at → ⊥
+pub not_wrong : (bytes : List ℕ) (raw : Raw) (at : ℕ) → IsText bytes raw → IsFirstWrongByte bytes at → ⊥
 not_wrong bytes raw at text first =
     first.dead (drop (at + 1) bytes, raw, subst (λ (b : List ℕ). IsText b raw) (sym (take-append-drop (at + 1) bytes)) text)
 

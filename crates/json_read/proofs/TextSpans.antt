@@ -7,9 +7,9 @@ use Rattle.std.proofs.lemmas.Bool.Decides.{leb_tells, eqb_tells}
 use Rattle.std.proofs.lemmas.List.Folds.{drop_split}
 use Rattle.std.proofs.lemmas.List.Edits.{length-between}
 use Rattle.json_read.specs.declared.fault.JsonFault.{JsonFault}
-use Rattle.json_tree.specs.Grammar.{IsPlainByte, AreWithin, IsMultibyte, tail}
-use Rattle.json_read.specs.Machinery.Automaton.{Frame, Use, State, in_text, in_character, escaped, in_sequence, Sequence, one_tail, two_tails, three_tails, after_e0, after_ed, after_f0, after_f4, Move, dead, on_with, done, lead, sequence_step, moved, used, step, followed, outcome, reading}
-use Rattle.json_read.specs.Machinery.Spans.{Copies, CopiesTo, StopsRun, IsWithin, EndsSequence, Narrows}
+use Rattle.json_tree.specs.Grammar.{IsPlainByte, AreInRanges, IsMultibyte, tail}
+use Rattle.json_read.specs.Machinery.Automaton.{Frame, Use, State, in_text, in_character, escaped, in_sequence, Sequence, one_tail, two_tails, three_tails, after_e0, after_ed, after_f0, after_f4, Move, dead, on_with, done, lead, sequence_step, moved, used, step, followed_step, outcome, reading}
+use Rattle.json_read.specs.Machinery.Spans.{Copies, CopiesTo, StopsRun, IsByteWithin, EndsSequence, Narrows}
 use Rattle.json_read.proofs.Readings.{reading_next, reading_byte, outcome_from}
 use Rattle.json_read.proofs.Slices.{slice_none, slice_one, slice_join, slice_cons, past_byte, at_range, past_range}
 use Rattle.json_read.proofs.Utf8.{multibyte-utf8}
@@ -29,7 +29,7 @@ plain-outcome [] rest u at content d k p =
 plain-outcome (b ∷ xs) rest u at content d k p =
     let place : (at + 1) + length xs ≡ at + suc (length xs) = omega arith in
     let text : (content ++ b ∷ []) ++ xs ≡ content ++ (b ∷ xs) = append_assoc content (b ∷ []) xs in
-    ap (λ (o : Option State). followed o at (λ t. outcome t (at + 1) (xs ++ rest))) (plain_step b u content d k p.0)
+    ap (λ (o : Option State). followed_step o at (λ t. outcome t (at + 1) (xs ++ rest))) (plain_step b u content d k p.0)
     ∙ plain-outcome xs rest u (at + 1) (content ++ b ∷ []) d k p.1
     ∙ ap (λ (n : ℕ). outcome (in_text u ((content ++ b ∷ []) ++ xs) d k) n rest) place
     ∙ ap (λ (ys : List ℕ). outcome (in_text u ys d k) (at + suc (length xs)) rest) text
@@ -146,7 +146,7 @@ move_reads bytes s t at o h e f = reading_next bytes s t at h (e ∙ f)
 
 -- the last byte of a character
 pub last_ends : (bytes : List ℕ) (s : Sequence) (low high at : ℕ) (result : Result ℕ JsonFault) → Narrows s low high (λ b. done (b ∷ []))
-    → IsWithin bytes at low high result → EndsSequence bytes s ((low, high) ∷ []) at result
+    → IsByteWithin bytes at low high result → EndsSequence bytes s ((low, high) ∷ []) at result
 last_ends bytes s low high at (Ok stop) n h =
     let place = h.0 in
     let b = get_or bytes at 0 in
@@ -166,7 +166,7 @@ last_ends bytes s low high at (Err fault) n h = λ u content d k.
 
 -- a byte before others
 pub first_fails : (bytes : List ℕ) (s : Sequence) (low high at : ℕ) (fault : JsonFault) (next : ℕ → Move) (rs : List (ℕ × ℕ)) → Narrows s low high next
-    → IsWithin bytes at low high (Err fault) → EndsSequence bytes s rs at (Err fault)
+    → IsByteWithin bytes at low high (Err fault) → EndsSequence bytes s rs at (Err fault)
 first_fails bytes s low high at fault next rs n h = λ u content d k.
     h.0 (in_character (in_sequence s) u content d k)
     (λ l. ap (moved u content d k) (n.1 (get_or bytes at 0) (h.1 l)))
@@ -174,7 +174,7 @@ first_fails bytes s low high at fault next rs n h = λ u content d k.
 
 pub more_ends : (bytes : List ℕ) (s t : Sequence) (low high at place : ℕ) (rs : List (ℕ × ℕ)) (result : Result ℕ JsonFault)
     → Narrows s low high (λ b. on_with b (in_sequence t))
-    → IsWithin bytes at low high (Ok place) → EndsSequence bytes t rs place result → EndsSequence bytes s ((low, high) ∷ rs) at result
+    → IsByteWithin bytes at low high (Ok place) → EndsSequence bytes t rs place result → EndsSequence bytes s ((low, high) ∷ rs) at result
 more_ends bytes s t low high at place rs (Ok stop) n h r =
     let b = get_or bytes at 0 in
     let next = h.0 in
@@ -237,7 +237,7 @@ lead_step b u content d k h =
 
 pub lead_copies : (bytes : List ℕ) (at : ℕ) (s : Sequence) (rs : List (ℕ × ℕ)) (result : Result ℕ JsonFault) → at < length bytes → 128 ≤ get_or bytes at 0
     → lead (get_or bytes at 0) ≡ on_with (get_or bytes at 0) (in_sequence s)
-    → ((xs : List ℕ) → AreWithin rs xs → IsMultibyte (get_or bytes at 0 ∷ xs))
+    → ((xs : List ℕ) → AreInRanges rs xs → IsMultibyte (get_or bytes at 0 ∷ xs))
     → IfOk result (λ stop. stop ≤ length bytes)
     → EndsSequence bytes s rs (at + 1) result → CopiesTo bytes at result
 lead_copies bytes at s rs (Ok stop) h high e multibyte within r =

@@ -5,13 +5,13 @@ use Rattle.json_tree.specs.Values.{Raw}
 use Rattle.json_tree.specs.Grammar.{IsHexDigit, AreHexDigits, IsLowSurrogate, IsUnicode, IsEscape, IsCharacter, paired}
 use Rattle.json_read.specs.Machinery.Automaton.{Use, as_value, as_key, Frame, State, in_text, in_character, Point, escaped, first_digit, behind_d, digits, high_digits, low_escape, low_letter, low_first, low_second, low_digits, in_sequence, Move, dead, on, on_with, done, moved, used, lead, first_step, point_step}
 use Rattle.json_read.specs.Machinery.Remains.{Follows, IsLowRest, IsCharacterRest, InText, AfterText}
-use Rattle.json_read.specs.Machinery.Steps.{Forward, Backward, Moves}
+use Rattle.json_read.specs.Machinery.Steps.{Forward, Backward, RestMoves}
 use Rattle.json_tree.proofs.Choices.{choose, chosen, is_byte, no_byte, no_byte-in, is_within, is_within-in, not_within-in}
 use Rattle.json_read.proofs.Utf8.{fwd-lead, back-lead, fwd-sequence, back-sequence, multibyte_first, multibyte_some, sequence_some, complete-sequence}
 use Rattle.json_read.proofs.Escapes.{fwd-hex, back-hex, digit_here, fwd-escape, back-escape, fwd-first_digit, back-first_digit, fwd-behind_d, back-behind_d, fwd-low_first, back-low_first, fwd-low_second, back-low_second}
 
 -- inside a character
-pub fwd-point : (p : Point) (b : ℕ) (from bytes to : List ℕ) → IsCharacterRest p (b ∷ from) bytes to → Moves (point_step p b) from bytes to
+pub fwd-point : (p : Point) (b : ℕ) (from bytes to : List ℕ) → IsCharacterRest p (b ∷ from) bytes to → RestMoves (point_step p b) from bytes to
 fwd-point escaped b from bytes to h = fwd-escape b from bytes to h
 fwd-point first_digit b from bytes to h = fwd-first_digit b from bytes to h
 fwd-point behind_d b from bytes to h = fwd-behind_d b from bytes to h
@@ -49,7 +49,7 @@ fwd-point (low_digits (suc n) high before) b from bytes to (low, ds, f) =
     fwd-hex b r.0 (λ x. on (low_digits n high (before * 16 + x))) from bytes to r.1 (low, r.2, f)
 fwd-point (in_sequence s) b from bytes to h = fwd-sequence s b from bytes to h
 
-pub back-point : (p : Point) (b : ℕ) (from bytes to : List ℕ) → Moves (point_step p b) from bytes to → IsCharacterRest p (b ∷ from) bytes to
+pub back-point : (p : Point) (b : ℕ) (from bytes to : List ℕ) → RestMoves (point_step p b) from bytes to → IsCharacterRest p (b ∷ from) bytes to
 back-point escaped b from bytes to h = back-escape b from bytes to h
 back-point first_digit b from bytes to h = back-first_digit b from bytes to h
 back-point behind_d b from bytes to h = back-behind_d b from bytes to h
@@ -66,12 +66,12 @@ back-point (high_digits (suc n) before) b from bytes to h =
     let r = back-hex b (λ x. on (high_digits n (before * 16 + x))) from bytes to h in
     (r.2.0, r.2.1, (b, r.0, from, refl, r.1, r.2.2), r.2.3)
 back-point (low_escape high) b from bytes to h =
-    elim (chosen (λ (w : Move). Moves w from bytes to) (nat_eq b 92) (on (low_letter high)) dead h) [
+    elim (chosen (λ (w : Move). RestMoves w from bytes to) (nat_eq b 92) (on (low_letter high)) dead h) [
       | inl g ↦ let r = g.1 in let front : b ≡ 92 = is_byte b 92 g.0 in (r.0, rw (front, r.1) refl, r.2)
       | inr g ↦ absurd g.1
     ]
 back-point (low_letter high) b from bytes to h =
-    elim (chosen (λ (w : Move). Moves w from bytes to) (nat_eq b 117) (on (low_first high)) dead h) [
+    elim (chosen (λ (w : Move). RestMoves w from bytes to) (nat_eq b 117) (on (low_first high)) dead h) [
       | inl g ↦ let front : b ≡ 117 = is_byte b 117 g.0 in (from, rw front refl, g.1)
       | inr g ↦ absurd g.1
     ]
@@ -119,11 +119,11 @@ first_quote from bytes to (inl (b, p, e, f)) = let q : b ≡ 34 = cc in p.2 q
 first_quote from bytes to (inr (inl (m, e))) = let low : 194 ≤ 34 = multibyte_first 34 from bytes to m e in omega arith
 first_quote from bytes to (inr (inr (mid, e, h))) = let q : 34 ≡ 92 = cc in no_byte 34 92 refl q
 
-pub fwd-first : (b : ℕ) (from bytes to : List ℕ) → IsCharacter (b ∷ from) bytes to → Moves (first_step b) from bytes to
+pub fwd-first : (b : ℕ) (from bytes to : List ℕ) → IsCharacter (b ∷ from) bytes to → RestMoves (first_step b) from bytes to
 fwd-first b from bytes to (inl (c, (ge, le, quote, slash), e, f)) =
     let front : b ≡ c = cc in
     let back : from ≡ to = cc in
-    let m : Moves (done (c ∷ [])) from bytes to = (f, back) in
+    let m : RestMoves (done (c ∷ [])) from bytes to = (f, back) in
     rw (front, no_byte-in c 92 slash, is_within-in c 32 127 ge le) m
 fwd-first b from bytes to (inr (inl (m, e))) =
     let low : 194 ≤ b = multibyte_first b from bytes to m e in
@@ -133,9 +133,9 @@ fwd-first b from bytes to (inr (inr (mid, e, h))) =
     let back : mid ≡ from = cc in
     rw front (subst (λ (w : List ℕ). IsEscape w bytes to) back h)
 
-pub back-first : (b : ℕ) (from bytes to : List ℕ) → (b ≡ 34 → ⊥) → Moves (first_step b) from bytes to → IsCharacter (b ∷ from) bytes to
+pub back-first : (b : ℕ) (from bytes to : List ℕ) → (b ≡ 34 → ⊥) → RestMoves (first_step b) from bytes to → IsCharacter (b ∷ from) bytes to
 back-first b from bytes to q m =
-    let there = λ (w : Move). Moves w from bytes to in
+    let there = λ (w : Move). RestMoves w from bytes to in
     elim (chosen there (nat_eq b 92) (on escaped) _ m) [
       | inl h ↦ let front : b ≡ 92 = is_byte b 92 h.0 in inr (inr (from, rw front refl, h.1))
       | inr h ↦ elim (chosen there (nat_le 32 b && nat_le b 127) (done (b ∷ [])) (lead b) h.1) [
@@ -154,7 +154,7 @@ character_some bytes to (inr (inr (mid, e, h))) = cc
 
 -- a move inside a text
 pub fwd-moved : (m : Move) (u : Use) (content : List ℕ) (d : ℕ) (k : List Frame) (from bytes to : List ℕ) (whole : Raw)
-    → Moves m from bytes to → InText u (content ++ bytes) d k to whole → Follows (moved u content d k m) from whole
+    → RestMoves m from bytes to → InText u (content ++ bytes) d k to whole → Follows (moved u content d k m) from whole
 fwd-moved dead u content d k from bytes to whole h t = absurd h
 fwd-moved (on p) u content d k from bytes to whole h t = (bytes, to, h, t)
 fwd-moved (on_with b p) u content d k from bytes to whole (rest, e, h) t =
@@ -165,7 +165,7 @@ fwd-moved (done these) u content d k from bytes to whole (e, f) t =
     (subst (λ (w : List ℕ). InText u (content ++ w) d k to whole) e t)
 
 pub back-moved : (m : Move) (u : Use) (content : List ℕ) (d : ℕ) (k : List Frame) (from : List ℕ) (whole : Raw)
-    → Follows (moved u content d k m) from whole → (bytes to : List ℕ) × Moves m from bytes to × InText u (content ++ bytes) d k to whole
+    → Follows (moved u content d k m) from whole → (bytes to : List ℕ) × RestMoves m from bytes to × InText u (content ++ bytes) d k to whole
 back-moved dead u content d k from whole h = absurd h
 back-moved (on p) u content d k from whole (bytes, mid, h, t) = (bytes, mid, h, t)
 back-moved (on_with b p) u content d k from whole (bytes, mid, h, t) =

@@ -3,10 +3,10 @@ use Rattle.std.proofs.Common.{◌≡◌, ℕ, zero, suc, ◌+◌, ◌-◌, ◌*�
 use Rattle.std.proofs.lemmas.Bool.Decides.{nat_tests}
 use Rattle.std.proofs.lemmas.Str.{IsUtf8-encode, IsUtf8-append, IsUtf8-nil, encode_ascii}
 use Rattle.std.specs.Char.{encode_utf8, IsScalar}
-use Rattle.json_tree.specs.Grammar.{AreWithin, tail, IsMultibyte, IsShort, IsHexDigit, IsUnit, IsNonSurrogate, IsHighSurrogate, IsLowSurrogate, IsUnicode, IsEscape, IsCharacter, IsCharacters, paired}
+use Rattle.json_tree.specs.Grammar.{AreInRanges, tail, IsMultibyte, IsShortEscape, IsHexDigit, IsUnit, IsNonSurrogate, IsHighSurrogate, IsLowSurrogate, IsUnicode, IsEscape, IsCharacter, IsCharacters, paired}
 use Rattle.json_read.specs.Machinery.Automaton.{Sequence, one_tail, two_tails, three_tails, after_e0, after_ed, after_f0, after_f4, in_sequence, Move, dead, on_with, done, lead, ranges, sequence_step}
 use Rattle.json_read.specs.Machinery.Remains.{IsCharacterRest}
-use Rattle.json_read.specs.Machinery.Steps.{Moves}
+use Rattle.json_read.specs.Machinery.Steps.{RestMoves}
 use Rattle.json_tree.proofs.Choices.{is_byte, is_within, is_within-in, not_within-in, no_byte-in}
 
 -- ---- the first of some ranges
@@ -15,10 +15,10 @@ record Split (r : ℕ × ℕ) (rs : List (ℕ × ℕ)) (b : ℕ) (from bytes to 
   high : b ≤ r.1
   rest : List ℕ
   is : bytes ≡ b ∷ rest
-  within : AreWithin rs rest
+  within : AreInRanges rs rest
   same : from ≡ rest ++ to
 
-split : (r : ℕ × ℕ) (rs : List (ℕ × ℕ)) (b : ℕ) (from bytes to : List ℕ) → AreWithin (r ∷ rs) bytes → b ∷ from ≡ bytes ++ to → Split r rs b from bytes to
+split : (r : ℕ × ℕ) (rs : List (ℕ × ℕ)) (b : ℕ) (from bytes to : List ℕ) → AreInRanges (r ∷ rs) bytes → b ∷ from ≡ bytes ++ to → Split r rs b from bytes to
 split r rs b from bytes to h e =
     let whole : b ∷ from ≡ h.0 ∷ (h.1 ++ to) = subst (λ (bs : List ℕ). b ∷ from ≡ bs ++ to) h.2 e in
     let first : h.0 ≡ b = cc in
@@ -31,19 +31,19 @@ split r rs b from bytes to h e =
       same = cc;
     }
 
-no_split : (r : ℕ × ℕ) (rs : List (ℕ × ℕ)) (bytes to : List ℕ) → AreWithin (r ∷ rs) bytes → [] ≡ bytes ++ to → ⊥
+no_split : (r : ℕ × ℕ) (rs : List (ℕ × ℕ)) (bytes to : List ℕ) → AreInRanges (r ∷ rs) bytes → [] ≡ bytes ++ to → ⊥
 no_split r rs bytes to h e =
     let whole : [] ≡ h.0 ∷ (h.1 ++ to) = subst (λ (bs : List ℕ). [] ≡ bs ++ to) h.2 e in absurd cc
 
 -- a byte of the first range before bytes of the others
-joined : (r : ℕ × ℕ) (rs : List (ℕ × ℕ)) (b : ℕ) (rest bytes : List ℕ) → r.0 ≤ b → b ≤ r.1 → bytes ≡ b ∷ rest → AreWithin rs rest → AreWithin (r ∷ rs) bytes
+joined : (r : ℕ × ℕ) (rs : List (ℕ × ℕ)) (b : ℕ) (rest bytes : List ℕ) → r.0 ≤ b → b ≤ r.1 → bytes ≡ b ∷ rest → AreInRanges rs rest → AreInRanges (r ∷ rs) bytes
 joined r rs b rest bytes low high e h = (b, rest, e, low, high, h)
 
 joined_same : (b : ℕ) (from rest bytes to : List ℕ) → bytes ≡ b ∷ rest → from ≡ rest ++ to → b ∷ from ≡ bytes ++ to
 joined_same b from rest bytes to e f = subst (λ (bs : List ℕ). b ∷ from ≡ bs ++ to) (sym e) (ap (λ (bs : List ℕ). b ∷ bs) f)
 
 -- ---- a character's first byte
-starts_high : (s : Sequence) (r : ℕ × ℕ) (b : ℕ) (from bytes to : List ℕ) → 194 ≤ r.0 → AreWithin (r ∷ ranges s) bytes → b ∷ from ≡ bytes ++ to → 194 ≤ b
+starts_high : (s : Sequence) (r : ℕ × ℕ) (b : ℕ) (from bytes to : List ℕ) → 194 ≤ r.0 → AreInRanges (r ∷ ranges s) bytes → b ∷ from ≡ bytes ++ to → 194 ≤ b
 starts_high s r b from bytes to low h e =
     let p = split r (ranges s) b from bytes to h e in omega (arith, p.low)
 
@@ -93,12 +93,12 @@ lead_f4 b p q = let e : b ≡ 0xF4 = omega arith in subst (λ (c : ℕ). lead c 
 
 -- bytes of these ranges, where the first byte leads to the others
 led : (s : Sequence) (r : ℕ × ℕ) (b : ℕ) (from bytes to : List ℕ) → (r.0 ≤ b → b ≤ r.1 → lead b ≡ on_with b (in_sequence s))
-    → AreWithin (r ∷ ranges s) bytes → b ∷ from ≡ bytes ++ to → Moves (lead b) from bytes to
+    → AreInRanges (r ∷ ranges s) bytes → b ∷ from ≡ bytes ++ to → RestMoves (lead b) from bytes to
 led s r b from bytes to f h e =
     let p = split r (ranges s) b from bytes to h e in
-    subst (λ (m : Move). Moves m from bytes to) (sym (f p.low p.high)) (p.rest, p.is, (p.within, p.same))
+    subst (λ (m : Move). RestMoves m from bytes to) (sym (f p.low p.high)) (p.rest, p.is, (p.within, p.same))
 
-pub fwd-lead : (b : ℕ) (from bytes to : List ℕ) → IsMultibyte bytes → b ∷ from ≡ bytes ++ to → Moves (lead b) from bytes to
+pub fwd-lead : (b : ℕ) (from bytes to : List ℕ) → IsMultibyte bytes → b ∷ from ≡ bytes ++ to → RestMoves (lead b) from bytes to
 fwd-lead b from bytes to (inl h) e = led one_tail (0xC2, 0xDF) b from bytes to (lead_c2 b) h e
 fwd-lead b from bytes to (inr (inl h)) e = led after_e0 (0xE0, 0xE0) b from bytes to (lead_e0 b) h e
 fwd-lead b from bytes to (inr (inr (inl h))) e = led two_tails (0xE1, 0xEC) b from bytes to (lead_e1 b) h e
@@ -110,26 +110,26 @@ fwd-lead b from bytes to (inr (inr (inr (inr (inr (inr (inr h))))))) e = led aft
 
 -- the other way round: what a choice of moves shows, by either side
 either : (c : Bool) (x y : Move) (from bytes to : List ℕ) {Q : Type 0}
-    → (c ≡ true → Moves x from bytes to → Q) → (c ≡ false → Moves y from bytes to → Q) → Moves (cond c x y) from bytes to → Q
+    → (c ≡ true → RestMoves x from bytes to → Q) → (c ≡ false → RestMoves y from bytes to → Q) → RestMoves (cond c x y) from bytes to → Q
 either true x y from bytes to p q m = p refl m
 either false x y from bytes to p q m = q refl m
 
-from_lead : (s : Sequence) (r : ℕ × ℕ) (b : ℕ) (from bytes to : List ℕ) → r.0 ≤ b → b ≤ r.1 → Moves (on_with b (in_sequence s)) from bytes to
-    → AreWithin (r ∷ ranges s) bytes × (b ∷ from ≡ bytes ++ to)
+from_lead : (s : Sequence) (r : ℕ × ℕ) (b : ℕ) (from bytes to : List ℕ) → r.0 ≤ b → b ≤ r.1 → RestMoves (on_with b (in_sequence s)) from bytes to
+    → AreInRanges (r ∷ ranges s) bytes × (b ∷ from ≡ bytes ++ to)
 from_lead s r b from bytes to low high m =
     (joined r (ranges s) b m.0 bytes low high m.1 m.2.0, joined_same b from m.0 bytes to m.1 m.2.1)
 
-from_range : (s : Sequence) (r : ℕ × ℕ) (b : ℕ) (from bytes to : List ℕ) → (nat_le r.0 b && nat_le b r.1) ≡ true → Moves (on_with b (in_sequence s)) from bytes to
-    → AreWithin (r ∷ ranges s) bytes × (b ∷ from ≡ bytes ++ to)
+from_range : (s : Sequence) (r : ℕ × ℕ) (b : ℕ) (from bytes to : List ℕ) → (nat_le r.0 b && nat_le b r.1) ≡ true → RestMoves (on_with b (in_sequence s)) from bytes to
+    → AreInRanges (r ∷ ranges s) bytes × (b ∷ from ≡ bytes ++ to)
 from_range s r b from bytes to t m =
     let w = is_within b r.0 r.1 t in from_lead s r b from bytes to w.0 w.1 m
 
-from_byte : (s : Sequence) (n b : ℕ) (from bytes to : List ℕ) → nat_eq b n ≡ true → Moves (on_with b (in_sequence s)) from bytes to
-    → AreWithin ((n, n) ∷ ranges s) bytes × (b ∷ from ≡ bytes ++ to)
+from_byte : (s : Sequence) (n b : ℕ) (from bytes to : List ℕ) → nat_eq b n ≡ true → RestMoves (on_with b (in_sequence s)) from bytes to
+    → AreInRanges ((n, n) ∷ ranges s) bytes × (b ∷ from ≡ bytes ++ to)
 from_byte s n b from bytes to t m =
     let e : b ≡ n = is_byte b n t in from_lead s (n, n) b from bytes to (omega arith) (omega arith) m
 
-pub back-lead : (b : ℕ) (from bytes to : List ℕ) → Moves (lead b) from bytes to → IsMultibyte bytes × (b ∷ from ≡ bytes ++ to)
+pub back-lead : (b : ℕ) (from bytes to : List ℕ) → RestMoves (lead b) from bytes to → IsMultibyte bytes × (b ∷ from ≡ bytes ++ to)
 back-lead b from bytes to h =
     either (nat_le 0xC2 b && nat_le b 0xDF) _ _ from bytes to (λ t m. let r = from_range one_tail (0xC2, 0xDF) b from bytes to t m in (inl r.0, r.1))
     (λ _. either (nat_eq b 0xE0) _ _ from bytes to (λ t m. let r = from_byte after_e0 0xE0 b from bytes to t m in (inr (inl r.0), r.1))
@@ -142,13 +142,13 @@ back-lead b from bytes to h =
     (λ _ m. absurd m)))))))) h
 
 -- ---- the bytes that remain
-next_in : (s : Sequence) (r : ℕ × ℕ) (b : ℕ) (from bytes to : List ℕ) → AreWithin (r ∷ ranges s) bytes → b ∷ from ≡ bytes ++ to
-    → Moves (cond (nat_le r.0 b && nat_le b r.1) (on_with b (in_sequence s)) dead) from bytes to
+next_in : (s : Sequence) (r : ℕ × ℕ) (b : ℕ) (from bytes to : List ℕ) → AreInRanges (r ∷ ranges s) bytes → b ∷ from ≡ bytes ++ to
+    → RestMoves (cond (nat_le r.0 b && nat_le b r.1) (on_with b (in_sequence s)) dead) from bytes to
 next_in s r b from bytes to h e =
     let p = split r (ranges s) b from bytes to h e in
     rw (is_within-in b r.0 r.1 p.low p.high) (p.rest, p.is, (p.within, p.same))
 
-pub fwd-sequence : (s : Sequence) (b : ℕ) (from bytes to : List ℕ) → IsCharacterRest (in_sequence s) (b ∷ from) bytes to → Moves (sequence_step s b) from bytes to
+pub fwd-sequence : (s : Sequence) (b : ℕ) (from bytes to : List ℕ) → IsCharacterRest (in_sequence s) (b ∷ from) bytes to → RestMoves (sequence_step s b) from bytes to
 fwd-sequence one_tail b from bytes to h =
     let p = split tail [] b from bytes to h.0 h.1 in
     let none : p.rest ≡ [] = p.within in
@@ -162,20 +162,20 @@ fwd-sequence after_ed b from bytes to h = next_in one_tail (0x80, 0x9F) b from b
 fwd-sequence after_f0 b from bytes to h = next_in two_tails (0x90, 0xBF) b from bytes to h.0 h.1
 fwd-sequence after_f4 b from bytes to h = next_in two_tails (0x80, 0x8F) b from bytes to h.0 h.1
 
-from_next : (s : Sequence) (r : ℕ × ℕ) (b : ℕ) (from bytes to : List ℕ) → Moves (cond (nat_le r.0 b && nat_le b r.1) (on_with b (in_sequence s)) dead) from bytes to
-    → AreWithin (r ∷ ranges s) bytes × (b ∷ from ≡ bytes ++ to)
+from_next : (s : Sequence) (r : ℕ × ℕ) (b : ℕ) (from bytes to : List ℕ) → RestMoves (cond (nat_le r.0 b && nat_le b r.1) (on_with b (in_sequence s)) dead) from bytes to
+    → AreInRanges (r ∷ ranges s) bytes × (b ∷ from ≡ bytes ++ to)
 from_next s r b from bytes to h =
     either (nat_le r.0 b && nat_le b r.1) (on_with b (in_sequence s)) dead from bytes to (λ t m. from_range s r b from bytes to t m) (λ _ m. absurd m) h
 
-from_last : (b : ℕ) (from bytes to : List ℕ) → Moves (cond (nat_le 0x80 b && nat_le b 0xBF) (done (b ∷ [])) dead) from bytes to
-    → AreWithin (tail ∷ []) bytes × (b ∷ from ≡ bytes ++ to)
+from_last : (b : ℕ) (from bytes to : List ℕ) → RestMoves (cond (nat_le 0x80 b && nat_le b 0xBF) (done (b ∷ [])) dead) from bytes to
+    → AreInRanges (tail ∷ []) bytes × (b ∷ from ≡ bytes ++ to)
 from_last b from bytes to h =
     either (nat_le 0x80 b && nat_le b 0xBF) (done (b ∷ [])) dead from bytes to
     (λ t m. let w = is_within b 0x80 0xBF t in
     (joined tail [] b [] bytes w.0 w.1 m.0 refl, joined_same b from [] bytes to m.0 m.1))
     (λ _ m. absurd m) h
 
-pub back-sequence : (s : Sequence) (b : ℕ) (from bytes to : List ℕ) → Moves (sequence_step s b) from bytes to → IsCharacterRest (in_sequence s) (b ∷ from) bytes to
+pub back-sequence : (s : Sequence) (b : ℕ) (from bytes to : List ℕ) → RestMoves (sequence_step s b) from bytes to → IsCharacterRest (in_sequence s) (b ∷ from) bytes to
 back-sequence one_tail b from bytes to h = from_last b from bytes to h
 back-sequence two_tails b from bytes to h = from_next one_tail tail b from bytes to h
 back-sequence three_tails b from bytes to h = from_next two_tails tail b from bytes to h
@@ -194,7 +194,7 @@ sequence_some after_f0 bytes to h = no_split (0x90, 0xBF) (ranges two_tails) byt
 sequence_some after_f4 bytes to h = no_split (0x80, 0x8F) (ranges two_tails) bytes to h.0 h.1
 
 -- Some bytes remain.
-pub complete-sequence : (s : Sequence) → (bytes : List ℕ) × AreWithin (ranges s) bytes
+pub complete-sequence : (s : Sequence) → (bytes : List ℕ) × AreInRanges (ranges s) bytes
 complete-sequence one_tail = (0x80 ∷ [], (0x80, [], refl, omega arith, omega arith, refl))
 complete-sequence two_tails = (0x80 ∷ 0x80 ∷ [], (0x80, 0x80 ∷ [], refl, omega arith, omega arith, (0x80, [], refl, omega arith, omega arith, refl)))
 complete-sequence three_tails = (0x80 ∷ 0x80 ∷ 0x80 ∷ [], (0x80, 0x80 ∷ 0x80 ∷ [], refl, omega arith, omega arith, (0x80, 0x80 ∷ [], refl, omega arith, omega arith, (0x80, [], refl, omega arith, omega arith, refl))))
@@ -229,7 +229,7 @@ four_bytes a b x y h1 h2 h3 h4 h5 h6 h7 h8 h9 h10 =
     rw (le-ltb c 128 (omega arith), le-ltb c 2048 (omega arith), le-ltb c 65536 range.0) (grind arith) in
     subst IsUtf8 is (IsUtf8-encode c range.1)
 
-two_within : (p q : ℕ × ℕ) (bytes : List ℕ) → AreWithin (p ∷ q ∷ []) bytes
+two_within : (p q : ℕ × ℕ) (bytes : List ℕ) → AreInRanges (p ∷ q ∷ []) bytes
     → (a b : ℕ) × (bytes ≡ a ∷ b ∷ []) × (p.0 ≤ a) × (a ≤ p.1) × (q.0 ≤ b) × (b ≤ q.1)
 two_within p q bytes h =
     let g = h.5 in
@@ -238,7 +238,7 @@ two_within p q bytes h =
     let n : g.1 ≡ [] = g.5 in
     (h.0, g.0, cc, h.3, h.4, g.3, g.4)
 
-three_within : (p q r : ℕ × ℕ) (bytes : List ℕ) → AreWithin (p ∷ q ∷ r ∷ []) bytes
+three_within : (p q r : ℕ × ℕ) (bytes : List ℕ) → AreInRanges (p ∷ q ∷ r ∷ []) bytes
     → (a b c : ℕ) × (bytes ≡ a ∷ b ∷ c ∷ []) × (p.0 ≤ a) × (a ≤ p.1) × (q.0 ≤ b) × (b ≤ q.1) × (r.0 ≤ c) × (c ≤ r.1)
 three_within p q r bytes h =
     let g = two_within q r h.1 h.5 in
@@ -246,7 +246,7 @@ three_within p q r bytes h =
     let f : h.1 ≡ g.0 ∷ g.1 ∷ [] = g.2 in
     (h.0, g.0, g.1, cc, h.3, h.4, g.3, g.4, g.5, g.6)
 
-four_within : (p q r s : ℕ × ℕ) (bytes : List ℕ) → AreWithin (p ∷ q ∷ r ∷ s ∷ []) bytes
+four_within : (p q r s : ℕ × ℕ) (bytes : List ℕ) → AreInRanges (p ∷ q ∷ r ∷ s ∷ []) bytes
     → (a b c d : ℕ) × (bytes ≡ a ∷ b ∷ c ∷ d ∷ []) × (p.0 ≤ a) × (a ≤ p.1) × (q.0 ≤ b) × (b ≤ q.1) × (r.0 ≤ c) × (c ≤ r.1) × (s.0 ≤ d) × (d ≤ s.1)
 four_within p q r s bytes h =
     let g = three_within q r s h.1 h.5 in
@@ -256,7 +256,7 @@ four_within p q r s bytes h =
 
 -- three bytes, and four, where the first two lie in ranges that leave out what is too short or no character
 three-utf8 : (p q : ℕ × ℕ) (bytes : List ℕ) → 0xE0 ≤ p.0 → p.1 ≤ 0xEF → 0x80 ≤ q.0 → q.1 ≤ 0xBF
-    → (0xE0 < p.0) ⊎ (0xA0 ≤ q.0) → (p.1 < 0xED) ⊎ ((0xED < p.0) ⊎ (q.1 ≤ 0x9F)) → AreWithin (p ∷ q ∷ tail ∷ []) bytes → IsUtf8 bytes
+    → (0xE0 < p.0) ⊎ (0xA0 ≤ q.0) → (p.1 < 0xED) ⊎ ((0xED < p.0) ⊎ (q.1 ≤ 0x9F)) → AreInRanges (p ∷ q ∷ tail ∷ []) bytes → IsUtf8 bytes
 three-utf8 p q bytes low high first last short code h =
     let w = three_within p q tail bytes h in
     let h4 = w.4 in let h5 = w.5 in let h6 = w.6 in let h7 = w.7 in let h8 = w.8 in let h9 = w.9 in
@@ -265,7 +265,7 @@ three-utf8 p q bytes low high first last short code h =
     subst IsUtf8 (sym w.3) (three_bytes w.0 w.1 w.2 (omega arith) (omega arith) (omega arith) (omega arith) e0 ed h8 h9)
 
 four-utf8 : (p q : ℕ × ℕ) (bytes : List ℕ) → 0xF0 ≤ p.0 → p.1 ≤ 0xF4 → 0x80 ≤ q.0 → q.1 ≤ 0xBF
-    → (0xF0 < p.0) ⊎ (0x90 ≤ q.0) → (p.1 < 0xF4) ⊎ (q.1 ≤ 0x8F) → AreWithin (p ∷ q ∷ tail ∷ tail ∷ []) bytes → IsUtf8 bytes
+    → (0xF0 < p.0) ⊎ (0x90 ≤ q.0) → (p.1 < 0xF4) ⊎ (q.1 ≤ 0x8F) → AreInRanges (p ∷ q ∷ tail ∷ tail ∷ []) bytes → IsUtf8 bytes
 four-utf8 p q bytes low high first last short code h =
     let w = four_within p q tail tail bytes h in
     let h5 = w.5 in let h6 = w.6 in let h7 = w.7 in let h8 = w.8 in
@@ -289,7 +289,7 @@ multibyte-utf8 bytes (inr (inr (inr (inr (inr (inr (inr h))))))) = four-utf8 (0x
 ascii-utf8 : (b : ℕ) → b < 128 → IsUtf8 (b ∷ [])
 ascii-utf8 b h = subst IsUtf8 (encode_ascii b h) (IsUtf8-encode b (grind (arith, nat_tests)))
 
-short_small : (mark code : ℕ) → IsShort mark code → code < 128
+short_small : (mark code : ℕ) → IsShortEscape mark code → code < 128
 short_small mark code h = grind arith
 
 -- four digits by their values

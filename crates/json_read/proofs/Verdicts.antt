@@ -6,7 +6,7 @@ use Rattle.json_read.specs.declared.fault.JsonFault.TheVariants as faults
 use Rattle.json_tree.specs.Values.{Raw, Json, IsReadAs}
 use Rattle.json_tree.specs.Grammar.{IsText, Spells}
 use Rattle.json_tree.specs.Places.{IsBefore}
-use Rattle.json_read.specs.Faults.{IsDuplicateAt, IsRangeAt, IsFirst, IsFault}
+use Rattle.json_read.specs.Faults.{IsDuplicateAt, IsRangeAt, IsFirstFaulty, IsFault}
 use Rattle.json_read.specs.Machinery.Automaton.{start, gives, reading}
 use Rattle.json_read.specs.Machinery.Leads.{IsOutcome, IsHeldAs}
 use Rattle.json_read.specs.Machinery.Ways.{IsFirstAt, IsFirstUp}
@@ -46,25 +46,25 @@ spells one bytes raw w e held in_range new value =
     )
 
 first_of_duplicates : (raw : Raw) (w : Json) (place : List ℕ) → IsHeldAs raw w → IsFirstAt (IsDuplicateAt w) place
-    → ((other : List ℕ) → IsRangeAt raw other → IsBefore other place → ⊥) → IsFirst raw place
+    → ((other : List ℕ) → IsRangeAt raw other → IsBefore other place → ⊥) → IsFirstFaulty raw place
 first_of_duplicates raw w place held first later before lt (inl d) = first.1 before lt (duplicate_held before raw w held d)
 first_of_duplicates raw w place held first later before lt (inr r) = later before r lt
 
 pub duplicate_fault : (bytes : List ℕ) (raw : Raw) (w : Json) (place : List ℕ) → reading bytes start 0 ≡ gives raw → IsHeldAs raw w → IsFirstAt (IsDuplicateAt w) place
     → ((other : List ℕ) → IsRangeAt raw other → IsBefore other place → ⊥)
-    → (r : Raw) × IsText bytes r × IsDuplicateAt r place × IsFirst r place
+    → (r : Raw) × IsText bytes r × IsDuplicateAt r place × IsFirstFaulty r place
 duplicate_fault bytes raw w place e held first later =
     (raw, (text_of bytes raw e raw).1 refl, duplicate_spelled place raw w held first.0, first_of_duplicates raw w place held first later)
 
 first_of_ranges : (raw : Raw) (w : Json) (place : List ℕ) → IsHeldAs raw w → IsFirstAt (IsRangeAt raw) place
-    → ((other : List ℕ) → IsDuplicateAt w other → IsBefore place other) → IsFirst raw place
+    → ((other : List ℕ) → IsDuplicateAt w other → IsBefore place other) → IsFirstFaulty raw place
 first_of_ranges raw w place held first later before lt (inl d) =
     not_before_itself place (before_through place before place (later before (duplicate_held before raw w held d)) lt)
 first_of_ranges raw w place held first later before lt (inr r) = first.1 before lt r
 
 pub range_fault : (bytes : List ℕ) (raw : Raw) (w : Json) (place : List ℕ) → reading bytes start 0 ≡ gives raw → IsHeldAs raw w → IsFirstAt (IsRangeAt raw) place
     → ((other : List ℕ) → IsDuplicateAt w other → IsBefore place other)
-    → (r : Raw) × IsText bytes r × IsRangeAt r place × (IsDuplicateAt r place → ⊥) × IsFirst r place
+    → (r : Raw) × IsText bytes r × IsRangeAt r place × (IsDuplicateAt r place → ⊥) × IsFirstFaulty r place
 range_fault bytes raw w place e held first later =
     (raw, (text_of bytes raw e raw).1 refl, first.0, (λ d. not_before_itself place (later place (duplicate_held place raw w held d))), first_of_ranges raw w place held first later)
 

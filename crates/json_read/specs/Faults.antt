@@ -11,18 +11,18 @@ use Rattle.json_tree.specs.View.{view}
 use Rattle.json_tree.specs.Grammar.{IsText, Spells}
 
 -- Some text begins with the bytes.
-abbrev pub IsViable : List ℕ → Type 0
-IsViable bytes = (more : List ℕ) × (raw : Raw) × IsText (bytes ++ more) raw
+abbrev pub BeginsText : List ℕ → Type 0
+BeginsText bytes = (more : List ℕ) × (raw : Raw) × IsText (bytes ++ more) raw
 
 -- The least `at` such that no text begins with the first `at + 1` bytes.
-pub record IsFirstWrong (bytes : List ℕ) (at : ℕ) : Type 0 where
+pub record IsFirstWrongByte (bytes : List ℕ) (at : ℕ) : Type 0 where
   pub within : at < length bytes
-  pub dead : IsViable (take (at + 1) bytes) → ⊥
-  pub least : (n : ℕ) → n < at → IsViable (take (n + 1) bytes)
+  pub dead : BeginsText (take (at + 1) bytes) → ⊥
+  pub least : (n : ℕ) → n < at → BeginsText (take (n + 1) bytes)
 
 -- A text begins with the bytes, and they are none themselves.
-pub record IsCutShort (bytes : List ℕ) : Type 0 where
-  pub viable : IsViable bytes
+pub record IsCutShortText (bytes : List ℕ) : Type 0 where
+  pub viable : BeginsText bytes
   pub none : (raw : Raw) → IsText bytes raw → ⊥
 
 -- The member at this position has a key that an earlier one has.
@@ -42,20 +42,20 @@ IsRangeAt raw place = (literal : List ℕ) × (n : Number)
     × StandsAt raw place (number literal) × IsLiteralOf literal n × IsOutOfRange n
 
 -- No place before this one has a fault.
-abbrev pub IsFirst : Raw → List ℕ → Type 0
-IsFirst raw place = (before : List ℕ) → IsBefore before place → (IsDuplicateAt raw before ⊎ IsRangeAt raw before) → ⊥
+abbrev pub IsFirstFaulty : Raw → List ℕ → Type 0
+IsFirstFaulty raw place = (before : List ℕ) → IsBefore before place → (IsDuplicateAt raw before ⊎ IsRangeAt raw before) → ⊥
 
 -- What each fault says of the bytes. Where memory ran out nothing is said of them.
 abbrev pub IsFault : List ℕ → JsonFault → Type 0
-IsFault bytes (faults.Byte at) = IsFirstWrong bytes at
-IsFault bytes (faults.Ends at) = IsCutShort bytes × (at ≡ length bytes)
+IsFault bytes (faults.Byte at) = IsFirstWrongByte bytes at
+IsFault bytes (faults.Ends at) = IsCutShortText bytes × (at ≡ length bytes)
 IsFault bytes (faults.Duplicate place) = (raw : Raw)
-    × IsText bytes raw × IsDuplicateAt raw place.steps × IsFirst raw place.steps
+    × IsText bytes raw × IsDuplicateAt raw place.steps × IsFirstFaulty raw place.steps
 IsFault bytes (faults.Range place) = (raw : Raw)
-    × IsText bytes raw × IsRangeAt raw place.steps × (IsDuplicateAt raw place.steps → ⊥) × IsFirst raw place.steps
+    × IsText bytes raw × IsRangeAt raw place.steps × (IsDuplicateAt raw place.steps → ⊥) × IsFirstFaulty raw place.steps
 IsFault bytes faults.OutOfMemory = Unit {0}
 
 -- The answer's tree is the one value that the bytes spell, and nothing else; or the answer's fault is theirs.
-abbrev pub Reads : List ℕ → Result Tree JsonFault → Type 0
-Reads bytes (Ok tree) = (value : Json) → Spells bytes value ↔ (view tree ≡ value)
-Reads bytes (Err fault) = IsFault bytes fault
+abbrev pub ReadsJson : List ℕ → Result Tree JsonFault → Type 0
+ReadsJson bytes (Ok tree) = (value : Json) → Spells bytes value ↔ (view tree ≡ value)
+ReadsJson bytes (Err fault) = IsFault bytes fault

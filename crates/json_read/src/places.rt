@@ -2,14 +2,14 @@
 
 ghost use Rattle.std.specs.Prelude.{◌≡◌, reverse};
 ghost use Rattle.std.specs.Option.{option_map};
-ghost use Rattle.json_read.specs.Machinery.Ways.{is_before};
+ghost use Rattle.json_read.specs.Machinery.Ways.{place_is_before};
 
 use dt_base::List;
 use json_tree::Place;
 
 /// Whether a place comes before another in preorder: a value comes before its parts, and these in their order.
 pub fn is_before(place: &[u64], other: &[u64]) -> bool
-    ensures { result ≡ is_before place.now other.now }
+    ensures { result ≡ place_is_before place.now other.now }
 {
     'steps: for at in 0..other.len() {
         if at >= place.len() {

@@ -6,7 +6,7 @@ ghost use Rattle.json_tree.specs.Values.{Raw};
 ghost use Rattle.json_tree.specs.View.{view};
 ghost use Rattle.json_tree.specs.Grammar.{IsText};
 ghost use Rattle.json_tree.specs.Places.{StandsAt};
-ghost use Rattle.json_read.specs.Faults.{Reads};
+ghost use Rattle.json_read.specs.Faults.{ReadsJson};
 ghost use Rattle.json_tree.specs.Pointers.{IsPointerOf};
 ghost use Rattle.json_read.specs.Machinery.Automaton.{Pairs, Frame, in_array, in_object, value, first_element, first_key, next_key, after, start, gives, reading};
 ghost use Rattle.json_read.specs.Machinery.Leads.{Leads, IsHeldAs, IsRead};
@@ -299,7 +299,7 @@ fn whole(alloc: Global, bytes: &[u8]) -> Result<Found, JsonFault>
 /// wins at one place. `OutOfMemory` says nothing of the bytes.
 pub fn read(alloc: Global, bytes: &[u8]) -> Result<Tree, JsonFault>
     // The bytes spell what is read and nothing else, or have this fault.
-    ensures { Reads bytes.now result }
+    ensures { ReadsJson bytes.now result }
 {
     // A literal stands for one number, so the bytes spell one value.
     one_number();

@@ -7,7 +7,7 @@ ghost use Rattle.json_tree.specs.Values.{Raw, number};
 ghost use Rattle.json_tree.specs.Grammar.{IsSpace, IsNumber};
 ghost use Rattle.json_read.specs.Machinery.Automaton.{Frame, Part, State, after, value, behind_minus, at_mark, word_next, step, reading};
 ghost use Rattle.json_read.specs.Machinery.Leads.{Leads};
-ghost use Rattle.json_read.specs.Machinery.Spans.{Faults, Fails, Reaches, Continues, Ends, CountsDown, point_or_mark, none_follows, IsMinusEnd, IsIntegerEnd, IsSignEnd};
+ghost use Rattle.json_read.specs.Machinery.Spans.{Faults, Fails, NumberReaches, Continues, MayEndOrGoOn, CountsDown, point_or_mark, none_follows, IsMinusEnd, IsIntegerEnd, IsSignEnd};
 
 use crate::fault::JsonFault;
 
@@ -93,7 +93,7 @@ fn digits_end(bytes: &[u8], at: usize, most: usize) -> (usize, usize)
     ensures within { result.0 ≤ length bytes.now }
     ensures fewer { result.1 ≤ most }
     ensures reaches { (part : ℕ → Part) → CountsDown part
-        → Reaches bytes.now (part most) at (part result.1) result.0 }
+        → NumberReaches bytes.now (part most) at (part result.1) result.0 }
     ensures all { 0 < result.1 → 48 ≤ slice_index bytes.now result.0 → slice_index bytes.now result.0 ≤ 57 → ⊥ }
 {
     let mut end = at;
@@ -125,8 +125,8 @@ fn integer_end(bytes: &[u8], at: usize) -> Result<(usize, usize), JsonFault>
 fn fraction_end(bytes: &[u8], at: usize, left: usize) -> Result<usize, JsonFault>
     requires { at ≤ length bytes.now }
     ensures within { IfOk result (λ end. end ≤ length bytes.now) }
-    ensures read { (from : Part) → Ends from (point_or_mark left) (slice_index bytes.now at)
-        → Continues bytes.now from at (λ to b. Ends to at_mark b) result }
+    ensures read { (from : Part) → MayEndOrGoOn from (point_or_mark left) (slice_index bytes.now at)
+        → Continues bytes.now from at (λ to b. MayEndOrGoOn to at_mark b) result }
 {
     if left == 0 || byte_at(bytes, at) != b'.' {
         return Ok(at);
@@ -155,8 +155,8 @@ fn sign_end(bytes: &[u8], at: usize) -> usize
 fn exponent_end(bytes: &[u8], at: usize) -> Result<usize, JsonFault>
     requires { at ≤ length bytes.now }
     ensures within { IfOk result (λ end. end ≤ length bytes.now) }
-    ensures read { (from : Part) → Ends from at_mark (slice_index bytes.now at)
-        → Continues bytes.now from at (λ to b. Ends to none_follows b) result }
+    ensures read { (from : Part) → MayEndOrGoOn from at_mark (slice_index bytes.now at)
+        → Continues bytes.now from at (λ to b. MayEndOrGoOn to none_follows b) result }
 {
     let mark = byte_at(bytes, at);
     if mark != b'e' && mark != b'E' {

@@ -4,10 +4,10 @@ ghost use Rattle.std.specs.Prelude.{◌≡◌, ◌+◌, ◌*◌, ◌<◌, ◌≤
 ghost use Rattle.std.specs.List.{slice_range, AllByRecursion};
 ghost use Rattle.std.specs.Str.{IsUtf8};
 ghost use Rattle.std.specs.Char.{IsScalar};
-ghost use Rattle.json_tree.specs.Grammar.{IsPlainByte, IsHexDigit, IsShort, tail, paired};
+ghost use Rattle.json_tree.specs.Grammar.{IsPlainByte, IsHexDigit, IsShortEscape, tail, paired};
 ghost use Rattle.json_read.specs.Machinery.Automaton.{Frame, Use, Sequence, one_tail, two_tails, three_tails, Point, escaped, first_digit, low_escape, Move, on_with, done, in_text, in_character, in_sequence, used, reading, behind_d, low_first};
 ghost use Rattle.json_read.specs.Machinery.Leads.{Leads};
-ghost use Rattle.json_read.specs.Machinery.Spans.{Faults, Copies, CopiesTo, StopsRun, IsWithin, EndsSequence, Narrows, IsHexAt, AfterMove, ReadsUnit};
+ghost use Rattle.json_read.specs.Machinery.Spans.{Faults, Copies, CopiesTo, StopsRun, IsByteWithin, EndsSequence, Narrows, IsHexAt, AfterMove, ReadsUnit};
 
 use crate::fault::JsonFault;
 use crate::scan::{byte_at, fault_at};
@@ -69,7 +69,7 @@ fn last_plain_end(bytes: &[u8], at: usize) -> usize
 fn range_end(bytes: &[u8], at: usize, low: u8, high: u8) -> Result<usize, JsonFault>
     requires at { at ≤ length bytes.now }
     requires low { 0 < low }
-    ensures { IsWithin bytes.now at low high result }
+    ensures { IsByteWithin bytes.now at low high result }
 {
     let byte = byte_at(bytes, at);
     if byte < low || high < byte {
@@ -273,7 +273,7 @@ fn behind_d_of(bytes: &[u8], at: usize) -> Result<(u32, usize), JsonFault>
 
 /// The code that a short escape stands for.
 fn short_of(byte: u8) -> Option<u32>
-    ensures { MatchOption result ((code : ℕ) → IsShort byte code → ⊥) (λ code. IsShort byte code) }
+    ensures { MatchOption result ((code : ℕ) → IsShortEscape byte code → ⊥) (λ code. IsShortEscape byte code) }
 {
     match byte {
         b'"' => Some(34),

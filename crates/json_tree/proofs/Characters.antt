@@ -8,7 +8,8 @@ use Rattle.std.specs.Char.{encode_utf8, IsScalar}
 use Rattle.std.specs.Str.{all_scalars}
 use Rattle.std.specs.Prelude.{encode_utf8_all}
 use Rattle.std.specs.List.{AllByRecursion}
-use Rattle.json_tree.specs.Grammar.{AreWithin, tail, IsMultibyte, IsShort, IsHexDigit, AreHexDigits, IsUnit, IsCharacter, IsCharacters}
+use Rattle.std.proofs.lemmas.Bool.{and_parts}
+use Rattle.json_tree.specs.Grammar.{AreInRanges, tail, IsMultibyte, IsShortEscape, IsHexDigit, AreHexDigits, IsUnit, IsCharacter, IsCharacters}
 use Rattle.json_tree.specs.Printing.{hex_digit, code_escape, escaped_byte, escaped}
 use Rattle.json_tree.specs.Machinery.Pieces.{IsPlain}
 use Rattle.json_tree.proofs.Choices.{choose, is_byte, no_byte}
@@ -35,7 +36,7 @@ coded b to h =
     (48, 48, x ∷ y ∷ to, refl, inl (omega arith, omega arith, refl), inl (omega arith, omega arith, refl), (x, b / 16, y ∷ to, refl, hex (b / 16) (omega (arith, h)), last)) in
     inr (inr (117 ∷ 48 ∷ 48 ∷ x ∷ y ∷ to, refl, inr (48 ∷ 48 ∷ x ∷ y ∷ to, refl, inl (b, (0, 0, unit, λ e. absurd (omega (arith, e))), sym (encode_ascii b (omega (arith, h)))))))
 
-short : (b mark : ℕ) (to : List ℕ) → IsShort mark b → IsCharacter (92 ∷ mark ∷ to) (b ∷ []) to
+short : (b mark : ℕ) (to : List ℕ) → IsShortEscape mark b → IsCharacter (92 ∷ mark ∷ to) (b ∷ []) to
 short b mark to h = inr (inr (mark ∷ to, refl, inl (mark, b, h, refl, refl)))
 
 pub ascii_printed : (b : ℕ) (to : List ℕ) → b < 128 → IsCharacter (escaped_byte b ++ to) (b ∷ []) to
@@ -62,14 +63,14 @@ all_plain : (bytes : List ℕ) → AllByRecursion IsHigh bytes → AllByRecursio
 all_plain [] h = tt
 all_plain (b ∷ bytes) h = (high_plain b h.0, all_plain bytes h.1)
 
-within_2 : (p q : ℕ × ℕ) (a b : ℕ) → p.0 ≤ a → a ≤ p.1 → q.0 ≤ b → b ≤ q.1 → AreWithin (p ∷ q ∷ []) (a ∷ b ∷ [])
+within_2 : (p q : ℕ × ℕ) (a b : ℕ) → p.0 ≤ a → a ≤ p.1 → q.0 ≤ b → b ≤ q.1 → AreInRanges (p ∷ q ∷ []) (a ∷ b ∷ [])
 within_2 p q a b h1 h2 h3 h4 = (a, b ∷ [], refl, h1, h2, (b, [], refl, h3, h4, refl))
 
-within_3 : (p q r : ℕ × ℕ) (a b c : ℕ) → p.0 ≤ a → a ≤ p.1 → q.0 ≤ b → b ≤ q.1 → r.0 ≤ c → c ≤ r.1 → AreWithin (p ∷ q ∷ r ∷ []) (a ∷ b ∷ c ∷ [])
+within_3 : (p q r : ℕ × ℕ) (a b c : ℕ) → p.0 ≤ a → a ≤ p.1 → q.0 ≤ b → b ≤ q.1 → r.0 ≤ c → c ≤ r.1 → AreInRanges (p ∷ q ∷ r ∷ []) (a ∷ b ∷ c ∷ [])
 within_3 p q r a b c h1 h2 h3 h4 h5 h6 = (a, b ∷ c ∷ [], refl, h1, h2, within_2 q r b c h3 h4 h5 h6)
 
 within_4 : (p q r s : ℕ × ℕ) (a b c d : ℕ) → p.0 ≤ a → a ≤ p.1 → q.0 ≤ b → b ≤ q.1 → r.0 ≤ c → c ≤ r.1 → s.0 ≤ d → d ≤ s.1
-    → AreWithin (p ∷ q ∷ r ∷ s ∷ []) (a ∷ b ∷ c ∷ d ∷ [])
+    → AreInRanges (p ∷ q ∷ r ∷ s ∷ []) (a ∷ b ∷ c ∷ d ∷ [])
 within_4 p q r s a b c d h1 h2 h3 h4 h5 h6 h7 h8 = (a, b ∷ c ∷ d ∷ [], refl, h1, h2, within_3 q r s b c d h3 h4 h5 h6 h7 h8)
 
 abbrev IsHighMultibyte : List ℕ → Type 0
@@ -127,14 +128,10 @@ char_printed c h to = choose {A = ℕ} (λ _. IsCharacter (escaped (encode_utf8 
     let same = escaped_plain (encode_utf8 c) (all_plain (encode_utf8 c) m.1) in
     inr (inl (m.0, ap (λ l. l ++ to) same)))
 
-and_true : (a b : Bool) → (a && b) ≡ true → (a ≡ true) × (b ≡ true)
-and_true true b h = (refl, h)
-and_true false b h = absurd cc
-
 all_printed : (cs : List ℕ) → all_scalars cs ≡ true → (to : List ℕ) → (n : ℕ) × IsCharacters n (escaped (encode_utf8_all cs) ++ 34 ∷ to) (encode_utf8_all cs) to
 all_printed [] h to = (0, (refl, refl))
 all_printed (c ∷ cs) h to =
-    let s = and_true _ _ h in
+    let s = and_parts _ _ h in
     let rest = all_printed cs s.1 to in
     let mid = escaped (encode_utf8_all cs) ++ 34 ∷ to in
     let split : escaped (encode_utf8 c ++ encode_utf8_all cs) ++ 34 ∷ to ≡ escaped (encode_utf8 c) ++ mid =

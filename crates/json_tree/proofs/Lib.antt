@@ -14,3 +14,4 @@ pub mod Evaluated
 pub mod Stepped
 pub mod OnePointer
 pub mod Preorder
+pub mod DistinctKeys

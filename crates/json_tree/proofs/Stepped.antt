@@ -2,10 +2,11 @@
 use Rattle.std.proofs.Common.{◌≡◌, ◌≢◌, ℕ, ◌<◌, ◌≤◌, ◌^◌, ◌⊎◌, inl, inr, List, [], ◌∷◌, ◌++◌, length, get_or, nat_eq, decimal, Option, Some, None, refl, sym, ap, ◌∙◌, subst, arith}
 use Rattle.std.specs.Prelude.{MatchOption}
 use Rattle.std.proofs.lemmas.Fmt.{decimal_injective}
+use Rattle.std.proofs.lemmas.Option.{same_Some}
 use Rattle.json_tree.specs.Values.{Json, Value, array, object, Members, no_members, member}
 use Rattle.json_tree.specs.View.{view, elements_view, members_view}
 use Rattle.json_tree.specs.Places.{element_at}
-use Rattle.json_tree.specs.Pointers.{token_byte, token_text, IsFirstOf, IsStep}
+use Rattle.json_tree.specs.Pointers.{token_byte, token_text, IsFirstMember, IsStep}
 use Rattle.json_tree.specs.declared.tree.Tree.{Tree}
 use Rattle.json_tree.specs.declared.tree.Tree as variants
 use Rattle.json_tree.specs.declared.tree.Member.{Member}
@@ -60,15 +61,12 @@ same_key (x ∷ xs) (y ∷ ys) e =
     let tail = same_key xs ys r.1 in let head = r.0 in cc
 
 -- a key leads to one part
-first_same : {N : Type 0} (ms : Members N) (key : List ℕ) (p q : Value N) → IsFirstOf key ms p → IsFirstOf key ms q → p ≡ q
+first_same : {N : Type 0} (ms : Members N) (key : List ℕ) (p q : Value N) → IsFirstMember key ms p → IsFirstMember key ms q → p ≡ q
 first_same no_members key p q h k = absurd h
 first_same (member name v ms) key p q (inl h) (inl k) = h.1 ∙ sym k.1
 first_same (member name v ms) key p q (inl h) (inr k) = absurd (k.0 h.0)
 first_same (member name v ms) key p q (inr h) (inl k) = absurd (h.0 k.0)
 first_same (member name v ms) key p q (inr h) (inr k) = first_same ms key p q h.1 k.1
-
-some_same : {A : Type 0} (x y : A) → Some x ≡ Some y → x ≡ y
-some_same x y e = cc
 
 pub one_item : (tree : Tree) (items trees : List Tree) → tree ≡ variants.List items → trees ≡ items → length trees < 2 ^ 64
     → (key : List ℕ) (one other : Json) → IsStep (view tree) key one → IsStep (view tree) key other → one ≡ other
@@ -79,7 +77,7 @@ one_item tree items trees is same few key one other h k =
     let c = item_within trees a.0 one a.2 in
     let d = item_within trees b.0 other b.2 in
     let i : a.0 ≡ b.0 = decimal_injective a.0 b.0 (omega (arith, c, few)) (omega (arith, d, few)) (sym a.1 ∙ b.1) in
-    some_same one other (sym a.2 ∙ ap (λ n. element_at (elements_view trees) n) i ∙ b.2)
+    same_Some one other (sym a.2 ∙ ap (λ n. element_at (elements_view trees) n) i ∙ b.2)
 
 pub one_member : (tree : Tree) (members list : List Member) → tree ≡ variants.Members members → list ≡ members
     → (key : List ℕ) (one other : Json) → IsStep (view tree) key one → IsStep (view tree) key other → one ≡ other
@@ -125,13 +123,13 @@ members_are : (tree : Tree) (members list : List Member) → tree ≡ variants.M
 members_are tree members list is same = ap view is ∙ view-Members members ∙ ap (λ ms. object (members_view ms)) (sym same)
 
 pub no_member_step : (tree : Tree) (members list : List Member) (token : List ℕ) → tree ≡ variants.Members members → list ≡ members
-    → ((key : List ℕ) (part : Json) → token ≡ token_text key → IsFirstOf key (members_view list) part → ⊥)
+    → ((key : List ℕ) (part : Json) → token ≡ token_text key → IsFirstMember key (members_view list) part → ⊥)
     → (key : List ℕ) (part : Json) → token ≡ token_text key → IsStep (view tree) key part → ⊥
 no_member_step tree members list token is same none key part spelled h =
     none key part spelled (subst (λ w. IsStep w key part) (members_are tree members list is same) h)
 
 pub member_step : (tree : Tree) (members list : List Member) (token : List ℕ) → tree ≡ variants.Members members → list ≡ members
-    → (part : Json) → ((key : List ℕ) × (token ≡ token_text key) × IsFirstOf key (members_view list) part)
+    → (part : Json) → ((key : List ℕ) × (token ≡ token_text key) × IsFirstMember key (members_view list) part)
     → (key : List ℕ) × (token ≡ token_text key) × IsStep (view tree) key part
 member_step tree members list token is same part h =
     (h.0, h.1, subst (λ w. IsStep w h.0 part) (sym (members_are tree members list is same)) h.2)

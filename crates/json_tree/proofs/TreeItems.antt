@@ -5,7 +5,7 @@ use Rattle.std.specs.Prelude.{OnOk}
 use Rattle.json_tree.specs.Values.{Json, array, object}
 use Rattle.json_tree.specs.View.{view, elements_view, members_view}
 use Rattle.json_tree.specs.Places.{IsPart, StandsAt}
-use Rattle.json_tree.specs.Pointers.{token_text, pointer_text, HasToken, AreTokens}
+use Rattle.json_tree.specs.Pointers.{token_text, pointer_text, HasToken, AreReferenceTokens}
 use Rattle.json_tree.specs.declared.tree.Tree.{Tree}
 use Rattle.json_tree.specs.declared.tree.Tree as variants
 use Rattle.json_tree.specs.declared.tree.Member.{Member}
@@ -47,11 +47,11 @@ stands_below v place i rest token part split has h =
 
 -- the tokens with one more in front
 pub tokens_before : (v : Json) (place : List ℕ) (i : ℕ) (rest token : List ℕ) (part : Json) (old mid new : List ℕ) → place ≡ i ∷ rest → HasToken v i token part
-    → mid ≡ old ++ 47 ∷ token_text token → ((tokens : List (List ℕ)) × AreTokens part rest tokens × (new ≡ mid ++ pointer_text tokens))
-    → (tokens : List (List ℕ)) × AreTokens v place tokens × (new ≡ old ++ pointer_text tokens)
+    → mid ≡ old ++ 47 ∷ token_text token → ((tokens : List (List ℕ)) × AreReferenceTokens part rest tokens × (new ≡ mid ++ pointer_text tokens))
+    → (tokens : List (List ℕ)) × AreReferenceTokens v place tokens × (new ≡ old ++ pointer_text tokens)
 tokens_before v place i rest token part old mid new split has first more = (
   token ∷ more.0,
-  subst (λ p. AreTokens v p (token ∷ more.0)) (sym split) (token, part, more.0, has, more.1, refl),
+  subst (λ p. AreReferenceTokens v p (token ∷ more.0)) (sym split) (token, part, more.0, has, more.1, refl),
   more.2 ∙ ap (λ m. m ++ pointer_text more.0) first ∙ append_assoc old (47 ∷ token_text token) (pointer_text more.0),
 )
 

@@ -18,9 +18,9 @@ abbrev pub IsPlainByte : ℕ → Type 0
 IsPlainByte b = (32 ≤ b) × (b ≤ 127) × (b ≡ 34 → ⊥) × (b ≡ 92 → ⊥)
 
 -- The bytes lie in these ranges, each in one.
-abbrev pub AreWithin : List (ℕ × ℕ) → List ℕ → Type 0
-AreWithin [] bytes = bytes ≡ []
-AreWithin (r ∷ ranges) bytes = (b : ℕ) × (rest : List ℕ) × (bytes ≡ b ∷ rest) × (r.0 ≤ b) × (b ≤ r.1) × AreWithin ranges rest
+abbrev pub AreInRanges : List (ℕ × ℕ) → List ℕ → Type 0
+AreInRanges [] bytes = bytes ≡ []
+AreInRanges (r ∷ ranges) bytes = (b : ℕ) × (rest : List ℕ) × (bytes ≡ b ∷ rest) × (r.0 ≤ b) × (b ≤ r.1) × AreInRanges ranges rest
 
 abbrev pub tail : ℕ × ℕ
 tail = (0x80, 0xBF)
@@ -28,19 +28,19 @@ tail = (0x80, 0xBF)
 -- A character of two to four bytes in UTF-8 (RFC 3629, section 4): UTF8-2, UTF8-3 and UTF8-4.
 abbrev pub IsMultibyte : List ℕ → Type 0
 IsMultibyte bytes =
-    AreWithin ((0xC2, 0xDF) ∷ tail ∷ []) bytes
-    ⊎ AreWithin ((0xE0, 0xE0) ∷ (0xA0, 0xBF) ∷ tail ∷ []) bytes
-    ⊎ AreWithin ((0xE1, 0xEC) ∷ tail ∷ tail ∷ []) bytes
-    ⊎ AreWithin ((0xED, 0xED) ∷ (0x80, 0x9F) ∷ tail ∷ []) bytes
-    ⊎ AreWithin ((0xEE, 0xEF) ∷ tail ∷ tail ∷ []) bytes
-    ⊎ AreWithin ((0xF0, 0xF0) ∷ (0x90, 0xBF) ∷ tail ∷ tail ∷ []) bytes
-    ⊎ AreWithin ((0xF1, 0xF3) ∷ tail ∷ tail ∷ tail ∷ []) bytes
-    ⊎ AreWithin ((0xF4, 0xF4) ∷ (0x80, 0x8F) ∷ tail ∷ tail ∷ []) bytes
+    AreInRanges ((0xC2, 0xDF) ∷ tail ∷ []) bytes
+    ⊎ AreInRanges ((0xE0, 0xE0) ∷ (0xA0, 0xBF) ∷ tail ∷ []) bytes
+    ⊎ AreInRanges ((0xE1, 0xEC) ∷ tail ∷ tail ∷ []) bytes
+    ⊎ AreInRanges ((0xED, 0xED) ∷ (0x80, 0x9F) ∷ tail ∷ []) bytes
+    ⊎ AreInRanges ((0xEE, 0xEF) ∷ tail ∷ tail ∷ []) bytes
+    ⊎ AreInRanges ((0xF0, 0xF0) ∷ (0x90, 0xBF) ∷ tail ∷ tail ∷ []) bytes
+    ⊎ AreInRanges ((0xF1, 0xF3) ∷ tail ∷ tail ∷ tail ∷ []) bytes
+    ⊎ AreInRanges ((0xF4, 0xF4) ∷ (0x80, 0x8F) ∷ tail ∷ tail ∷ []) bytes
 
 -- A character behind a backslash and the code that it stands for (section 7): `"`, `\`, `/`, and `b`, `f`, `n`,
 -- `r` and `t`.
-abbrev pub IsShort : ℕ → ℕ → Type 0
-IsShort mark code =
+abbrev pub IsShortEscape : ℕ → ℕ → Type 0
+IsShortEscape mark code =
     ((mark ≡ 34) × (code ≡ 34))
     ⊎ ((mark ≡ 92) × (code ≡ 92))
     ⊎ ((mark ≡ 47) × (code ≡ 47))
@@ -95,7 +95,7 @@ IsUnicode from bytes to =
 -- What stands behind a backslash, and the bytes that it stands for.
 abbrev pub IsEscape : List ℕ → List ℕ → List ℕ → Type 0
 IsEscape from bytes to =
-    ((mark code : ℕ) × IsShort mark code × (from ≡ mark ∷ to) × (bytes ≡ code ∷ []))
+    ((mark code : ℕ) × IsShortEscape mark code × (from ≡ mark ∷ to) × (bytes ≡ code ∷ []))
     ⊎ ((mid : List ℕ) × (from ≡ 117 ∷ mid) × IsUnicode mid bytes to)
 
 -- A character of a text (section 7), and the bytes that it stands for.
@@ -120,16 +120,16 @@ abbrev pub IsNumber : List ℕ → Type 0
 IsNumber bytes = (l : Literal) × IsLiteral l × (bytes ≡ spelling l)
 
 -- The literal names (section 3).
-abbrev pub literal : Bool → List ℕ
-literal true = codes "true"
-literal false = codes "false"
+abbrev pub literal_name : Bool → List ℕ
+literal_name true = codes "true"
+literal_name false = codes "false"
 
 -- Values (section 3), arrays (section 5) and objects (section 4). Arrays and objects nest at most `depth` deep,
 -- where the outermost counts as 1.
 abbrev mutual
   pub IsValue : Raw → ℕ → List ℕ → List ℕ → Type 0
   IsValue null depth from to = from ≡ codes "null" ++ to
-  IsValue (truth b) depth from to = from ≡ literal b ++ to
+  IsValue (truth b) depth from to = from ≡ literal_name b ++ to
   IsValue (number bytes) depth from to = IsNumber bytes × (from ≡ bytes ++ to)
   IsValue (text content) depth from to = IsString from content to
   IsValue (array vs) depth from to = (inner : ℕ) × (mid : List ℕ)

@@ -24,6 +24,10 @@ abbrev pub StandsAt : {N : Type 0} → Value N → List ℕ → Value N → Type
 StandsAt whole [] v = whole ≡ v
 StandsAt {N = N} whole (i ∷ place) v = (part : Value N) × IsPart whole i part × StandsAt part place v
 
+-- Something stands at the place.
+abbrev pub IsSomewhere : {N : Type 0} → Value N → List ℕ → Type 0
+IsSomewhere {N = N} v place = (part : Value N) × StandsAt v place part
+
 -- Preorder: a value comes before its parts, and these in their order.
 abbrev pub IsBefore : List ℕ → List ℕ → Type 0
 IsBefore place [] = ⊥

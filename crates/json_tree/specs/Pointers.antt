@@ -18,15 +18,15 @@ pointer_text [] = []
 pointer_text (token ∷ tokens) = 47 ∷ (token_text token ++ pointer_text tokens)
 
 -- The first member with the key has this value.
-abbrev pub IsFirstOf : {N : Type 0} → List ℕ → Members N → Value N → Type 0
-IsFirstOf key no_members w = ⊥
-IsFirstOf key (member k v ms) w = ((key ≡ k) × (w ≡ v)) ⊎ ((key ≡ k → ⊥) × IsFirstOf key ms w)
+abbrev pub IsFirstMember : {N : Type 0} → List ℕ → Members N → Value N → Type 0
+IsFirstMember key no_members w = ⊥
+IsFirstMember key (member k v ms) w = ((key ≡ k) × (w ≡ v)) ⊎ ((key ≡ k → ⊥) × IsFirstMember key ms w)
 
 -- One token leads from a value to a part (section 4): to the element of an array at that index, in digits without
 -- leading zeros, or to the member of an object with that key, of equal keys the first.
 abbrev pub IsStep : {N : Type 0} → Value N → List ℕ → Value N → Type 0
 IsStep (array vs) token part = (i : ℕ) × (token ≡ decimal i) × (element_at vs i ≡ Some part)
-IsStep (object ms) token part = IsFirstOf token ms part
+IsStep (object ms) token part = IsFirstMember token ms part
 IsStep other token part = ⊥
 
 abbrev pub LeadsTo : {N : Type 0} → Value N → List (List ℕ) → Value N → Type 0
@@ -44,11 +44,11 @@ HasToken (object ms) i token part = member_at ms i ≡ Some (token, part)
 HasToken other i token part = ⊥
 
 -- The tokens on the way to a place.
-abbrev pub AreTokens : {N : Type 0} → Value N → List ℕ → List (List ℕ) → Type 0
-AreTokens v [] tokens = tokens ≡ []
-AreTokens {N = N} v (i ∷ place) tokens = (token : List ℕ) × (part : Value N) × (rest : List (List ℕ))
-    × HasToken v i token part × AreTokens part place rest × (tokens ≡ token ∷ rest)
+abbrev pub AreReferenceTokens : {N : Type 0} → Value N → List ℕ → List (List ℕ) → Type 0
+AreReferenceTokens v [] tokens = tokens ≡ []
+AreReferenceTokens {N = N} v (i ∷ place) tokens = (token : List ℕ) × (part : Value N) × (rest : List (List ℕ))
+    × HasToken v i token part × AreReferenceTokens part place rest × (tokens ≡ token ∷ rest)
 
 -- The text is the pointer of a place.
 abbrev pub IsPointerOf : {N : Type 0} → Value N → List ℕ → List ℕ → Type 0
-IsPointerOf v place bytes = (tokens : List (List ℕ)) × AreTokens v place tokens × (bytes ≡ pointer_text tokens)
+IsPointerOf v place bytes = (tokens : List (List ℕ)) × AreReferenceTokens v place tokens × (bytes ≡ pointer_text tokens)

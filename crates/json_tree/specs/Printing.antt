@@ -3,7 +3,7 @@ use Rattle.std.specs.Prelude.{◌≡◌, ℕ, suc, ◌+◌, ◌/◌, ◌%◌, �
 use Rattle.json_decimal.specs.Printing.{text_of}
 use Rattle.json_tree.specs.Values.{Json, null, truth, number, text, array, object, Value, Elements, no_elements, element, Members, no_members, member}
 use Rattle.json_decimal.specs.Number.{Number}
-use Rattle.json_tree.specs.Grammar.{literal}
+use Rattle.json_tree.specs.Grammar.{literal_name}
 
 -- A hexadecimal digit, in lower case.
 abbrev pub hex_digit : ℕ → ℕ
@@ -39,7 +39,7 @@ quoted bytes = 34 ∷ (escaped bytes ++ 34 ∷ [])
 abbrev mutual
   pub printed : Json → List ℕ
   printed null = codes "null"
-  printed (truth b) = literal b
+  printed (truth b) = literal_name b
   printed (number n) = text_of n
   printed (text bytes) = quoted bytes
   printed (array vs) = 91 ∷ printed_elements vs

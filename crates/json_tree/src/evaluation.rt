@@ -5,7 +5,7 @@ ghost use Rattle.std.specs.List.{slice_range, AllByRecursion};
 ghost use Rattle.json_tree.specs.Values.{Json};
 ghost use Rattle.json_tree.specs.View.{view, elements_view, members_view};
 ghost use Rattle.json_tree.specs.Places.{element_at};
-ghost use Rattle.json_tree.specs.Pointers.{token_byte, token_text, IsFirstOf, IsStep, PointsTo};
+ghost use Rattle.json_tree.specs.Pointers.{token_byte, token_text, IsFirstMember, IsStep, PointsTo};
 ghost use Rattle.json_tree.specs.Machinery.Tokens.{IsNoSlash, HasIndexForm};
 
 use crate::pointers::is_bare;
@@ -124,8 +124,8 @@ fn is_token_of(token: &[u8], key: &[u8]) -> bool
 /// The value of the first member with the key that a token is of.
 fn member_of<'a>(members: &'a [Member], token: &str) -> Option<&'a Tree>
     ensures { MatchOption result
-        ((key : List ℕ) (part : Json) → token.now ≡ token_text key → IsFirstOf key (members_view members.now) part → ⊥)
-        (λ part. (key : List ℕ) × (token.now ≡ token_text key) × IsFirstOf key (members_view members.now) (view part.now)) }
+        ((key : List ℕ) (part : Json) → token.now ≡ token_text key → IsFirstMember key (members_view members.now) part → ⊥)
+        (λ part. (key : List ℕ) × (token.now ≡ token_text key) × IsFirstMember key (members_view members.now) (view part.now)) }
 {
     for member in members {
         if is_token_of(token.as_bytes(), member.key.as_bytes()) {

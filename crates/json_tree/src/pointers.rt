@@ -5,7 +5,7 @@ ghost use Rattle.std.specs.List.{slice_range, AllByRecursion};
 ghost use Rattle.json_tree.specs.Values.{Json, HasDistinctKeys};
 ghost use Rattle.json_tree.specs.View.{view};
 ghost use Rattle.json_tree.specs.Places.{IsPart, StandsAt};
-ghost use Rattle.json_tree.specs.Pointers.{token_byte, token_text, pointer_text, PointsTo, HasToken, AreTokens, IsPointerOf};
+ghost use Rattle.json_tree.specs.Pointers.{token_byte, token_text, pointer_text, PointsTo, HasToken, AreReferenceTokens, IsPointerOf};
 ghost use Rattle.json_tree.specs.Machinery.Tokens.{IsBare};
 
 use crate::places::Place;
@@ -100,7 +100,7 @@ fn push_step<'a>(out: &mut String, tree: &'a Tree, step: u64) -> Result<&'a Tree
 #[cycle(points)]
 fn push_steps(out: &mut String, tree: &Tree, steps: &[u64]) -> Result<(), AllocError>
     requires { (part : Json) × StandsAt (view tree.now) steps.now part }
-    ensures { OnOk result ((tokens : List (List ℕ)) × AreTokens (view tree.now) steps.now tokens
+    ensures { OnOk result ((tokens : List (List ℕ)) × AreReferenceTokens (view tree.now) steps.now tokens
         × (string_bytes out.new ≡ string_bytes out.old ++ pointer_text tokens)) }
 {
     match steps.split_first() {

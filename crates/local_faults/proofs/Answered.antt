@@ -17,7 +17,7 @@ use Rattle.json_tree.specs.Places.{IsPart}
 use Rattle.local_rules.specs.Machinery.Marks.{part_marked}
 use Rattle.local_rules.specs.declared.rule.LocalRule.{LocalRule}
 use Rattle.local_rules.specs.declared.marks.MarkedRole.{MarkedRole}
-use Rattle.local_faults.specs.Machinery.Walks.{IsBrokenFrom, IsFirstBroken, IsNoted, Walks, WalksPart, WalksClear, IsWalkedTo, IsClearHere, Judges, found_by}
+use Rattle.local_faults.specs.Machinery.Walks.{IsBrokenFrom, IsFirstBroken, IsNoted, Walks, WalksPart, WalksClear, IsWalkedTo, IsClearHere, JudgesMarked, found_by}
 use Rattle.local_faults.proofs.IdSets.{if_ok}
 use Rattle.local_faults.proofs.Walked.{IsNoText, here_after, walks_after, walked_leaf, judged, part_found, part_walked}
 
@@ -25,16 +25,16 @@ abbrev Ids : Type 0
 Ids = BTreeSet (Bor (List ℕ))
 
 -- the value itself breaks no rule, and is a list or an object
-none_judged : (ms : Members Number) (before now : Ids) (r : MarkedRole) (v w : Json) (found : Option LocalRule) → Judges ms before now r v found → found ≡ None → v ≡ w
-    → Judges ms before now r w None
+none_judged : (ms : Members Number) (before now : Ids) (r : MarkedRole) (v w : Json) (found : Option LocalRule) → JudgesMarked ms before now r v found → found ≡ None → v ≡ w
+    → JudgesMarked ms before now r w None
 none_judged ms before now r v w found j none e =
-    subst (λ (x : Json). Judges ms before now r x None) e (subst (λ (o : Option LocalRule). Judges ms before now r v o) none j)
+    subst (λ (x : Json). JudgesMarked ms before now r x None) e (subst (λ (o : Option LocalRule). JudgesMarked ms before now r v o) none j)
 
-clear_after : (ms : Members Number) (before now : Ids) (r : MarkedRole) (v w : Json) (found : Option LocalRule) → Judges ms before now r v found → found ≡ None → v ≡ w
+clear_after : (ms : Members Number) (before now : Ids) (r : MarkedRole) (v w : Json) (found : Option LocalRule) → JudgesMarked ms before now r v found → found ≡ None → v ≡ w
     → IsNoText w → IsClearHere ms now r w
 clear_after ms before now r v w found j none e no_text = here_after ms before now r w (none_judged ms before now r v w found j none e) no_text
 
-pub ended_after : {E : Type 0} (ms : Members Number) (before now after : Ids) (r : MarkedRole) (v w : Json) (found : Option LocalRule) → Judges ms before now r v found → found ≡ None → v ≡ w
+pub ended_after : {E : Type 0} (ms : Members Number) (before now after : Ids) (r : MarkedRole) (v w : Json) (found : Option LocalRule) → JudgesMarked ms before now r v found → found ≡ None → v ≡ w
     → IsNoText w → (steps : Vec ℕ) (result : Result (Option LocalRule) E) → IfOk result (λ rule. WalksClear ms now after r w (found_by steps rule))
     → IfOk result (λ rule. Walks ms before after r v (found_by steps rule))
 ended_after ms before now after r v w found j none e no_text steps result ok =
@@ -42,16 +42,16 @@ ended_after ms before now after r v w found j none e no_text steps result ok =
     (λ rule walks. subst (λ (x : Json). Walks ms before after r x (found_by steps rule)) (sym e) (walks_after ms before now after r w (found_by steps rule) (none_judged ms before now r v w found j none e) no_text (walks (clear_after ms before now r v w found j none e no_text)))) ok
 
 -- it breaks none, and is a leaf
-pub leaf_after : (ms : Members Number) (before after : Ids) (r : MarkedRole) (v w : Json) (found : Option LocalRule) → Judges ms before after r v found → found ≡ None → v ≡ w
+pub leaf_after : (ms : Members Number) (before after : Ids) (r : MarkedRole) (v w : Json) (found : Option LocalRule) → JudgesMarked ms before after r v found → found ≡ None → v ≡ w
     → ((i : ℕ) (part : Json) → IsPart w i part → ⊥) → Walks ms before after r v None
 leaf_after ms before after r v w found j none e leaf =
     subst (λ (x : Json). Walks ms before after r x None) (sym e) (walked_leaf ms before after r w (none_judged ms before after r v w found j none e) leaf)
 
 -- it breaks one
-pub judged_so : (ms : Members Number) (before after end : Ids) (r : MarkedRole) (v : Json) (steps : Vec ℕ) (rule : LocalRule) (found : Option LocalRule) → Judges ms before after r v found
+pub judged_so : (ms : Members Number) (before after end : Ids) (r : MarkedRole) (v : Json) (steps : Vec ℕ) (rule : LocalRule) (found : Option LocalRule) → JudgesMarked ms before after r v found
     → found ≡ Some rule → steps.items ≡ [] → Walks ms before end r v (found_by steps (Some rule))
 judged_so ms before after end r v steps rule found j some empty =
-    judged ms before after end r v (record { steps = steps; rule = rule }) rule (subst (λ (o : Option LocalRule). Judges ms before after r v o) some j) empty refl
+    judged ms before after end r v (record { steps = steps; rule = rule }) rule (subst (λ (o : Option LocalRule). JudgesMarked ms before after r v o) some j) empty refl
 
 -- ---- in the loops
 found_above : (ms : Members Number) (before now after end : Ids) (r : MarkedRole) (v : Json) (at : ℕ) (s : Option MarkedRole) (part : Json) (inner up : Vec ℕ) (rule : LocalRule) (found answer : Option LocalRule)

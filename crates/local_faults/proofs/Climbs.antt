@@ -2,7 +2,7 @@
 use Rattle.std.proofs.Common.{◌≡◌, ℕ, suc, zero, ◌≤◌, inl, inr, List, Some, None, refl, ap, sym, ◌∙◌, subst, arith}
 use Rattle.json_decimal.specs.Number.{Number}
 use Rattle.json_tree.specs.Values.{Json, text, object, Members}
-use Rattle.local_rules.specs.Levels.{IsComplex, IsPrimitive, HasLevel, ReachesWithin, schema_named, schema_type, schema_parts}
+use Rattle.local_rules.specs.Levels.{IsComplex, IsPrimitiveName, HasLevel, ReachesWithin, schema_named, schema_type, schema_parts}
 use Rattle.local_rules.specs.declared.role.Element.{Element}
 
 -- a level is at least each number below it
@@ -43,16 +43,16 @@ object_is ms os type typed = record { whole = object os; leads = inl refl; typed
 
 -- what a text names, where it names a complex schema
 pub text_complex : (ms : Members Number) (bytes : List ℕ) (type : Element) (parts : List Json) → IsComplex ms (text bytes) type parts
-    → (whole : Json) × (IsPrimitive bytes → ⊥) × (schema_named ms bytes ≡ Some whole) × (schema_type whole ≡ Some type) × (schema_parts whole ≡ parts)
+    → (whole : Json) × (IsPrimitiveName bytes → ⊥) × (schema_named ms bytes ≡ Some whole) × (schema_type whole ≡ Some type) × (schema_parts whole ≡ parts)
 text_complex ms bytes type parts c = elim c.leads [
   | inl same ↦ let e : None ≡ Some type = ap schema_type same ∙ c.typed in cc
   | inr named ↦
       let e : bytes ≡ named.0 = cc in
-      (c.whole, λ p. named.2 (subst (λ (b : List ℕ). IsPrimitive b) e p), ap (schema_named ms) e ∙ named.3, c.typed, c.parted)
+      (c.whole, λ p. named.2 (subst (λ (b : List ℕ). IsPrimitiveName b) e p), ap (schema_named ms) e ∙ named.3, c.typed, c.parted)
 ]
 
 -- a text names what an object of `schemas` is
-pub text_is : (ms : Members Number) (bytes : List ℕ) (os : Members Number) → (IsPrimitive bytes → ⊥) → schema_named ms bytes ≡ Some (object os)
+pub text_is : (ms : Members Number) (bytes : List ℕ) (os : Members Number) → (IsPrimitiveName bytes → ⊥) → schema_named ms bytes ≡ Some (object os)
     → (type : Element) (parts : List Json) → IsComplex ms (object os) type parts → IsComplex ms (text bytes) type parts
 text_is ms bytes os other named type parts c =
     let is = object_complex ms os type parts c in

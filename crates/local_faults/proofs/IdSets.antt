@@ -21,7 +21,7 @@ use Rattle.local_rules.specs.declared.rule.LocalRule.{LocalRule}
 use Rattle.local_rules.specs.declared.rule.LocalRule.TheVariants as rule
 use Rattle.local_rules.specs.declared.role.Role.{Role}
 use Rattle.local_rules.specs.declared.role.Role.TheVariants as role
-use Rattle.local_faults.specs.Machinery.Walks.{IsNoted, IsId, Judges, JudgesId, Adds, id_in}
+use Rattle.local_faults.specs.Machinery.Walks.{IsNoted, IsId, JudgesMarked, JudgesId, NotesId, id_in_role}
 use Rattle.local_faults.proofs.Rules.{none_of_two}
 
 abbrev Ids : Type 0
@@ -87,15 +87,15 @@ text_is (object ms) bytes e = absurd cc
 is_text : (v : Json) (bytes : List ℕ) → v ≡ text bytes → text_in v ≡ Some bytes
 is_text v bytes e = ap text_in e
 
-id_is : (r : Role) (v : Json) (bytes : List ℕ) → id_in r v ≡ Some bytes → IsId r v bytes
+id_is : (r : Role) (v : Json) (bytes : List ℕ) → id_in_role r v ≡ Some bytes → IsId r v bytes
 id_is role.InterfaceId v bytes e = record { is_id = inl refl; is_text = text_is v bytes e }
 id_is role.ElementId v bytes e = record { is_id = inr refl; is_text = text_is v bytes e }
 id_is other v bytes e = absurd cc
 
-is_id_in : (r : Role) (v : Json) (bytes : List ℕ) → IsId r v bytes → id_in r v ≡ Some bytes
+is_id_in : (r : Role) (v : Json) (bytes : List ℕ) → IsId r v bytes → id_in_role r v ≡ Some bytes
 is_id_in r v bytes i = elim i.is_id [
-  | inl e ↦ subst (λ (q : Role). id_in q v ≡ Some bytes) (sym e) (is_text v bytes i.is_text)
-  | inr e ↦ subst (λ (q : Role). id_in q v ≡ Some bytes) (sym e) (is_text v bytes i.is_text)
+  | inl e ↦ subst (λ (q : Role). id_in_role q v ≡ Some bytes) (sym e) (is_text v bytes i.is_text)
+  | inr e ↦ subst (λ (q : Role). id_in_role q v ≡ Some bytes) (sym e) (is_text v bytes i.is_text)
 ]
 
 of_text_is : (P : List ℕ → Type 0) (v : Json) → OfText P v → (bytes : List ℕ) × (v ≡ text bytes) × P bytes
@@ -106,7 +106,7 @@ of_text_is P (text bytes) o = (bytes, refl, o)
 of_text_is P (array vs) o = absurd o
 of_text_is P (object ms) o = absurd o
 
-breaks_id : (P : List ℕ → Type 0) (r : Role) (v : Json) (broken : LocalRule) → BreaksById P broken r v → (bytes : List ℕ) × (id_in r v ≡ Some bytes) × P bytes
+breaks_id : (P : List ℕ → Type 0) (r : Role) (v : Json) (broken : LocalRule) → BreaksById P broken r v → (bytes : List ℕ) × (id_in_role r v ≡ Some bytes) × P bytes
 breaks_id P r v rule.RepeatedId b =
     let o = of_text_is P v b.1 in
     (o.0, is_id_in r v o.0 (record { is_id = b.0; is_text = o.1 }), o.2)
@@ -117,13 +117,13 @@ only_rule P r v rule.RepeatedId b = refl
 only_rule P r v other b = absurd b
 
 -- what is no `@id` breaks nothing
-pub no_id : (ids : Ids) (r : Role) (v : Json) → id_in r v ≡ None → JudgesId ids ids r v None
+pub no_id : (ids : Ids) (r : Role) (v : Json) → id_in_role r v ≡ None → JudgesId ids ids r v None
 no_id ids r v none = record {
   first = λ broken b. (let h = breaks_id (IsNoted ids) r v broken b in let e : None ≡ Some h.0 = sym none ∙ h.1 in absurd cc);
   ids = λ e bytes. (λ h. inl h, λ o. elim o [ inl h ↦ h | inr i ↦ (let f : None ≡ Some bytes = sym none ∙ is_id_in r v bytes i in absurd cc) ]);
 }
 
-new_id : (before after : Ids) (r : Role) (v : Json) (id : List ℕ) → id_in r v ≡ Some id → Adds before after id None → JudgesId before after r v None
+new_id : (before after : Ids) (r : Role) (v : Json) (id : List ℕ) → id_in_role r v ≡ Some id → NotesId before after id None → JudgesId before after r v None
 new_id before after r v id some a = record {
   first = λ broken b. (let h = breaks_id (IsNoted before) r v broken b in
       let e : Some id ≡ Some h.0 = sym some ∙ h.1 in
@@ -141,7 +141,7 @@ new_id before after r v id some a = record {
   );
 }
 
-old_id : (before after : Ids) (r : Role) (v : Json) (id : List ℕ) (broken : LocalRule) → id_in r v ≡ Some id → IsNoted before id → JudgesId before after r v (Some rule.RepeatedId)
+old_id : (before after : Ids) (r : Role) (v : Json) (id : List ℕ) (broken : LocalRule) → id_in_role r v ≡ Some id → IsNoted before id → JudgesId before after r v (Some rule.RepeatedId)
 old_id before after r v id broken some h =
     let i = id_is r v id some in
     record {
@@ -152,14 +152,14 @@ old_id before after r v id broken some h =
       ids = λ e. absurd cc;
     }
 
-pub with_id : (before after : Ids) (r : Role) (v : Json) (id : List ℕ) (found : Option LocalRule) → id_in r v ≡ Some id → Adds before after id found → JudgesId before after r v found
+pub with_id : (before after : Ids) (r : Role) (v : Json) (id : List ℕ) (found : Option LocalRule) → id_in_role r v ≡ Some id → NotesId before after id found → JudgesId before after r v found
 with_id before after r v id None some a = new_id before after r v id some a
 with_id before after r v id (Some broken) some a = subst (λ (b : LocalRule). JudgesId before after r v (Some b)) (sym a.1) (old_id before after r v id broken some a.0)
 
 -- ---- the first rule of a value
 pub judged_by : (ms : Members Number) (before after : Ids) (r : MarkedRole) (v : Json) (itself schemas id : Option LocalRule)
     → IsFirstOf (λ b. BreaksAlone b r.role v ⊎ BreaksMark b r) itself → IsFirstOf (λ b. BreaksBySchemas ms b r.role v) schemas → JudgesId before after r.role v id
-    → Judges ms before after r v (earlier itself (earlier schemas id))
+    → JudgesMarked ms before after r v (earlier itself (earlier schemas id))
 judged_by ms before after r v itself schemas id own named j = record {
   first = first_either _ _ itself (earlier schemas id) own (first_either _ _ schemas id named j.first);
   ids = λ none. j.ids (none_of_two schemas id (none_of_two itself (earlier schemas id) none));

@@ -9,6 +9,7 @@ use Rattle.std.proofs.lemmas.List.Sums.{prefix_len-le-length}
 use Rattle.std.proofs.lemmas.List.Elements.{filter_map-append}
 use Rattle.std.proofs.lemmas.Slice.Eq.{bytes_eq-Decides}
 use Rattle.std.proofs.lemmas.Grind.{common_steps}
+use Rattle.std.proofs.lemmas.List.{take_all}
 
 pub position-push : {X : Type 0} (p : X → Bool) (xs : List X) (y : X)
     → position p (xs ++ y ∷ []) ≡ option_or (position p xs) (cond (p y) (Some (length xs)) None)
@@ -59,8 +60,5 @@ fields_more h f xs i x within is =
     ∙ filter_map-append h (map f (take i xs)) (f x ∷ [])
     ∙ ap (λ zs. filter_map h (map f (take i xs)) ++ zs) (option_list (h (f x)))
 
-take-all : {X : Type 0} (xs : List X) (i : ℕ) → length xs ≤ i → take i xs ≡ xs
-take-all xs i past = grind (arith, common_steps)
-
 pub fields_all : {X Y Z : Type 0} (h : Y → Option Z) (f : X → Y) (xs : List X) (i : ℕ) → length xs ≤ i → filter_map h (map f (take i xs)) ≡ filter_map h (map f xs)
-fields_all h f xs i past = ap (λ ys. filter_map h (map f ys)) (take-all xs i past)
+fields_all h f xs i past = ap (λ ys. filter_map h (map f ys)) (take_all i xs past)

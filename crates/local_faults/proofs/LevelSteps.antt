@@ -2,7 +2,7 @@
 use Rattle.std.proofs.Common.{◌≡◌, ℕ, suc, zero, ◌+◌, ◌<◌, ◌≤◌, ◌⊎◌, inl, inr, List, [], ◌∷◌, ◌++◌, Some, Bool, true, false, ◌||◌, min, max, refl, sym, ◌∙◌, subst, arith, ⊎_elim}
 use Rattle.std.specs.Prelude.{Contains}
 use Rattle.std.proofs.lemmas.List.Elements.{Contains-append_cases, Contains-append_left, Contains-append_right, Contains-push}
-use Rattle.std.proofs.lemmas.Bool.{cases_lt}
+use Rattle.std.proofs.lemmas.Bool.{cases_lt, or_cases, or_left, or_right}
 use Rattle.json_decimal.specs.Number.{Number}
 use Rattle.json_tree.specs.Values.{Json, object, Members}
 use Rattle.local_rules.specs.Levels.{IsComplex, HasLevel, ReachesWithin, schema_type, schema_parts}
@@ -11,18 +11,6 @@ use Rattle.local_rules.specs.declared.role.Element.TheVariants as element
 use Rattle.local_faults.specs.Machinery.Measured.{IsMeasure, ArePartsMeasured}
 use Rattle.local_faults.specs.declared.measures.Measure.{Measure}
 use Rattle.local_faults.proofs.Climbs.{level_down, object_complex, object_is, level_along, reach_along}
-
-true_or : (a b : Bool) → (a || b) ≡ true → (a ≡ true) ⊎ (b ≡ true)
-true_or true b h = inl refl
-true_or false b h = inr h
-
-or_left : (a b : Bool) → a ≡ true → (a || b) ≡ true
-or_left true b h = refl
-or_left false b h = cc
-
-or_right : (a b : Bool) → b ≡ true → (a || b) ≡ true
-or_right true b h = refl
-or_right false b h = h
 
 -- what is no complex schema, and names none
 level_none : (ms : Members Number) (v : Json) → ((type : Element) (parts : List Json) → IsComplex ms v type parts → ⊥) → (j : ℕ) → HasLevel ms j v → j ≡ 0
@@ -143,7 +131,7 @@ joined_parts ms n xs ys a b m level reaches p q = record {
   array = λ on. ⊎_elim
       (λ left. let r = p.array left in (r.0, r.1, Contains-append_left xs ys r.0 r.2, r.3))
       (λ right. let r = q.array right in (r.0, r.1, Contains-append_right xs ys r.0 r.2, r.3))
-      (true_or a.reaches b.reaches (sym reaches ∙ on));
+      (or_cases a.reaches b.reaches (sym reaches ∙ on));
   arrays = λ part among j le reach. ⊎_elim
       (λ left. reaches ∙ or_left a.reaches b.reaches (p.arrays part left j le reach))
       (λ right. reaches ∙ or_right a.reaches b.reaches (q.arrays part right j le reach))
@@ -196,7 +184,7 @@ object_measure ms os kind is_array m w n typed to from level reaches h = record 
   capped = omega (arith, level);
   deep = object_deep ms os kind m n w.level typed h (omega (arith, level));
   levels = λ j le cap deep. let g = object_levels ms os m n j h le cap deep in omega (arith, g, cap, level);
-  array = λ on. object_array ms os kind m n typed h (⊎_elim (λ a. inl (to a)) (λ b. inr b) (true_or is_array m.reaches (sym reaches ∙ on)));
+  array = λ on. object_array ms os kind m n typed h (⊎_elim (λ a. inl (to a)) (λ b. inr b) (or_cases is_array m.reaches (sym reaches ∙ on)));
   arrays = λ j le reach. ⊎_elim
       (λ found. reaches ∙ or_left is_array m.reaches (from found))
       (λ on. reaches ∙ or_right is_array m.reaches on)

@@ -14,9 +14,9 @@ use Rattle.json_tree.specs.View.{view, members_view}
 use Rattle.json_tree.specs.declared.tree.Tree.{Tree, the_lemmas}
 use Rattle.json_tree.specs.declared.tree.Tree as variants
 use Rattle.json_tree.specs.declared.tree.Member.{Member}
-use Rattle.local_rules.specs.Levels.{IsComplex, IsPrimitive, schema_named, schema_type, has_id}
+use Rattle.local_rules.specs.Levels.{IsComplex, IsPrimitiveName, schema_named, schema_type, has_id}
 use Rattle.local_rules.specs.declared.role.Element.{Element}
-use Rattle.local_faults.specs.Machinery.Named.{schemas_in}
+use Rattle.local_faults.specs.Machinery.Named.{schema_entries}
 use Rattle.local_faults.specs.Machinery.Measured.{IsMeasure, AreMeasured, Measures}
 use Rattle.local_faults.specs.declared.measures.Measure.{Measure}
 use Rattle.local_faults.proofs.Climbs.{text_complex, text_is, object_of_text}
@@ -41,15 +41,15 @@ named_object bytes (object os) h = (os, refl)
 -- what is known of the object that a text names
 pub record IsNamed (ms : Members Number) (bytes : List ℕ) (at : ℕ) : Type 0 where
   pub members : Members Number
-  pub stands : slice_get (schemas_in ms) at ≡ Some (object members)
+  pub stands : slice_get (schema_entries ms) at ≡ Some (object members)
   pub named : schema_named ms bytes ≡ Some (object members)
 
-pub named_at : (ms : Members Number) (bytes : List ℕ) (at : ℕ) → position (has_id bytes) (schemas_in ms) ≡ Some at → IsNamed ms bytes at
+pub named_at : (ms : Members Number) (bytes : List ℕ) (at : ℕ) → position (has_id bytes) (schema_entries ms) ≡ Some at → IsNamed ms bytes at
 named_at ms bytes at h =
-    let first = position-Some (has_id bytes) (schemas_in ms) at null h in
-    let it = named_object bytes (get_or (schemas_in ms) at null) first.1 in
-    let stands : slice_get (schemas_in ms) at ≡ Some (object it.0) = slice_get-get_or (schemas_in ms) at null first.0 ∙ ap (λ (v : Json). Some v) it.1 in
-    record { members = it.0; stands = stands; named = found_at (has_id bytes) (schemas_in ms) at h ∙ stands }
+    let first = position-Some (has_id bytes) (schema_entries ms) at null h in
+    let it = named_object bytes (get_or (schema_entries ms) at null) first.1 in
+    let stands : slice_get (schema_entries ms) at ≡ Some (object it.0) = slice_get-get_or (schema_entries ms) at null first.0 ∙ ap (λ (v : Json). Some v) it.1 in
+    record { members = it.0; stands = stands; named = found_at (has_id bytes) (schema_entries ms) at h ∙ stands }
 
 -- ---- what has no level
 leaf_none : (ms : Members Number) (v : Json) → schema_type v ≡ None → ((bytes : List ℕ) → v ≡ text bytes → ⊥) → (type : Element) (parts : List Json) → IsComplex ms v type parts → ⊥
@@ -76,16 +76,16 @@ text_least ms table bytes m none low off = record {
   whole = λ n os all is. cc;
 }
 
-pub primitive_measured : (ms : Members Number) (table : List Measure) (bytes : List ℕ) (m : Measure) → IsPrimitive bytes → m.level ≡ 0 → m.reaches ≡ false → Measures ms table (text bytes) m
+pub primitive_measured : (ms : Members Number) (table : List Measure) (bytes : List ℕ) (m : Measure) → IsPrimitiveName bytes → m.level ≡ 0 → m.reaches ≡ false → Measures ms table (text bytes) m
 primitive_measured ms table bytes m primitive low off =
     text_least ms table bytes m (λ type parts c. (text_complex ms bytes type parts c).1 primitive) low off
 
-pub unknown_measured : (ms : Members Number) (table : List Measure) (bytes : List ℕ) (m : Measure) → position (has_id bytes) (schemas_in ms) ≡ None → m.level ≡ 0 → m.reaches ≡ false → Measures ms table (text bytes) m
+pub unknown_measured : (ms : Members Number) (table : List Measure) (bytes : List ℕ) (m : Measure) → position (has_id bytes) (schema_entries ms) ≡ None → m.level ≡ 0 → m.reaches ≡ false → Measures ms table (text bytes) m
 unknown_measured ms table bytes m unknown low off =
-    let none : schema_named ms bytes ≡ None = found_none (has_id bytes) (schemas_in ms) unknown in
+    let none : schema_named ms bytes ≡ None = found_none (has_id bytes) (schema_entries ms) unknown in
     text_least ms table bytes m (λ type parts c. let t = text_complex ms bytes type parts c in let e : None ≡ Some t.0 = sym none ∙ t.2 in cc) low off
 
-named_measure : (ms : Members Number) (table : List Measure) (bytes : List ℕ) (at n : ℕ) (m : Measure) → (IsPrimitive bytes → ⊥) → IsNamed ms bytes at
+named_measure : (ms : Members Number) (table : List Measure) (bytes : List ℕ) (at n : ℕ) (m : Measure) → (IsPrimitiveName bytes → ⊥) → IsNamed ms bytes at
     → ((k : Measure) → slice_get table at ≡ Some k → m ≡ k) → AreMeasured ms n table → IsMeasure ms n (text bytes) m
 named_measure ms table bytes at n m other it found all =
     let t = all at it.members it.stands in
@@ -93,7 +93,7 @@ named_measure ms table bytes at n m other it found all =
     subst P (sym (found t.0 t.1))
     (measure_along ms n (object it.members) (text bytes) t.0 (text_is ms bytes it.members other it.named) (object_of_text ms bytes it.members it.named) t.2)
 
-pub named_measured : (ms : Members Number) (table : List Measure) (bytes : List ℕ) (at : ℕ) (m : Measure) → (IsPrimitive bytes → ⊥) → position (has_id bytes) (schemas_in ms) ≡ Some at
+pub named_measured : (ms : Members Number) (table : List Measure) (bytes : List ℕ) (at : ℕ) (m : Measure) → (IsPrimitiveName bytes → ⊥) → position (has_id bytes) (schema_entries ms) ≡ Some at
     → ((k : Measure) → slice_get table at ≡ Some k → m ≡ k) → Measures ms table (text bytes) m
 named_measured ms table bytes at m other h found = record {
   any = λ n all. named_measure ms table bytes at n m other (named_at ms bytes at h) found all;
@@ -134,7 +134,7 @@ pub record IsMixed (ms : Members Number) (n at : ℕ) (os : Members Number) (i :
   pub more : i < at → IsMeasure ms (suc n) (object os) measure
 
 abbrev pub AreMixed : Members Number → ℕ → ℕ → List Measure → Type 0
-AreMixed ms n at table = (i : ℕ) (os : Members Number) → slice_get (schemas_in ms) i ≡ Some (object os) → IsMixed ms n at os i table
+AreMixed ms n at table = (i : ℕ) (os : Members Number) → slice_get (schema_entries ms) i ≡ Some (object os) → IsMixed ms n at os i table
 
 pub mixed_first : (ms : Members Number) (n : ℕ) (table : List Measure) → AreMeasured ms n table → AreMixed ms n 0 table
 mixed_first ms n table all i os e =
@@ -144,10 +144,10 @@ mixed_first ms n table all i os e =
 pub mixed_right : (ms : Members Number) (n at : ℕ) (table : List Measure) → AreMixed ms n at table → AreMeasured ms n table
 mixed_right ms n at table all i os e = let t = all i os e in (t.measure, t.stands, t.right)
 
-pub mixed_last : (ms : Members Number) (n at : ℕ) (table : List Measure) → length (schemas_in ms) ≤ at → AreMixed ms n at table → AreMeasured ms (suc n) table
+pub mixed_last : (ms : Members Number) (n at : ℕ) (table : List Measure) → length (schema_entries ms) ≤ at → AreMixed ms n at table → AreMeasured ms (suc n) table
 mixed_last ms n at table past all i os e =
     let t = all i os e in
-    let within = slice_get_within (schemas_in ms) i (object os) e in
+    let within = slice_get_within (schema_entries ms) i (object os) e in
     (t.measure, t.stands, t.more (omega (arith, past, within)))
 
 get-set_same : {X : Type 0} (xs : List X) (i : ℕ) (y : X) → i < length xs → slice_get (set xs i y) i ≡ Some y
@@ -162,13 +162,13 @@ get-set_other xs i j x y other h =
     slice_get-get_or (set xs i y) j y fits ∙ ap (λ z. Some z) (get_or-set_other xs i j y y other) ∙ sym (slice_get-get_or xs j y within) ∙ h
 
 pub mixed_more : (ms : Members Number) (n at : ℕ) (table new : List Measure) (k : Measure) → at < length table → new ≡ set table at k
-    → ((os : Members Number) → slice_get (schemas_in ms) at ≡ Some (object os) → IsMeasure ms (suc n) (object os) k)
+    → ((os : Members Number) → slice_get (schema_entries ms) at ≡ Some (object os) → IsMeasure ms (suc n) (object os) k)
     → AreMixed ms n at table → AreMixed ms n (at + 1) new
 mixed_more ms n at table new k within is here all i os e =
     let P : List Measure → Type 0 = λ t. IsMixed ms n (at + 1) os i t in
     subst P (sym is) (⊎_elim
     (λ same.
-    let Q : ℕ → Type 0 = λ j. slice_get (schemas_in ms) j ≡ Some (object os) in
+    let Q : ℕ → Type 0 = λ j. slice_get (schema_entries ms) j ≡ Some (object os) in
     let R : ℕ → Type 0 = λ j. slice_get (set table at k) j ≡ Some k in
     let right = here os (subst Q same e) in
     record { measure = k; stands = subst R (sym same) (get-set_same table at k within); right = measure_weaker ms n (object os) k right; more = λ less. right })
@@ -178,10 +178,10 @@ mixed_more ms n at table new k within is here all i os e =
     (cases_eq i at))
 
 -- ---- the rounds
-pub first_measured : (ms : Members Number) (table : List Measure) → length table ≡ length (schemas_in ms)
+pub first_measured : (ms : Members Number) (table : List Measure) → length table ≡ length (schema_entries ms)
     → ((i : ℕ) (m : Measure) → slice_get table i ≡ Some m → (m.level ≡ 0) × (m.reaches ≡ false)) → AreMeasured ms 0 table
 first_measured ms table sized least i os e =
-    let within = slice_get_within (schemas_in ms) i (object os) e in
+    let within = slice_get_within (schema_entries ms) i (object os) e in
     let d : Measure = record { level = 0; reaches = false } in
     let at : slice_get table i ≡ Some (get_or table i d) = slice_get-get_or table i d (omega (arith, within, sized)) in
     let low = least i (get_or table i d) at in
@@ -212,7 +212,7 @@ replicated zero x i y h = cc
 replicated (suc n) x zero y h = cc
 replicated (suc n) x (suc i) y h = replicated n x i y h
 
-pub least_measured : (ms : Members Number) (table : List Measure) (n : ℕ) (m : Measure) → table ≡ replicate n m → length table ≡ length (schemas_in ms)
+pub least_measured : (ms : Members Number) (table : List Measure) (n : ℕ) (m : Measure) → table ≡ replicate n m → length table ≡ length (schema_entries ms)
     → m.level ≡ 0 → m.reaches ≡ false → AreMeasured ms 0 table
 least_measured ms table n m is sized low off =
     first_measured ms table sized (λ i k h.

@@ -14,7 +14,7 @@ use Rattle.local_rules.specs.Breaches.{ComesBefore}
 use Rattle.local_rules.specs.declared.rule.LocalRule.{LocalRule}
 use Rattle.local_rules.specs.declared.marks.MarkedRole.{MarkedRole}
 use Rattle.local_faults.specs.declared.walk.Found.{Found}
-use Rattle.local_faults.specs.Machinery.Walks.{BreaksMarked, HasId, HasIdInPartBefore, IsBrokenFrom, IsFirstBroken, FindsFirst, IsNoted, Walks, WalksPart, IsWalkedTo, IsClearHere, IsId, Judges}
+use Rattle.local_faults.specs.Machinery.Walks.{BreaksMarked, HasIdInside, HasIdInPartBefore, IsBrokenFrom, IsFirstBroken, FindsFirst, IsNoted, Walks, WalksPart, IsWalkedTo, IsClearHere, IsId, JudgesMarked}
 use Rattle.local_faults.proofs.Rules.{breaks_along}
 use Rattle.local_faults.proofs.Steps.{one_part, one_role, Before, broken_down, broken_up, broken_along, broken_here, is_broken_here}
 
@@ -133,11 +133,11 @@ id_earlier r v at bytes h = elim (cases_lt h.position at) [
 ]
 
 id_in_part : (r : MarkedRole) (v : Json) (at : ℕ) (s : MarkedRole) (part : Json) (bytes : List ℕ) → IsPart v at part → part_marked r v at ≡ Some s
-    → (h : HasIdInPartBefore r v (at + 1) bytes) → h.position ≡ at → HasId s part bytes
+    → (h : HasIdInPartBefore r v (at + 1) bytes) → h.position ≡ at → HasIdInside s part bytes
 id_in_part r v at s part bytes p pr h e =
     let one = one_role r v at h.within s (subst (λ (n : ℕ). part_marked r v n ≡ Some h.within) e h.has_role) pr in
     let two = one_part v at h.part part (subst (λ (n : ℕ). IsPart v n h.part) e h.is_part) p in
-    subst (λ (w : Json). HasId s w bytes) two (subst (λ (t : MarkedRole). HasId t h.part bytes) one h.id)
+    subst (λ (w : Json). HasIdInside s w bytes) two (subst (λ (t : MarkedRole). HasIdInside t h.part bytes) one h.id)
 
 no_id_in_part : (r : MarkedRole) (v : Json) (at : ℕ) (bytes : List ℕ) → part_marked r v at ≡ None → (h : HasIdInPartBefore r v (at + 1) bytes) → h.position ≡ at → ⊥
 no_id_in_part r v at bytes pr h e =
@@ -145,7 +145,7 @@ no_id_in_part r v at bytes pr h e =
     absurd cc
 
 ids_role : (ms : Members Number) (before now after : Ids) (r : MarkedRole) (v : Json) (at : ℕ) (s : MarkedRole) (part : Json) → IsWalkedTo ms before now r v at
-    → IsPart v at part → part_marked r v at ≡ Some s → ((bytes : List ℕ) → IsNoted after bytes ↔ (IsNoted now bytes ⊎ HasId s part bytes))
+    → IsPart v at part → part_marked r v at ≡ Some s → ((bytes : List ℕ) → IsNoted after bytes ↔ (IsNoted now bytes ⊎ HasIdInside s part bytes))
     → (bytes : List ℕ) → IsNoted after bytes ↔ (IsNoted before bytes ⊎ HasIdInPartBefore r v (at + 1) bytes)
 ids_role ms before now after r v at s part walked p pr ids bytes = (
   λ h. elim ((ids bytes).0 h) [
@@ -204,10 +204,10 @@ id_inside r v n within bytes (j ∷ place) q h id = inr (record {
   id = record { place = place; within = q; stands = h.4; is_id = id };
 })
 
-id_itself : (r : MarkedRole) (v : Json) (bytes : List ℕ) → IsId r.role v bytes → HasId r v bytes
+id_itself : (r : MarkedRole) (v : Json) (bytes : List ℕ) → IsId r.role v bytes → HasIdInside r v bytes
 id_itself r v bytes h = record { place = []; within = r; stands = (refl, h.is_text); is_id = h.is_id }
 
-id_of_part : (r : MarkedRole) (v : Json) (n : ℕ) (bytes : List ℕ) → HasIdInPartBefore r v n bytes → HasId r v bytes
+id_of_part : (r : MarkedRole) (v : Json) (n : ℕ) (bytes : List ℕ) → HasIdInPartBefore r v n bytes → HasIdInside r v bytes
 id_of_part r v n bytes h = record {
   place = h.position ∷ h.id.place;
   within = h.id.within;
@@ -220,7 +220,7 @@ abbrev pub IsNoText : Json → Type 0
 IsNoText v = (bytes : List ℕ) → v ≡ text bytes → ⊥
 
 ids_all : (ms : Members Number) (before now : Ids) (r : MarkedRole) (v : Json) (n : ℕ) → IsWalkedTo ms before now r v n → IsNoText v
-    → ((i : ℕ) (part : Json) → IsPart v i part → i < n) → (bytes : List ℕ) → IsNoted now bytes ↔ (IsNoted before bytes ⊎ HasId r v bytes)
+    → ((i : ℕ) (part : Json) → IsPart v i part → i < n) → (bytes : List ℕ) → IsNoted now bytes ↔ (IsNoted before bytes ⊎ HasIdInside r v bytes)
 ids_all ms before now r v n walked no_text within bytes = (
   λ h. elim ((walked.ids bytes).0 h) [ inl a ↦ inl a | inr b ↦ inr (id_of_part r v n bytes b) ],
   λ e. elim e [
@@ -246,7 +246,7 @@ judged_least ms before r v broken least other another (inl c) b = c
 judged_least ms before r v broken least other another (inr c) b =
     least another c.1 (is_broken_here ms (IsNoted before) r v another (subst (λ (o : List ℕ). IsBrokenFrom ms (IsNoted before) r v o another) c.0 b))
 
-pub judged : (ms : Members Number) (before after end : Ids) (r : MarkedRole) (v : Json) (found : Found) (broken : LocalRule) → Judges ms before after r v (Some broken)
+pub judged : (ms : Members Number) (before after end : Ids) (r : MarkedRole) (v : Json) (found : Found) (broken : LocalRule) → JudgesMarked ms before after r v (Some broken)
     → found.steps.items ≡ [] → found.rule ≡ broken → Walks ms before end r v (Some found)
 judged ms before after end r v found broken j empty same = record {
   first = subst (λ (up : List ℕ). IsFirstBroken (IsBrokenFrom ms (IsNoted before) r v) up found.rule) (sym empty)
@@ -258,7 +258,7 @@ judged ms before after end r v found broken j empty same = record {
 }
 
 -- a leaf has no parts
-pub walked_leaf : (ms : Members Number) (before after : Ids) (r : MarkedRole) (v : Json) → Judges ms before after r v None → ((i : ℕ) (part : Json) → IsPart v i part → ⊥)
+pub walked_leaf : (ms : Members Number) (before after : Ids) (r : MarkedRole) (v : Json) → JudgesMarked ms before after r v None → ((i : ℕ) (part : Json) → IsPart v i part → ⊥)
     → Walks ms before after r v None
 walked_leaf ms before after r v j leaf = record {
   first = nothing_at ms before before r v 0 (walked_start ms before r v) j.first (λ i part p. absurd (leaf i part p));
@@ -275,7 +275,7 @@ walked_leaf ms before after r v j leaf = record {
 }
 
 -- a list or an object leaves the set as it is until its parts come
-pub same_ids : (ms : Members Number) (before now : Ids) (r : MarkedRole) (v : Json) → Judges ms before now r v None → IsNoText v → (bytes : List ℕ) → IsNoted now bytes ↔ IsNoted before bytes
+pub same_ids : (ms : Members Number) (before now : Ids) (r : MarkedRole) (v : Json) → JudgesMarked ms before now r v None → IsNoText v → (bytes : List ℕ) → IsNoted now bytes ↔ IsNoted before bytes
 same_ids ms before now r v j no_text bytes =
     (λ h. elim ((j.ids refl bytes).0 h) [ inl a ↦ a | inr i ↦ absurd (no_text bytes i.is_text) ], λ a. (j.ids refl bytes).1 (inl a))
 
@@ -286,10 +286,10 @@ first_along B C same (Some found) first = record {
   least = λ other another c b. first.least other another c ((same other another).1 b);
 }
 
-pub here_after : (ms : Members Number) (before now : Ids) (r : MarkedRole) (v : Json) → Judges ms before now r v None → IsNoText v → IsClearHere ms now r v
+pub here_after : (ms : Members Number) (before now : Ids) (r : MarkedRole) (v : Json) → JudgesMarked ms before now r v None → IsNoText v → IsClearHere ms now r v
 here_after ms before now r v j no_text broken b = j.first broken (breaks_along ms _ _ (λ bytes. (same_ids ms before now r v j no_text bytes).0) broken r v b)
 
-pub walks_after : (ms : Members Number) (before now after : Ids) (r : MarkedRole) (v : Json) (found : Option Found) → Judges ms before now r v None → IsNoText v
+pub walks_after : (ms : Members Number) (before now after : Ids) (r : MarkedRole) (v : Json) (found : Option Found) → JudgesMarked ms before now r v None → IsNoText v
     → Walks ms now after r v found → Walks ms before after r v found
 walks_after ms before now after r v found j no_text w =
     let same = same_ids ms before now r v j no_text in

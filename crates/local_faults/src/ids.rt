@@ -3,7 +3,7 @@
 ghost use Rattle.std.specs.Prelude.{◌≡◌, IfOk};
 ghost use Rattle.std.specs.Option.{option_map};
 ghost use Rattle.json_tree.specs.View.{view, members_view};
-ghost use Rattle.local_faults.specs.Machinery.Walks.{Adds, Judges, JudgesId, id_in};
+ghost use Rattle.local_faults.specs.Machinery.Walks.{NotesId, JudgesMarked, JudgesId, id_in_role};
 
 use crate::schemas::NamedSchemas;
 use dt_base::OutOfMemory;
@@ -13,7 +13,7 @@ use std::collections::BTreeSet;
 
 /// The text that a value is as an `@id`.
 fn id_in(role: Role, tree: &Tree) -> Option<&str>
-    ensures { option_map (λ t. t.now) result ≡ id_in role (view tree.now) }
+    ensures { option_map (λ t. t.now) result ≡ id_in_role role (view tree.now) }
 {
     match role {
         Role::InterfaceId | Role::ElementId => text_in(tree),
@@ -23,7 +23,7 @@ fn id_in(role: Role, tree: &Tree) -> Option<&str>
 
 /// Puts an `@id` into the set, or says that it is there.
 fn add_id<'a>(id: &'a str, ids: &mut BTreeSet<&'a str>) -> Result<Option<LocalRule>, OutOfMemory>
-    ensures { IfOk result (Adds ids.old ids.new id.now) }
+    ensures { IfOk result (NotesId ids.old ids.new id.now) }
 {
     if ids.insert(id)? {
         Ok(None)
@@ -53,7 +53,7 @@ pub fn judge<'a>(
     tree: &'a Tree,
     ids: &mut BTreeSet<&'a str>,
 ) -> Result<Option<LocalRule>, OutOfMemory>
-    ensures { IfOk result (Judges (members_view schemas.now) ids.old ids.new marked (view tree.now)) }
+    ensures { IfOk result (JudgesMarked (members_view schemas.now) ids.old ids.new marked (view tree.now)) }
 {
     let by_itself = marked_rule(marked, tree);
     let by_schemas = schemas.rule(marked.role, tree);

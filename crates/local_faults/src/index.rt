@@ -8,7 +8,7 @@ ghost use Rattle.std.specs.BTreeMap.{get_by};
 ghost use Rattle.std.specs.List.{position};
 ghost use Rattle.json_tree.specs.View.{view, members_view};
 ghost use Rattle.local_rules.specs.Levels.{has_id};
-ghost use Rattle.local_faults.specs.Machinery.Named.{IsIndex, schemas_in};
+ghost use Rattle.local_faults.specs.Machinery.Named.{IsIndex, schema_entries};
 
 use crate::look::{entries_at, id_in};
 use dt_base::OutOfMemory;
@@ -36,11 +36,11 @@ impl<'a> Model for Names<'a> {
     ghost coded = { coded_list m.the_row.coded };
 
     ghost use Rattle.json_tree.specs.View.{members_view};
-    ghost use Rattle.local_faults.specs.Machinery.Named.{IsIndex, schemas_in};
+    ghost use Rattle.local_faults.specs.Machinery.Named.{IsIndex, schema_entries};
 
     ghost view = { λ s. s.members.now };
 
-    ghost invariant = { λ s. IsIndex (schemas_in (members_view s.members.now)) s.index };
+    ghost invariant = { λ s. IsIndex (schema_entries (members_view s.members.now)) s.index };
 }
 
 /// Where each `@id` first stands in a list.
@@ -96,14 +96,14 @@ impl<'a> Names<'a> {
 
     /// The entries of `schemas`.
     pub fn entries(&self) -> &'a [Tree]
-        ensures { map view result.now ≡ schemas_in (members_view self.now) }
+        ensures { map view result.now ≡ schema_entries (members_view self.now) }
     {
         entries_at(self.members, "schemas")
     }
 
     /// The place of the first entry of `schemas` with this `@id`.
     pub fn position_of_id(&self, id: &str) -> Option<usize>
-        ensures { result ≡ position (has_id id.now) (schemas_in (members_view self.now)) }
+        ensures { result ≡ position (has_id id.now) (schema_entries (members_view self.now)) }
     {
         self.index.get(id).copied()
     }

@@ -4,7 +4,7 @@ ghost use Rattle.std.specs.Prelude.{◌≡◌, ◌↔◌, IsTrue, map};
 ghost use Rattle.std.specs.Option.{option_map};
 ghost use Rattle.json_tree.specs.Values.{object};
 ghost use Rattle.json_tree.specs.View.{view, members_view};
-ghost use Rattle.local_rules.specs.Levels.{IsPrimitive, entries_at, id_in};
+ghost use Rattle.local_rules.specs.Levels.{IsPrimitiveName, entries_at, id_in};
 
 use dtdl_terms::primitive_named;
 use json_tree::{Member, Tree};
@@ -32,7 +32,7 @@ pub fn entries_at<'a>(members: &'a [Member], key: &str) -> &'a [Tree]
 
 /// Whether a text is the name of a primitive schema.
 pub fn is_primitive(name: &str) -> bool
-    ensures { IsTrue result ↔ IsPrimitive name.now }
+    ensures { IsTrue result ↔ IsPrimitiveName name.now }
 {
     match primitive_named(name) {
         Some(_) => true,

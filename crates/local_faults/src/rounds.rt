@@ -2,7 +2,7 @@
 
 ghost use Rattle.std.specs.Prelude.{◌≡◌, ◌<◌, ◌↔◌, ℕ, suc, false, map, length, IsTrue, IfOk, slice_set};
 ghost use Rattle.json_tree.specs.View.{view, members_view};
-ghost use Rattle.local_faults.specs.Machinery.Named.{schemas_in};
+ghost use Rattle.local_faults.specs.Machinery.Named.{schema_entries};
 ghost use Rattle.local_faults.specs.Machinery.Measured.{AreMeasured};
 
 use crate::index::Names;
@@ -36,7 +36,7 @@ fn put(table: &mut [Measure], at: usize, measure: Measure, changed: bool) -> boo
 
 /// Measures each entry anew by the table, and tells whether this changes the table.
 fn round(names: &Names, entries: &[Tree], table: &mut [Measure]) -> bool
-    requires entries { map view entries.now ≡ schemas_in (members_view names.now) }
+    requires entries { map view entries.now ≡ schema_entries (members_view names.now) }
     requires sized { length table.old ≡ length entries.now }
     ensures right { (n : ℕ) → AreMeasured (members_view names.now) n table.old → AreMeasured (members_view names.now) (suc n) table.new }
     ensures same { result ≡ false → table.new ≡ table.old }
@@ -51,7 +51,7 @@ fn round(names: &Names, entries: &[Tree], table: &mut [Measure]) -> bool
 
 /// Measures the entries until the table is right.
 fn settle(names: &Names, entries: &[Tree], table: &mut [Measure])
-    requires entries { map view entries.now ≡ schemas_in (members_view names.now) }
+    requires entries { map view entries.now ≡ schema_entries (members_view names.now) }
     requires sized { length table.old ≡ length entries.now }
     requires begun { AreMeasured (members_view names.now) 0 table.old }
     ensures { AreMeasured (members_view names.now) 6 table.new }

@@ -8,6 +8,7 @@ use Rattle.std.specs.BTreeSet.{BTreeSet, contains}
 use Rattle.std.proofs.lemmas.List.{take_more, map_push}
 use Rattle.std.proofs.lemmas.List.Folds.{list_any-append}
 use Rattle.std.proofs.lemmas.Map.Text.{is_eq-slice_cmp}
+use Rattle.std.proofs.lemmas.Bool.{or_cases}
 use Rattle.json_tree.specs.Values.{Json, text}
 use Rattle.json_tree.specs.View.{view}
 use Rattle.json_tree.specs.declared.tree.Tree.{Tree}
@@ -128,9 +129,6 @@ apart_put s ts i t b m lt e apart is h no_repeat =
     apart_more s ts i apart (repeats_here s ts i t lt e ∙ sym (h ∙ ap (λ (v : Option Json). is_among same_value (map (compared s) (map view (take i ts))) v) is) ∙ no_repeat)
 
 -- ---- buckets
-or_true : (a b : Bool) → (a || b) ≡ true → (a ≡ true) ⊎ (b ≡ true)
-or_true true b e = inl refl
-or_true false b e = inr e
 
 -- one more entry, where what it is compared by has its bucket
 pub put_more : (s : Comparison) (ts : List Tree) (i : ℕ) (t : Tree) (old new : Buckets) (m : Option ComparisonKey)
@@ -140,7 +138,7 @@ put_more s ts i t old new m lt e is all put = λ u found.
     let test : Option Json → Bool = holds_some (λ v. same_value v (text u)) in
     let split : (list_any test (map (compared s) (map view (take i ts))) || test (compared s (view t))) ≡ true =
     sym (ap (λ (vs : List (Option Json)). list_any test vs) (one_more s ts i t lt e) ∙ any_push test (map (compared s) (map view (take i ts))) (compared s (view t))) ∙ found in
-    elim (or_true (list_any test (map (compared s) (map view (take i ts)))) (test (compared s (view t))) split) [
+    elim (or_cases (list_any test (map (compared s) (map view (take i ts)))) (test (compared s (view t))) split) [
       | inl before ↦ put.0 u (all u before)
       | inr here ↦ put.1 u (ap test is ∙ here)
     ]

@@ -1,7 +1,7 @@
 -- Rules on identifiers and names.
 use Rattle.std.specs.Prelude.{◌≡◌, ℕ, ◌<◌, ◌⊎◌, List, nat_eq, length, if◌then◌else◌, IsTrue, codes}
 use Rattle.std.specs.List.{starts_with}
-use Rattle.dtmi_name.specs.Grammar.{NameText, Identifier, HasDtmiForm, is_reserved}
+use Rattle.dt_base.specs.names.Grammar.{NameText, Identifier, HasDtmiForm, is_reserved}
 use Rattle.json_tree.specs.Values.{Json, null, truth, number, text, array, object}
 use Rattle.local_rules.specs.declared.role.Role.{Role}
 use Rattle.local_rules.specs.declared.role.Role.TheVariants as role

@@ -36,14 +36,14 @@ has_id bytes v = holds_some (λ id. bytes_eq id bytes) (id_in v)
 abbrev pub schema_named : Members Number → List ℕ → Option Json
 schema_named ms bytes = find (has_id bytes) (entries_at (codes "schemas") (object ms))
 
-abbrev pub IsPrimitive : List ℕ → Type 0
-IsPrimitive bytes = (p : Primitive) × (primitive_name p ≡ bytes)
+abbrev pub IsPrimitiveName : List ℕ → Type 0
+IsPrimitiveName bytes = (p : Primitive) × (primitive_name p ≡ bytes)
 
 -- A text in the role of a schema is neither a primitive's name nor the `@id` of an entry of this interface's
 -- `schemas`.
 abbrev pub UnknownSchema : Members Number → Role → Json → Type 0
 UnknownSchema ms r v = (part : SchemaUse) × (r ≡ role.Schema part)
-    × OfText (λ bytes. (IsPrimitive bytes → ⊥) × (schema_named ms bytes ≡ None)) v
+    × OfText (λ bytes. (IsPrimitiveName bytes → ⊥) × (schema_named ms bytes ≡ None)) v
 
 -- The kind of schema that an object is, where its `@type` names one.
 abbrev pub schema_type : Json → Option Element
@@ -63,7 +63,7 @@ schema_parts v = parts_by (schema_type v) v
 -- The complex schema that a value is, or that it names: its type and its parts.
 pub record IsComplex (ms : Members Number) (v : Json) (type : Element) (parts : List Json) : Type 0 where
   pub whole : Json
-  pub leads : (v ≡ whole) ⊎ ((bytes : List ℕ) × (v ≡ text bytes) × (IsPrimitive bytes → ⊥) × (schema_named ms bytes ≡ Some whole))
+  pub leads : (v ≡ whole) ⊎ ((bytes : List ℕ) × (v ≡ text bytes) × (IsPrimitiveName bytes → ⊥) × (schema_named ms bytes ≡ Some whole))
   pub typed : schema_type whole ≡ Some type
   pub parted : schema_parts whole ≡ parts
 

@@ -12,4 +12,6 @@ pub mod Repeats
 pub mod Languages
 pub mod Levels
 pub mod Breaches
+pub mod Typed
+pub mod Limits
 pub mod Machinery

@@ -15,16 +15,16 @@ abbrev pub BadValueSchema : Role → Json → Type 0
 BadValueSchema r v = (r ≡ role.ValueSchema) × (v ≢ text (codes "integer")) × (v ≢ text (codes "string"))
 
 -- A whole number of 32 bits.
-abbrev pub IsInteger : Json → Type 0
-IsInteger v = (n : Number) × (z : ℤ) × (v ≡ number n) × FitsSigned w32 z × IsWhole n z
+abbrev pub IsInteger32 : Json → Type 0
+IsInteger32 v = (n : Number) × (z : ℤ) × (v ≡ number n) × FitsSigned w32 z × IsWhole n z
 
-abbrev pub IsString : Json → Type 0
-IsString v = (bytes : List ℕ) × (v ≡ text bytes)
+abbrev pub IsStringValue : Json → Type 0
+IsStringValue v = (bytes : List ℕ) × (v ≡ text bytes)
 
 -- The value is none of the kind that its `valueSchema` asks for.
 abbrev pub IsNoneOf : ValueSchema → Json → Type 0
-IsNoneOf value_schemas.Integer v = IsInteger v → ⊥
-IsNoneOf value_schemas.String v = IsString v → ⊥
+IsNoneOf value_schemas.Integer v = IsInteger32 v → ⊥
+IsNoneOf value_schemas.String v = IsStringValue v → ⊥
 IsNoneOf value_schemas.Neither v = ⊥
 
 abbrev pub BadEnumValue : Role → Json → Type 0

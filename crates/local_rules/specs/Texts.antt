@@ -2,7 +2,7 @@
 use Rattle.std.specs.Prelude.{◌≡◌, ◌≢◌, ℕ, ◌<◌, ◌⊎◌, List, not, ◌&&◌, nat_le, nat_lt, count_by, codes}
 use Rattle.json_tree.specs.Values.{Json, text}
 use Rattle.local_rules.specs.Identifiers.{OfText}
-use Rattle.local_rules.specs.Types.{IsName}
+use Rattle.local_rules.specs.Types.{IsNameValue}
 use Rattle.local_rules.specs.declared.role.Localized.{Localized}
 use Rattle.local_rules.specs.declared.role.Localized.TheVariants as localized
 use Rattle.local_rules.specs.declared.role.Role.{Role}
@@ -34,4 +34,4 @@ BadCommandType r v = (r ≡ role.CommandType) × (v ≢ text (codes "synchronous
 
 -- The unit is not of the name grammar. That units are checked by grammar alone is this project's own.
 abbrev pub BadUnit : Role → Json → Type 0
-BadUnit r v = (r ≡ role.Unit) × (IsName v → ⊥)
+BadUnit r v = (r ≡ role.Unit) × (IsNameValue v → ⊥)

@@ -1,6 +1,6 @@
 -- Rules on `@context` and `@type`.
 use Rattle.std.specs.Prelude.{◌≡◌, ◌≢◌, ℕ, List, [], ◌∷◌, Some, None, filter, is_none, codes}
-use Rattle.dtmi_name.specs.Grammar.{NameText}
+use Rattle.dt_base.specs.names.Grammar.{NameText}
 use Rattle.json_tree.specs.Values.{Json, null, truth, number, text, array, object, no_elements, element}
 use Rattle.local_rules.specs.Members.{list_of}
 use Rattle.local_rules.specs.Roles.{type_in, named_by}
@@ -20,12 +20,12 @@ abbrev pub BadContext : Role → Json → Type 0
 BadContext r v = (r ≡ role.Context) × (v ≢ text dtdl_context) × (v ≢ array (element (text dtdl_context) no_elements))
 
 -- A text of the name grammar.
-abbrev pub IsName : Json → Type 0
-IsName v = (bytes : List ℕ) × (v ≡ text bytes) × NameText bytes
+abbrev pub IsNameValue : Json → Type 0
+IsNameValue v = (bytes : List ℕ) × (v ≡ text bytes) × NameText bytes
 
 -- `@type` names no role; in a payload or an enum entry, it is not of the name grammar.
 abbrev pub NamesNothing : Position → Json → Type 0
-NamesNothing position.Free v = IsName v → ⊥
+NamesNothing position.Free v = IsNameValue v → ⊥
 NamesNothing position.Interface v = type_in position.Interface v ≡ None
 NamesNothing position.Content v = type_in position.Content v ≡ None
 NamesNothing position.Property v = type_in position.Property v ≡ None
@@ -37,8 +37,8 @@ BadType r v = (p : Position) × (r ≡ role.Type p) × NamesNothing p v
 -- One further entry of the name grammar beside the type is the semantic type of a telemetry or a property.
 abbrev pub MayHaveBeside : Element → List Json → Type 0
 MayHaveBeside e [] = Unit {0}
-MayHaveBeside element_kind.Telemetry (v ∷ []) = IsName v
-MayHaveBeside element_kind.Property (v ∷ []) = IsName v
+MayHaveBeside element_kind.Telemetry (v ∷ []) = IsNameValue v
+MayHaveBeside element_kind.Property (v ∷ []) = IsNameValue v
 MayHaveBeside e (v ∷ vs) = ⊥
 
 -- The entries of a list that name no type of the position.

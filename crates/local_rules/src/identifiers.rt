@@ -9,7 +9,7 @@ ghost use Rattle.local_rules.specs.Identifiers.{HasForm, of_element, of_interfac
 use crate::lists::has_too_many_parents;
 use crate::role::Role;
 use crate::rule::LocalRule;
-use dtmi_name::{has_dtmi_form, is_reserved_id};
+use dt_base::names::{has_dtmi_form, is_reserved_id};
 use json_tree::Tree;
 
 /// The most bytes of the identifier of an interface.

@@ -4,7 +4,7 @@ ghost use Rattle.std.specs.Prelude.{◌≡◌, ◌↔◌, IsTrue, codes};
 ghost use Rattle.json_decimal.specs.Decimals.{number_of};
 ghost use Rattle.json_tree.specs.Values.{number as number_value, text};
 ghost use Rattle.json_tree.specs.View.{view};
-ghost use Rattle.local_rules.specs.Quantities.{BadMapKey, BadMultiplicity, BadValueSchema, IsInteger, IsMultiplicity, IsNoneOf, IsString};
+ghost use Rattle.local_rules.specs.Quantities.{BadMapKey, BadMultiplicity, BadValueSchema, IsInteger32, IsMultiplicity, IsNoneOf, IsStringValue};
 
 use crate::role::{Role, SchemaUse, ValueSchema};
 use crate::texts::is_text;
@@ -21,7 +21,7 @@ pub fn is_bad_value_schema(tree: &Tree) -> bool
 /// Whether a value is a whole number of 32 bits.
 #[tactic(auto, using(crate::proofs::Views::views))]
 fn is_integer(tree: &Tree) -> bool
-    ensures { IsTrue result ↔ IsInteger (view tree.now) }
+    ensures { IsTrue result ↔ IsInteger32 (view tree.now) }
 {
     match tree {
         Tree::Number(number) => is_small(number),
@@ -31,7 +31,7 @@ fn is_integer(tree: &Tree) -> bool
 
 /// Whether a number is a whole one of 32 bits.
 fn is_small(number: &Decimal) -> bool
-    ensures { IsTrue result ↔ IsInteger (number_value (number_of number.now)) }
+    ensures { IsTrue result ↔ IsInteger32 (number_value (number_of number.now)) }
 {
     match number.as_i32() {
         Some(_) => true,
@@ -42,7 +42,7 @@ fn is_small(number: &Decimal) -> bool
 /// Whether a value is a text.
 #[tactic(auto, using(crate::proofs::Views::views))]
 fn is_string(tree: &Tree) -> bool
-    ensures { IsTrue result ↔ IsString (view tree.now) }
+    ensures { IsTrue result ↔ IsStringValue (view tree.now) }
 {
     match tree {
         Tree::Text(_) => true,

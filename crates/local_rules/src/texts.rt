@@ -1,18 +1,18 @@
 //! The rules on names, comments, localized texts, units and command types.
 
 ghost use Rattle.std.specs.Prelude.{◌≡◌, ◌↔◌, ◌<◌, IsTrue, codes};
-ghost use Rattle.dtmi_name.specs.Grammar.{NameText};
+ghost use Rattle.dt_base.specs.names.Grammar.{NameText};
 ghost use Rattle.json_tree.specs.Values.{text};
 ghost use Rattle.json_tree.specs.View.{view};
 ghost use Rattle.local_rules.specs.Identifiers.{OfText};
 ghost use Rattle.local_rules.specs.Breaches.{BreaksAlone};
 ghost use Rattle.local_rules.specs.Machinery.Firsts.{IsFirstAmong, further_rules};
 ghost use Rattle.local_rules.specs.Texts.{BadCommandType, BadUnit, LongComment, scalar_values};
-ghost use Rattle.local_rules.specs.Types.{IsName};
+ghost use Rattle.local_rules.specs.Types.{IsNameValue};
 
 use crate::role::{Localized, Role};
 use crate::rule::LocalRule;
-use dtmi_name::is_name as is_name_text;
+use dt_base::names::is_name as is_name_text;
 use json_tree::Tree;
 
 /// The most scalar values of a text of `displayName`.
@@ -35,7 +35,7 @@ pub fn is_text(tree: &Tree, wanted: &str) -> bool
 /// Whether a value is a text of the name grammar.
 #[tactic(auto, using(crate::proofs::Views::views))]
 pub fn is_name(tree: &Tree) -> bool
-    ensures { IsTrue result ↔ IsName (view tree.now) }
+    ensures { IsTrue result ↔ IsNameValue (view tree.now) }
 {
     match tree {
         Tree::Text(text) => is_name_text(text.as_str()),

@@ -4,10 +4,10 @@ ghost use Rattle.std.specs.Prelude.{IfOk};
 ghost use Rattle.graph_steps.specs.Soundness.{AreSoundUploads, IsModelOf};
 
 use dt_base::List;
+use dt_base::names::Dtmi;
 use dtdl_terms::Uploaded;
-use dtmi_name::Dtmi;
 use graph_asks::{At, Refusal, Reply};
-use graph_steps::documents_are_sound;
+use graph_routes::documents_are_sound;
 use json_tree::print;
 use model_read::read_interfaces;
 use std::alloc::Global;

@@ -3,8 +3,8 @@
 
 use crate::plain::Kept;
 use dt_base::Text;
+use dt_base::names::Dtmi;
 use dtdl_terms::{ContentKind, Interface, Uploaded};
-use dtmi_name::Dtmi;
 use graph_asks::{At, Refusal};
 use std::alloc::Global;
 use std::test::Fail;

@@ -2,9 +2,9 @@
 
 use crate::judged::{first_fault, uses};
 use canon_text::{canon, canon_tree};
+use dt_base::names::Dtmi;
 use dt_base::{List, Text};
 use dtdl_terms::{Interface, Uploaded};
-use dtmi_name::Dtmi;
 use graph_asks::{Ask, Refusal, Reply};
 use json_tree::{Member, Tree};
 use std::alloc::Global;

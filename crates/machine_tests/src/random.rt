@@ -1,13 +1,13 @@
 //! Random asks.
 
 ghost use Rattle.std.specs.Prelude.{IfOk, ◌<◌};
-ghost use Rattle.graph_steps.specs.Soundness.{AreSoundUploads, IsModelOf, IsSound};
+ghost use Rattle.graph_steps.specs.Soundness.{AreSoundUploads, IsModelOf, IsSoundAsk};
 
 use crate::asks::{model_id, uploads};
 use crate::plain::Plain;
+use dt_base::names::Dtmi;
 use dt_base::{List, Object};
 use dtdl_terms::Uploaded;
-use dtmi_name::Dtmi;
 use graph_asks::{Ask, Reply};
 use graph_machine::Machine;
 use std::alloc::{AllocError, Global};
@@ -86,7 +86,7 @@ impl Draws {
     }
 
     fn ask(&mut self, rt: &impl Abort, alloc: Global) -> Result<Ask, Fail>
-        ensures { IfOk result IsSound }
+        ensures { IfOk result IsSoundAsk }
     {
         match self.below(10) {
             0..=3 => {

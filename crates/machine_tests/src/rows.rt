@@ -1,6 +1,6 @@
 //! The models of a building: asked for, marked and dropped.
 
-ghost use Rattle.graph_steps.specs.Soundness.{IsSound};
+ghost use Rattle.graph_steps.specs.Soundness.{IsSoundAsk};
 
 use crate::asks::{model_id, shown, uploads};
 use dt_base::Object;
@@ -35,7 +35,7 @@ fn answers(
     ask: &Ask,
     text: &str,
 ) -> Result<(), Fail>
-    requires { IsSound ask.now }
+    requires { IsSoundAsk ask.now }
 {
     let reply = machine.step(ask)?;
     let reply = shown(alloc, &reply)?;

@@ -18,7 +18,7 @@ use Rattle.dtdl_terms.specs.declared.uploaded.Uploaded.{Uploaded}
 use Rattle.model_read.specs.Uploads.{IsUploadedAt}
 use Rattle.json_batches.specs.Batches.{batch_text, rest_text}
 use Rattle.model_batches.specs.Faultless.{IsFaultless}
-use Rattle.model_batches.specs.Machinery.Placed.{AreBefore, AreRead, Declares, IsBatch, IsPlaced, IsUnbrokenElement, numbered}
+use Rattle.model_batches.specs.Machinery.Placed.{AreBefore, AreReadElements, DeclaresUploads, IsBatch, IsPlaced, IsUnbrokenElement, numbered}
 use Rattle.model_batches.proofs.Elements.{all_append, enumerated_append, from_each, some_append, to_each, zipped_append}
 use Rattle.model_batches.proofs.Numbered.{all_placed}
 
@@ -51,7 +51,7 @@ uploaded_in whole nth n (v ∷ vs) (u ∷ us) there all =
 
 -- the interfaces of one more batch
 pub read_more : (bytes : List ℕ) (nth : ℕ) (vs ws : List Json) (us more : List Uploaded) → length us + length more ≤ 2 ^ 64
-    → AreRead nth vs us → IsBatch bytes nth ws more → AreRead nth (vs ++ ws) (us ++ numbered (length us) more)
+    → AreReadElements nth vs us → IsBatch bytes nth ws more → AreReadElements nth (vs ++ ws) (us ++ numbered (length us) more)
 read_more bytes nth vs ws us more small r b =
     let long : length us ≡ length vs = AllZip-long (IsPlaced nth) (enumerate_from 0 vs) us r.placed ∙ length-enumerate_from 0 vs in
     let at : length us ≡ 0 + length vs = omega (arith, long) in
@@ -65,7 +65,7 @@ read_more bytes nth vs ws us more small r b =
     }
 
 -- the interfaces of all elements
-pub whole_read : (bytes : List ℕ) (nth : ℕ) (vs : List Json) (us : List Uploaded) → Spells bytes (array (elements_of vs)) → AreRead nth vs us
+pub whole_read : (bytes : List ℕ) (nth : ℕ) (vs : List Json) (us : List Uploaded) → Spells bytes (array (elements_of vs)) → AreReadElements nth vs us
     → IsFaultless bytes nth us
 whole_read bytes nth vs us spelled r = (
   array (elements_of vs),
@@ -88,16 +88,16 @@ some_mapped [] some e = some refl
 some_mapped (t ∷ ts) some e = cc
 
 pub batch_found : {E : Type 0} (bytes : List ℕ) (nth : ℕ) (v : Json) (ts : List Tree) (r : Result (Option (List Uploaded)) E) → v ≡ array (elements_view ts)
-    → ts ≢ [] → Spells bytes v → IfOk r (λ found. IfSome found (Declares v nth)) → IfOk r (λ found. IfSome found (λ us. (vs : List Json) × IsBatch bytes nth vs us))
-batch_found bytes nth v ts r is some spelled = found_weaker (Declares v nth) (λ us. (vs : List Json) × IsBatch bytes nth vs us) r (λ us declares.
-    let d = subst (λ (w : Json). Declares w nth us) is declares in (
+    → ts ≢ [] → Spells bytes v → IfOk r (λ found. IfSome found (DeclaresUploads v nth)) → IfOk r (λ found. IfSome found (λ us. (vs : List Json) × IsBatch bytes nth vs us))
+batch_found bytes nth v ts r is some spelled = found_weaker (DeclaresUploads v nth) (λ us. (vs : List Json) × IsBatch bytes nth vs us) r (λ us declares.
+    let d = subst (λ (w : Json). DeclaresUploads w nth us) is declares in (
       map view ts,
       record { some = some_mapped ts some; spelled = subst (Spells bytes) is spelled; unbroken = d.0; declares = d.1 },
     ))
 
 pub whole_found : {E : Type 0} (bytes : List ℕ) (nth : ℕ) (v : Json) (r : Result (Option (List Uploaded)) E) → Spells bytes v
-    → IfOk r (λ found. IfSome found (Declares v nth)) → IfOk r (λ found. IfSome found (IsFaultless bytes nth))
-whole_found bytes nth v r spelled = found_weaker (Declares v nth) (IsFaultless bytes nth) r (λ us declares. (v, spelled, declares.0, declares.1))
+    → IfOk r (λ found. IfSome found (DeclaresUploads v nth)) → IfOk r (λ found. IfSome found (IsFaultless bytes nth))
+whole_found bytes nth v r spelled = found_weaker (DeclaresUploads v nth) (IsFaultless bytes nth) r (λ us declares. (v, spelled, declares.0, declares.1))
 
 -- ---- the elements before a position
 pub more_before : (bytes : List ℕ) (at next : ℕ) (vs ws : List Json) → AreBefore bytes at vs → ws ≢ []

@@ -2,7 +2,7 @@
 
 ghost use Rattle.std.specs.Prelude.{◌≡◌, ◌<◌, ◌≤◌, ◌++◌, ℕ, List, length, slice_index, IfOk, IfSome, OnOk};
 ghost use Rattle.json_tree.specs.Values.{Json};
-ghost use Rattle.model_batches.specs.Machinery.Placed.{AreRead, IsBatch, IsNext, numbered, standing_at};
+ghost use Rattle.model_batches.specs.Machinery.Placed.{AreReadElements, IsBatch, IsNextBatch, numbered, standing_at};
 
 use crate::parts::{uploads_of, value_of};
 use dt_base::{List, OutOfMemory, Text};
@@ -76,7 +76,7 @@ fn batch_between(
     requires forward { at ≤ end }
     requires within { end ≤ length bytes.now }
     requires comma { end < length bytes.now → slice_index bytes.now end ≡ 44 }
-    ensures { IfOk result (λ found. IfSome found (λ batch. IsNext bytes.now document at batch.end batch.uploads)) }
+    ensures { IfOk result (λ found. IfSome found (λ batch. IsNextBatch bytes.now document at batch.end batch.uploads)) }
 {
     let mut text = Vec::new(alloc);
     put_batch(&mut text, bytes, at, end)?;
@@ -111,7 +111,7 @@ pub(crate) fn next_batch(
     guesses: &mut bool,
 ) -> Result<Option<Batch>, OutOfMemory>
     requires { at ≤ length bytes.now }
-    ensures { IfOk result (λ found. IfSome found (λ batch. IsNext bytes.now document at batch.end batch.uploads)) }
+    ensures { IfOk result (λ found. IfSome found (λ batch. IsNextBatch bytes.now document at batch.end batch.uploads)) }
 {
     let first = first_end(bytes, at, *guesses);
     if let Some(batch) = batch_between(alloc, bytes, document, at, first)? {
@@ -131,8 +131,8 @@ pub(crate) fn add_batch(
     uploads: &mut Vec<Uploaded>,
     more: List<Uploaded>,
 ) -> Result<(), OutOfMemory>
-    ensures { OnOk result ((text : List ℕ) (document : ℕ) (before vs : List Json) → AreRead document before uploads.old.items
-        → IsBatch text document vs more → AreRead document (before ++ vs) uploads.new.items) }
+    ensures { OnOk result ((text : List ℕ) (document : ℕ) (before vs : List Json) → AreReadElements document before uploads.old.items
+        → IsBatch text document vs more → AreReadElements document (before ++ vs) uploads.new.items) }
 {
     put_behind(alloc, uploads, more)?;
     Ok(())

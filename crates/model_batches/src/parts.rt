@@ -3,7 +3,7 @@
 ghost use Rattle.std.specs.Prelude.{IfOk, IfSome};
 ghost use Rattle.json_tree.specs.Grammar.{Spells};
 ghost use Rattle.json_tree.specs.View.{view};
-ghost use Rattle.model_batches.specs.Machinery.Placed.{Declares};
+ghost use Rattle.model_batches.specs.Machinery.Placed.{DeclaresUploads};
 
 use dt_base::{List, OutOfMemory};
 use dtdl_terms::Uploaded;
@@ -29,7 +29,7 @@ pub(crate) fn uploads_of(
     tree: &Tree,
     document: u32,
 ) -> Result<Option<List<Uploaded>>, OutOfMemory>
-    ensures { IfOk result (λ found. IfSome found (Declares (view tree.now) document)) }
+    ensures { IfOk result (λ found. IfSome found (DeclaresUploads (view tree.now) document)) }
 {
     match read_interfaces(alloc, tree, document) {
         Ok(uploads) => Ok(Some(uploads)),

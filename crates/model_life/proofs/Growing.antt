@@ -8,7 +8,8 @@ use Rattle.std.specs.Map.{lookup, values_of}
 use Rattle.std.specs.BTreeMap.{insert_entry}
 use Rattle.std.proofs.lemmas.Option.{none-some}
 use Rattle.std.proofs.lemmas.Slice.Eq.{bytes_eq-Decides}
-use Rattle.dtmi_name.specs.Grammar.{Identifier, dtmi_text, id_cmp, id_eq}
+use Rattle.std.proofs.lemmas.Bool.{or_cases}
+use Rattle.dt_base.specs.names.Grammar.{Identifier, dtmi_text, id_cmp, id_eq}
 use Rattle.dtdl_terms.specs.Sets.{keyed, InOrder, interface_at, with_interface}
 use Rattle.dtdl_terms.specs.Terms.{KindTerm, telemetry, property, command, relationship, component}
 use Rattle.dtdl_terms.specs.TermViews.{kind_term}
@@ -18,15 +19,15 @@ use Rattle.dtdl_terms.specs.declared.uploaded.Uploaded.{Uploaded}
 use Rattle.dtdl_terms.proofs.Keyed.{values-keyed}
 use Rattle.extend_resolve.proofs.Members.{all_at, mapped_at, unmapped_at}
 use Rattle.extend_resolve.proofs.Within.{placed_from_any}
-use Rattle.model_resolve.specs.Resolving.{LacksNone}
-use Rattle.model_resolve.specs.Machinery.Families.{IsThere}
-use Rattle.model_resolve.proofs.ByKey.{C}
-use Rattle.model_resolve.proofs.Families.{listed, spelled}
-use Rattle.set_laws.specs.Changing.{with_uploads, is_one_of, without_interfaces, AreApart}
-use Rattle.set_laws.proofs.Apart.{there_apart, contains_head, contains_tail}
-use Rattle.set_laws.proofs.Looking.{AreAbsent, or_else, at_append, at_text, at_without, ordered_without, uploads_same, same_set}
-use Rattle.model_life.specs.Models.{Model, model_of, by_id, with_model, with_models, without_models, is_component, uses}
-use Rattle.model_life.specs.Machinery.Keeping.{record_at, is_marked, mark_at, models_of, fresh, IsRecord, RecordOf, HaveTexts, Users, UsersAreWithin, user_at, use_of, Fits}
+use Rattle.model_life.specs.resolution.Resolving.{LacksNone}
+use Rattle.model_life.specs.resolution.Machinery.Families.{IsThere}
+use Rattle.model_life.proofs.resolution.ByKey.{C}
+use Rattle.model_life.proofs.resolution.Families.{listed, spelled}
+use Rattle.model_life.specs.sets.Changing.{with_uploads, is_one_of, without_interfaces, HaveDistinctIds}
+use Rattle.model_life.proofs.sets.Apart.{there_apart, contains_head, contains_tail}
+use Rattle.model_life.proofs.sets.Looking.{AreAbsent, or_else, at_append, at_text, at_without, ordered_without, uploads_same, same_set}
+use Rattle.model_life.specs.Models.{Model, model_of, by_id, with_model, with_new_models, without_models, is_component, uses}
+use Rattle.model_life.specs.Machinery.Keeping.{record_at, is_marked, record_mark_at, models_of, fresh_record, IsRecord, RecordOf, HaveTexts, Users, UsersAreWithin, user_at, use_of, RecordsFit}
 use Rattle.model_life.specs.declared.records.Record.{Record}
 use Rattle.model_life.proofs.Seen.{Records, seen}
 
@@ -80,7 +81,7 @@ pub models_same : (set : List Interface) (es new : Records) → ((q : Identifier
 models_same [] es new same = refl
 models_same (i ∷ is) es new same = ap (λ o. model_of i (is_marked o) ∷ models_of is new) (same i.id) ∙ ap (λ ms. seen es i ∷ ms) (models_same is es new same)
 
-pub fits_same : (set now : List Interface) (es new : Records) (us vs : Users) → now ≡ set → ((q : Identifier) → record_at q new ≡ record_at q es) → ((t u : Identifier) → user_at t u vs ≡ user_at t u us) → Fits set es us → Fits now new vs
+pub fits_same : (set now : List Interface) (es new : Records) (us vs : Users) → now ≡ set → ((q : Identifier) → record_at q new ≡ record_at q es) → ((t u : Identifier) → user_at t u vs ≡ user_at t u us) → RecordsFit set es us → RecordsFit now new vs
 fits_same set now es new us vs is same alike fits = record {
   records = λ q. subst (λ o. RecordOf o (record_at q new)) (sym (ap (interface_at q) is)) (subst (RecordOf (interface_at q set)) (sym (same q)) (fits.records q));
   users = λ t u. alike t u ∙ fits.users t u ∙ sym (ap (λ s. use_of t (interface_at u s)) is);
@@ -108,13 +109,9 @@ some_of : {X : Type 0} (o : Option X) → (o ≡ None → ⊥) → IsSome o
 some_of None h = absurd (h refl)
 some_of (Some x) h = refl
 
-either : (a b : Bool) → (a || b) ≡ true → (a ≡ true) ⊎ (b ≡ true)
-either true b h = inl refl
-either false b h = inr h
-
 pub used_there : (set : List Interface) → LacksNone set → (i : Interface) (t : Identifier) → IsThere set i → uses t i ≡ true → IsSome (interface_at t set)
 used_there set whole i t there used =
-    elim (either (list_any (id_eq t) i.parents) (list_any (λ c. is_component t (kind_term c.kind)) i.contents) used) [
+    elim (or_cases (list_any (id_eq t) i.parents) (list_any (λ c. is_component t (kind_term c.kind)) i.contents) used) [
       | inl h ↦
           let one = placed_from_any (id_eq t) i.parents h in
           subst IsSome (sym (at_text t one.1 set ((bytes_eq-Decides (dtmi_text t) (dtmi_text one.1)).0 one.3))) (some_of (interface_at one.1 set) (λ none. (whole i one.0 there).0 (one.1, one.2, none)))
@@ -136,7 +133,7 @@ record_text : (a b : Identifier) (es : Records) → dtmi_text a ≡ dtmi_text b 
 record_text a b es e = ap (λ t. lookup (λ (k : Identifier). is_eq (C t (dtmi_text k))) es) e
 
 -- ---- the larger set
-module _ (us : List Uploaded) (set : List Interface) (absent : AreAbsent set us) (apart : AreApart (map interface_of us)) where
+module _ (us : List Uploaded) (set : List Interface) (absent : AreAbsent set us) (apart : HaveDistinctIds (map interface_of us)) where
   pub upload_there : (k : ℕ) (u : Uploaded) → slice_get us k ≡ Some u → interface_at u.interface.id (with_uploads us set) ≡ Some u.interface
   upload_there k u at =
       sym (uploads_same us set absent apart u.interface.id)
@@ -144,7 +141,7 @@ module _ (us : List Uploaded) (set : List Interface) (absent : AreAbsent set us)
       ∙ ap (λ o. or_else o (interface_at u.interface.id (map interface_of us))) (all_at (λ v. interface_at v.interface.id set ≡ None) us k u absent at)
       ∙ there_apart (map interface_of us) apart k u.interface (mapped_at interface_of us k u at)
 
-  pub joined_records : (es new : Records) → AreRecords set es → AllByRecursion (λ u. record_at u.interface.id new ≡ Some (fresh u.interface)) us → ((q : Identifier) → is_one_of (map id_of us) q ≡ false → interface_at q (with_uploads us set) ≡ interface_at q set)
+  pub joined_records : (es new : Records) → AreRecords set es → AllByRecursion (λ u. record_at u.interface.id new ≡ Some (fresh_record u.interface)) us → ((q : Identifier) → is_one_of (map id_of us) q ≡ false → interface_at q (with_uploads us set) ≡ interface_at q set)
       → ((q : Identifier) → is_one_of (map id_of us) q ≡ false → record_at q new ≡ record_at q es) → AreRecords (with_uploads us set) new
   joined_records es new fits put others same q = by (is_one_of (map id_of us) q) refl
     where
@@ -153,9 +150,9 @@ module _ (us : List Uploaded) (set : List Interface) (absent : AreAbsent set us)
           let one = placed_from_any (id_eq q) (map id_of us) e in
           let u = unmapped_at id_of us one.0 one.1 one.2 in
           let text : dtmi_text q ≡ dtmi_text u.0.interface.id = (bytes_eq-Decides (dtmi_text q) (dtmi_text one.1)).0 one.3 ∙ ap dtmi_text (sym u.2) in
-          let r : IsRecord u.0.interface (fresh u.0.interface) = record { text = refl; bytes = refl } in
+          let r : IsRecord u.0.interface (fresh_record u.0.interface) = record { text = refl; bytes = refl } in
           subst (λ o. RecordOf o (record_at q new)) (sym (at_text q u.0.interface.id (with_uploads us set) text ∙ upload_there one.0 u.0 u.1))
-          (subst (RecordOf (Some u.0.interface)) (sym (record_text q u.0.interface.id new text ∙ all_at (λ v. record_at v.interface.id new ≡ Some (fresh v.interface)) us one.0 u.0 put u.1)) r)
+          (subst (RecordOf (Some u.0.interface)) (sym (record_text q u.0.interface.id new text ∙ all_at (λ v. record_at v.interface.id new ≡ Some (fresh_record v.interface)) us one.0 u.0 put u.1)) r)
       by false e = subst (λ o. RecordOf o (record_at q new)) (sym (others q e)) (subst (RecordOf (interface_at q set)) (sym (same q e)) (fits q))
 
   pub within_joined : (old : Users) → ((t u : Identifier) → user_at t u old ≡ use_of t (interface_at u set)) → ((q : Identifier) → is_one_of (map id_of us) q ≡ false → interface_at q (with_uploads us set) ≡ interface_at q set) → UsersAreWithin (with_uploads us set) old
@@ -189,23 +186,23 @@ module _ (g : Identifier → Bool) where
         | Greater ↦ ap (λ ms. by_mark j ∷ ms) (with_one i off js)
       ]
 
-  with_all : (us : List Uploaded) (set : List Interface) → AllByRecursion (λ u. g u.interface.id ≡ false) us → with_models us (map by_mark set) ≡ map by_mark (with_uploads us set)
+  with_all : (us : List Uploaded) (set : List Interface) → AllByRecursion (λ u. g u.interface.id ≡ false) us → with_new_models us (map by_mark set) ≡ map by_mark (with_uploads us set)
   with_all [] set off = refl
-  with_all (u ∷ us) set off = ap (with_models us) (with_one u.interface off.0 set) ∙ with_all us (with_interface u.interface set) off.1
+  with_all (u ∷ us) set off = ap (with_new_models us) (with_one u.interface off.0 set) ∙ with_all us (with_interface u.interface set) off.1
 
 map_same_on : (f g : Interface → Model) (is : List Interface) → ((i : Interface) → Contains is i → f i ≡ g i) → map f is ≡ map g is
 map_same_on f g [] h = refl
 map_same_on f g (i ∷ is) h = ap (λ m. m ∷ map f is) (h i (contains_head i is)) ∙ ap (λ ms. g i ∷ ms) (map_same_on f g is (λ j c. h j (contains_tail i is j c)))
 
-unmarked : (us : List Uploaded) (new : Records) → AllByRecursion (λ u. record_at u.interface.id new ≡ Some (fresh u.interface)) us → AllByRecursion (λ u. mark_at u.interface.id new ≡ false) us
+unmarked : (us : List Uploaded) (new : Records) → AllByRecursion (λ u. record_at u.interface.id new ≡ Some (fresh_record u.interface)) us → AllByRecursion (λ u. record_mark_at u.interface.id new ≡ false) us
 unmarked [] new all = tt
 unmarked (u ∷ us) new all = (ap is_marked all.0, unmarked us new all.1)
 
-pub joined_models : (us : List Uploaded) (set : List Interface) (es new : Records) → InOrder set → AreAbsent set us → AllByRecursion (λ u. record_at u.interface.id new ≡ Some (fresh u.interface)) us
-    → ((q : Identifier) → is_one_of (map id_of us) q ≡ false → record_at q new ≡ record_at q es) → models_of (with_uploads us set) new ≡ with_models us (models_of set es)
+pub joined_models : (us : List Uploaded) (set : List Interface) (es new : Records) → InOrder set → AreAbsent set us → AllByRecursion (λ u. record_at u.interface.id new ≡ Some (fresh_record u.interface)) us
+    → ((q : Identifier) → is_one_of (map id_of us) q ≡ false → record_at q new ≡ record_at q es) → models_of (with_uploads us set) new ≡ with_new_models us (models_of set es)
 joined_models us set es new sorted absent put same =
-    sym (with_all (λ id. mark_at id new) us set (unmarked us new put))
-    ∙ ap (with_models us) (map_same_on (seen new) (seen es) set (λ i c. ap (λ o. model_of i (is_marked o)) (same i.id (other i ((listed set sorted i).0 c)))))
+    sym (with_all (λ id. record_mark_at id new) us set (unmarked us new put))
+    ∙ ap (with_new_models us) (map_same_on (seen new) (seen es) set (λ i c. ap (λ o. model_of i (is_marked o)) (same i.id (other i ((listed set sorted i).0 c)))))
   where
     other : (i : Interface) → IsThere set i → is_one_of (map id_of us) i.id ≡ false
     other i there =
@@ -226,7 +223,7 @@ left_models ids (i ∷ is) es new gone =
     ] refl
 
 pub left_fits : (ids : List Identifier) (set : List Interface) (es new : Records) (us vs : Users) → ((q : Identifier) → record_at q new ≡ cond (is_one_of ids q) None (record_at q es)) → ((t u : Identifier) → user_at t u vs ≡ cond (is_one_of ids u) None (user_at t u us))
-    → Fits set es us → Fits (without_interfaces ids set) new vs
+    → RecordsFit set es us → RecordsFit (without_interfaces ids set) new vs
 left_fits ids set es new us vs gone left fits = record {
   records = λ q. subst (λ o. RecordOf o (record_at q new)) (sym (at_without ids set q)) (subst (RecordOf (cond (is_one_of ids q) None (interface_at q set))) (sym (gone q)) (both (is_one_of ids q) q));
   users = λ t u. left t u ∙ ap (cond (is_one_of ids u) None) (fits.users t u) ∙ turned (is_one_of ids u) t (interface_at u set) ∙ sym (ap (use_of t) (at_without ids set u));

@@ -10,7 +10,8 @@ use Rattle.std.proofs.lemmas.Option.{same_Some, none-some}
 use Rattle.std.proofs.lemmas.List.Sums.{sum_by-cons}
 use Rattle.std.proofs.lemmas.Map.Lookups.{exact_bytes}
 use Rattle.std.proofs.lemmas.Slice.Eq.{bytes_eq-Decides}
-use Rattle.dtmi_name.specs.Grammar.{Identifier, dtmi_text, id_cmp, id_eq}
+use Rattle.std.proofs.lemmas.Bool.{or_right}
+use Rattle.dt_base.specs.names.Grammar.{Identifier, dtmi_text, id_cmp, id_eq}
 use Rattle.dtdl_terms.specs.Distinct.{HasDeclaration}
 use Rattle.dtdl_terms.specs.Sets.{keyed, InOrder, interface_at, with_interface}
 use Rattle.dtdl_terms.specs.declared.interface.Interface.{Interface}
@@ -18,17 +19,17 @@ use Rattle.dtdl_terms.specs.declared.uploaded.Uploaded.{Uploaded}
 use Rattle.dtdl_terms.proofs.Keyed.{values-keyed}
 use Rattle.extend_resolve.specs.Breaches.{BreaksNoRule, IsSound}
 use Rattle.extend_resolve.proofs.Members.{unmapped_at, contains_placed}
-use Rattle.model_resolve.specs.Resolving.{IsWithin, LacksNone}
-use Rattle.model_resolve.specs.Machinery.Families.{IsThere}
-use Rattle.model_resolve.proofs.Families.{listed, stands}
-use Rattle.model_resolve.proofs.Declared.{get_placed}
-use Rattle.model_resolve.proofs.Changes.{lacks_none}
-use Rattle.set_laws.specs.Changing.{with_uploads, is_one_of, without_interfaces, AreApart, AreFree}
-use Rattle.set_laws.proofs.Looking.{AreAbsent, or_else, at_append, eq_tests, one_text_of, uploads_ordered, uploads_same}
-use Rattle.set_laws.proofs.Sound.{new_apart, with_sound}
-use Rattle.model_life.specs.Models.{Model, model_of, by_id, with_model, with_models, without_models}
+use Rattle.model_life.specs.resolution.Resolving.{IsWithin, LacksNone}
+use Rattle.model_life.specs.resolution.Machinery.Families.{IsThere}
+use Rattle.model_life.proofs.resolution.Families.{listed, stands}
+use Rattle.model_life.proofs.resolution.Declared.{get_placed}
+use Rattle.model_life.proofs.resolution.Changes.{lacks_none}
+use Rattle.model_life.specs.sets.Changing.{with_uploads, is_one_of, without_interfaces, HaveDistinctIds, AreFree}
+use Rattle.model_life.proofs.sets.Looking.{AreAbsent, or_else, at_append, eq_tests, one_text_of, uploads_ordered, uploads_same}
+use Rattle.model_life.proofs.sets.Sound.{new_apart, with_sound}
+use Rattle.model_life.specs.Models.{Model, model_of, by_id, with_model, with_new_models, without_models}
 use Rattle.model_life.specs.Sums.{text_bytes, bytes_in, bytes_of, model_bytes}
-use Rattle.model_life.specs.Machinery.Keeping.{record_at, models_of, recorded, share_of, share_in, share_at, Written, written_at, AreWritten, Users, user_at, Fits, IsKept}
+use Rattle.model_life.specs.Machinery.Keeping.{record_at, models_of, recorded, share_of, share_in, share_at, Written, written_at, AreWritten, Users, user_at, RecordsFit, IsKept}
 use Rattle.model_life.proofs.Seen.{Records, seen}
 use Rattle.model_life.proofs.Taking.{sum_map, sum_same, sum_with_all, recorded_is, share_same}
 use Rattle.model_life.proofs.Whole.{length_seen, bytes_seen}
@@ -75,10 +76,6 @@ or_none : (o : Option Interface) → or_else o None ≡ o
 or_none None = refl
 or_none (Some i) = refl
 
-or_right : (a b : Bool) → b ≡ true → (a || b) ≡ true
-or_right true b h = refl
-or_right false b h = h
-
 one_at : (us : List Uploaded) (k : ℕ) (u : Uploaded) → slice_get us k ≡ Some u → is_one_of (map id_of us) u.interface.id ≡ true
 one_at [] k u at = absurd (none-some u at)
 one_at (v ∷ us) zero u at =
@@ -105,7 +102,7 @@ gone_one ids i on (n ∷ ns) =
     values_plain [] = refl
     values_plain (m ∷ ms) = ap (λ xs. m ∷ xs) (values_plain ms)
 
-gone_all : (ids : List Identifier) (us : List Uploaded) (ms : List Model) → AllByRecursion (λ u. is_one_of ids u.interface.id ≡ true) us → without_models ids (with_models us ms) ≡ without_models ids ms
+gone_all : (ids : List Identifier) (us : List Uploaded) (ms : List Model) → AllByRecursion (λ u. is_one_of ids u.interface.id ≡ true) us → without_models ids (with_new_models us ms) ≡ without_models ids ms
 gone_all ids [] ms on = refl
 gone_all ids (u ∷ us) ms on = gone_all ids us (with_model u.interface ms) on.1 ∙ gone_one ids u.interface on.0 ms
 
@@ -115,7 +112,7 @@ none_gone ids (i ∷ is) es off = ap (λ b. cond (not b) (seen es i ∷ without_
 
 -- ---- uploads that join
 module _ (us : List Uploaded) (ids : List Identifier) (set : List Interface) (es : Records) (users : Users) (ws : Written) (bytes resolved : ℕ) (kept : IsKept set es users ws bytes resolved) (of : ids ≡ map id_of us) (absent : AreAbsent set us) (sound : IsSound set us) where
-  pub joined_apart : AreApart (map interface_of us)
+  pub joined_apart : HaveDistinctIds (map interface_of us)
   joined_apart = new_apart set us kept.ordered absent sound
 
   pub joined_rules : BreaksNoRule (with_uploads us set)
@@ -166,10 +163,10 @@ module _ (us : List Uploaded) (ids : List Identifier) (set : List Interface) (es
       by i there true e = absurd (none-some i (sym (absent_id i.id e) ∙ there))
       by i there false e = e
 
-  pub back_fits : (grown new : Records) (more left : Users) → Fits (with_uploads us set) grown more → ((q : Identifier) → record_at q new ≡ cond (is_one_of ids q) None (record_at q grown)) → ((t u : Identifier) → user_at t u left ≡ cond (is_one_of ids u) None (user_at t u more)) → Fits set new left
-  back_fits grown new more left fits gone out = subst (λ s. Fits s new left) back (left_fits ids (with_uploads us set) grown new more left gone out fits)
+  pub back_fits : (grown new : Records) (more left : Users) → RecordsFit (with_uploads us set) grown more → ((q : Identifier) → record_at q new ≡ cond (is_one_of ids q) None (record_at q grown)) → ((t u : Identifier) → user_at t u left ≡ cond (is_one_of ids u) None (user_at t u more)) → RecordsFit set new left
+  back_fits grown new more left fits gone out = subst (λ s. RecordsFit s new left) back (left_fits ids (with_uploads us set) grown new more left gone out fits)
 
-  pub back_models : (grown new : Records) → models_of (with_uploads us set) grown ≡ with_models us (models_of set es) → ((q : Identifier) → record_at q new ≡ cond (is_one_of ids q) None (record_at q grown)) → models_of (without_interfaces ids (with_uploads us set)) new ≡ models_of set es
+  pub back_models : (grown new : Records) → models_of (with_uploads us set) grown ≡ with_new_models us (models_of set es) → ((q : Identifier) → record_at q new ≡ cond (is_one_of ids q) None (record_at q grown)) → models_of (without_interfaces ids (with_uploads us set)) new ≡ models_of set es
   back_models grown new view gone =
       left_models ids (with_uploads us set) grown new gone
       ∙ ap (without_models ids) view
@@ -183,7 +180,7 @@ module _ (us : List Uploaded) (ids : List Identifier) (set : List Interface) (es
       by true e = sym (ap (share_in set) (absent_id q e))
       by false e = others q e ∙ kept.written q
 
-  pub back_kept : (new : Records) (left : Users) (again : Written) → Fits set new left → AreWritten set again → IsKept set new left again bytes resolved
+  pub back_kept : (new : Records) (left : Users) (again : Written) → RecordsFit set new left → AreWritten set again → IsKept set new left again bytes resolved
   back_kept new left again fits all = record {
     rules = kept.rules;
     ordered = kept.ordered;
@@ -228,7 +225,7 @@ module _ (us : List Uploaded) (ids : List Identifier) (set : List Interface) (es
       ∙ ap (λ n. n + sum_by (λ (u : Uploaded). 1) us) (sym (length_sum set))
       ∙ ap (λ n. length set + n) (sym (length_sum us))
 
-  pub joined_bytes : (grown : Records) (more : Users) → Fits (with_uploads us set) grown more → sum_by text_bytes (with_uploads us set) ≡ bytes + recorded grown ids
+  pub joined_bytes : (grown : Records) (more : Users) → RecordsFit (with_uploads us set) grown more → sum_by text_bytes (with_uploads us set) ≡ bytes + recorded grown ids
   joined_bytes grown more fits =
       sum_with_all text_bytes us set kept.ordered absent joined_apart
       ∙ ap (λ n. n + sum_by (λ u. text_bytes u.interface) us) (sym kept.sum)
@@ -249,10 +246,10 @@ module _ (us : List Uploaded) (ids : List Identifier) (set : List Interface) (es
       ∙ sum_same (λ u. share_at (with_uploads us set) u.interface.id) (λ u. share_of (with_uploads us set) u.interface) us (λ u c. ap (share_in (with_uploads us set)) (at_upload u c))))
 
   -- ---- the models with those that came
-  pub length_joined : (grown : Records) (ms : List Model) → models_of (with_uploads us set) grown ≡ with_models us ms → length (with_models us ms) ≡ length set + length us
+  pub length_joined : (grown : Records) (ms : List Model) → models_of (with_uploads us set) grown ≡ with_new_models us ms → length (with_new_models us ms) ≡ length set + length us
   length_joined grown ms view = sym (ap length view) ∙ length_seen (with_uploads us set) grown ∙ joined_length
 
-  pub bytes_joined : (grown : Records) (more : Users) (ms : List Model) → Fits (with_uploads us set) grown more → models_of (with_uploads us set) grown ≡ with_models us ms → model_bytes (with_models us ms) ≡ bytes + recorded grown ids
+  pub bytes_joined : (grown : Records) (more : Users) (ms : List Model) → RecordsFit (with_uploads us set) grown more → models_of (with_uploads us set) grown ≡ with_new_models us ms → model_bytes (with_new_models us ms) ≡ bytes + recorded grown ids
   bytes_joined grown more ms fits view = sym (ap model_bytes view) ∙ bytes_seen (with_uploads us set) grown ∙ joined_bytes grown more fits
 
   pub joined_declared : AllByRecursion (λ u. HasDeclaration u.interface) us → AllByRecursion HasDeclaration (with_uploads us set)

@@ -10,7 +10,8 @@ use Rattle.std.proofs.lemmas.Option.{same_Some, none-some}
 use Rattle.std.proofs.lemmas.Map.{lookup-none}
 use Rattle.std.proofs.lemmas.Map.Entries.{none_below_head}
 use Rattle.std.proofs.lemmas.Slice.Eq.{bytes_eq-Decides}
-use Rattle.dtmi_name.specs.Grammar.{Identifier, dtmi_text, id_cmp, id_eq}
+use Rattle.std.proofs.lemmas.Bool.{and_from, or_cases}
+use Rattle.dt_base.specs.names.Grammar.{Identifier, dtmi_text, id_cmp, id_eq}
 use Rattle.dtdl_terms.specs.Sets.{InOrder, interface_at}
 use Rattle.dtdl_terms.specs.TermViews.{kind_term}
 use Rattle.dtdl_terms.specs.declared.content.Content.{Content}
@@ -21,15 +22,15 @@ use Rattle.extend_resolve.specs.SetRules.{NamesParent, NamesComponent}
 use Rattle.extend_resolve.specs.Breaches.{BreaksNoRule}
 use Rattle.extend_resolve.proofs.Members.{contains_placed}
 use Rattle.extend_resolve.proofs.Within.{placed_from_any, any_from_placed, found_placed}
-use Rattle.model_resolve.specs.Machinery.Families.{IsThere}
-use Rattle.model_resolve.proofs.ByKey.{C, alike, all_of_contained}
-use Rattle.model_resolve.proofs.Families.{listed, stands, spelled}
-use Rattle.model_resolve.proofs.Changes.{ids_total, lacks_none}
-use Rattle.set_laws.specs.Changing.{AreFree}
-use Rattle.set_laws.proofs.Apart.{uncons, contains_head, contains_tail}
-use Rattle.set_laws.proofs.Looking.{at_text, one_is}
+use Rattle.model_life.specs.resolution.Machinery.Families.{IsThere}
+use Rattle.model_life.proofs.resolution.ByKey.{C, alike, all_of_contained}
+use Rattle.model_life.proofs.resolution.Families.{listed, stands, spelled}
+use Rattle.model_life.proofs.resolution.Changes.{ids_total, lacks_none}
+use Rattle.model_life.specs.sets.Changing.{AreFree}
+use Rattle.model_life.proofs.sets.Apart.{uncons, contains_head, contains_tail}
+use Rattle.model_life.proofs.sets.Looking.{at_text, one_is}
 use Rattle.model_life.specs.Models.{Model, is_component, uses, is_user, first_user}
-use Rattle.model_life.specs.Machinery.Keeping.{record_at, models_of, Users, user_at, use_of, Fits}
+use Rattle.model_life.specs.Machinery.Keeping.{record_at, models_of, Users, user_at, use_of, RecordsFit}
 use Rattle.model_life.proofs.Seen.{Records, seen, record_there}
 use Rattle.model_life.proofs.Growing.{names_of, used_there}
 
@@ -87,13 +88,6 @@ first_seen : (id : Identifier) (set : List Interface) (es : Records) → first_u
 first_seen id set es = ap (λ ms. option_map (λ (m : Model). m.interface.id) (slice_get ms 0)) (filter_users id set es) ∙ first_id (filter (uses_other id) set) es
 
 -- ---- none uses itself
-either : (a b : Bool) → (a || b) ≡ true → (a ≡ true) ⊎ (b ≡ true)
-either true b h = inl refl
-either false b h = inr h
-
-and_true : (a b : Bool) → a ≡ true → b ≡ true → (a && b) ≡ true
-and_true true b g h = h
-and_true false b g h = g
 
 and_left : (a b : Bool) → (a && b) ≡ true → a ≡ true
 and_left true b h = refl
@@ -107,7 +101,7 @@ not_itself : (set : List Interface) → BreaksNoRule set → (id : Identifier) (
 not_itself set sound id i there used same =
     let place = found_placed set i.id i there in
     let text : dtmi_text id ≡ dtmi_text i.id = (bytes_eq-Decides (dtmi_text id) (dtmi_text i.id)).0 same in
-    elim (either (list_any (id_eq id) i.parents) (list_any (λ c. is_component id (kind_term c.kind)) i.contents) used) [
+    elim (or_cases (list_any (id_eq id) i.parents) (list_any (λ c. is_component id (kind_term c.kind)) i.contents) used) [
       | inl h ↦
           let one = placed_from_any (id_eq id) i.parents h in
           let found : interface_at one.1 set ≡ Some i = at_text one.1 i.id set (sym ((bytes_eq-Decides (dtmi_text id) (dtmi_text one.1)).0 one.3) ∙ text) ∙ there in
@@ -137,7 +131,7 @@ uses_from id i h = by (uses id i) h
     by true h = refl
     by false h = absurd (none-some tt h)
 
-module _ (set : List Interface) (es : Records) (us : Users) (sorted : InOrder set) (sound : BreaksNoRule set) (fits : Fits set es us) where
+module _ (set : List Interface) (es : Records) (us : Users) (sorted : InOrder set) (sound : BreaksNoRule set) (fits : RecordsFit set es us) where
   -- no model uses what is not there
   pub none_absent : (id : Identifier) → record_at id es ≡ None → first_user id (models_of set es) ≡ None
   none_absent id none =
@@ -184,7 +178,7 @@ module _ (set : List Interface) (es : Records) (us : Users) (sorted : InOrder se
         let used : uses id i ≡ true = uses_from id i (sym (ap (use_of id) found) ∙ listed_user u is) in
         first_seen id set es
         ∙ ap (option_map (λ (j : Interface). j.id))
-        (first_by (uses_other id) set sorted i ((listed set sorted i).1 there) (and_true (uses id i) (not (id_eq id i.id)) used (off_itself set sound id i there used))
+        (first_by (uses_other id) set sorted i ((listed set sorted i).1 there) (and_from (uses id i) (not (id_eq id i.id)) used (off_itself set sound id i there used))
         (λ y c on low.
         below_head u y.id row up is (ap (C (dtmi_text y.id)) (spelled set u i found) ∙ low) (in_row y c (and_left (uses id y) (not (id_eq id y.id)) on))))
 

@@ -3,15 +3,15 @@ use Rattle.std.proofs.Common.{◌≡◌, ℕ, ◌+◌, ◌-◌, ◌≤◌, List,
 use Rattle.std.specs.Prelude.{unwrap_or}
 use Rattle.std.specs.Option.{option_map}
 use Rattle.std.specs.List.{AllByRecursion, filter, sum_by}
-use Rattle.dtmi_name.specs.Grammar.{Identifier, dtmi_text}
+use Rattle.dt_base.specs.names.Grammar.{Identifier, dtmi_text}
 use Rattle.dtdl_terms.specs.Distinct.{AreDistinct, HasDeclaration}
 use Rattle.dtdl_terms.specs.Sets.{InOrder, interface_at}
 use Rattle.dtdl_terms.specs.declared.interface.Interface.{Interface}
 use Rattle.extend_resolve.specs.Breaches.{BreaksNoRule}
-use Rattle.model_resolve.proofs.Families.{listed, stands}
-use Rattle.set_laws.specs.Changing.{is_one_of, without_interfaces, AreFree}
-use Rattle.set_laws.proofs.Looking.{at_without, ordered_without}
-use Rattle.set_laws.proofs.Sound.{rest_within, rest_sound}
+use Rattle.model_life.proofs.resolution.Families.{listed, stands}
+use Rattle.model_life.specs.sets.Changing.{is_one_of, without_interfaces, AreFree}
+use Rattle.model_life.proofs.sets.Looking.{at_without, ordered_without}
+use Rattle.model_life.proofs.sets.Sound.{rest_within, rest_sound}
 use Rattle.model_life.specs.Sums.{text_bytes, bytes_in, bytes_of}
 use Rattle.model_life.specs.Machinery.Keeping.{record_at, capped, recorded, share_of, share_in, share_at, Written, written_at, AreWritten, Users, user_at, IsKept}
 use Rattle.model_life.proofs.Seen.{Records}

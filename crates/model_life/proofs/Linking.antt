@@ -5,12 +5,12 @@ use Rattle.std.specs.Option.{IsSomeAnd}
 use Rattle.std.specs.List.{AllByRecursion, list_any}
 use Rattle.std.proofs.lemmas.Option.{none-some}
 use Rattle.std.proofs.lemmas.Slice.Eq.{bytes_eq-Decides}
-use Rattle.dtmi_name.specs.Grammar.{Identifier, dtmi_text, id_eq}
+use Rattle.dt_base.specs.names.Grammar.{Identifier, dtmi_text, id_eq}
 use Rattle.dtdl_terms.specs.Sets.{interface_at}
 use Rattle.dtdl_terms.specs.declared.interface.Interface.{Interface}
-use Rattle.model_resolve.proofs.Families.{spelled}
-use Rattle.set_laws.specs.Changing.{is_one_of}
-use Rattle.set_laws.proofs.Looking.{at_text}
+use Rattle.model_life.proofs.resolution.Families.{spelled}
+use Rattle.model_life.specs.sets.Changing.{is_one_of}
+use Rattle.model_life.proofs.sets.Looking.{at_text}
 use Rattle.model_life.specs.Models.{uses}
 use Rattle.model_life.specs.Machinery.Keeping.{record_at, HasText, Users, UsersAreWithin, user_at, use_of}
 use Rattle.model_life.specs.declared.records.Record.{Record}

@@ -4,18 +4,18 @@ use Rattle.std.specs.List.{AllByRecursion}
 use Rattle.std.specs.List.Sorted.{IsStrictlySortedBy}
 use Rattle.std.specs.Map.{lookup, remove_entry, keys_of}
 use Rattle.std.specs.BTreeMap.{is_at, insert_entry}
-use Rattle.dtmi_name.specs.Grammar.{Identifier, dtmi_text, id_cmp, id_eq}
+use Rattle.dt_base.specs.names.Grammar.{Identifier, dtmi_text, id_cmp, id_eq}
 use Rattle.dtdl_terms.specs.Sets.{InOrder, interface_at, with_interface, without_interface}
 use Rattle.dtdl_terms.specs.declared.interface.Interface.{Interface}
 use Rattle.dtdl_terms.specs.declared.uploaded.Uploaded.{Uploaded}
-use Rattle.model_resolve.proofs.ByKey.{same_spelling, alike, lookup-insert}
-use Rattle.model_resolve.proofs.Changes.{left, taken_out}
+use Rattle.model_life.proofs.resolution.ByKey.{same_spelling, alike, lookup-insert}
+use Rattle.model_life.proofs.resolution.Changes.{left, taken_out}
 use Rattle.canon_text.specs.Canonical.{interface_text}
-use Rattle.set_laws.specs.Changing.{with_uploads, is_one_of, AreApart}
-use Rattle.set_laws.proofs.Apart.{unlike, text}
-use Rattle.set_laws.proofs.Looking.{AreAbsent, absent_more, at_with, ordered_with, eq_tests, turned}
+use Rattle.model_life.specs.sets.Changing.{with_uploads, is_one_of, HaveDistinctIds}
+use Rattle.model_life.proofs.sets.Apart.{unlike, text}
+use Rattle.model_life.proofs.sets.Looking.{AreAbsent, absent_more, at_with, ordered_with, eq_tests, turned}
 use Rattle.model_life.specs.Sums.{text_bytes}
-use Rattle.model_life.specs.Machinery.Keeping.{record_at, fresh, Written, number_in, written_at}
+use Rattle.model_life.specs.Machinery.Keeping.{record_at, fresh_record, Written, record_number, written_at}
 use Rattle.model_life.specs.declared.records.Record.{Record}
 
 -- ---- one that goes
@@ -42,9 +42,9 @@ pub gone_entry : {V : Type 0} (id q : Identifier) (es new : List (Identifier × 
 gone_entry id q es new sorted is = ap (lookup (is_at (id_cmp q))) is ∙ taken_out id q es sorted ∙ ap (λ b. cond b None (lookup (is_at (id_cmp q)) es)) (tests id q)
 
 pub gone_number : (id q : Identifier) (ws new : Written) → IsStrictlySortedBy id_cmp (keys_of ws) → new ≡ remove_entry (is_at (id_cmp id)) ws → written_at q new ≡ cond (id_eq q id) 0 (written_at q ws)
-gone_number id q ws new sorted is = ap number_in (gone_entry id q ws new sorted is) ∙ turned_in (id_eq q id) (lookup (is_at (id_cmp q)) ws)
+gone_number id q ws new sorted is = ap record_number (gone_entry id q ws new sorted is) ∙ turned_in (id_eq q id) (lookup (is_at (id_cmp q)) ws)
   where
-    turned_in : (b : Bool) (o : Option ℕ) → number_in (cond b None o) ≡ cond b 0 (number_in o)
+    turned_in : (b : Bool) (o : Option ℕ) → record_number (cond b None o) ≡ cond b 0 (record_number o)
     turned_in true o = refl
     turned_in false o = refl
 
@@ -52,10 +52,10 @@ gone_number id q ws new sorted is = ap number_in (gone_entry id q ws new sorted 
 pub put_number : (id k q : Identifier) (m n : ℕ) (ws new : Written) → new ≡ insert_entry id_cmp ws k n → k ≡ id → n ≡ m → written_at q new ≡ cond (is_eq (id_cmp q id)) m (written_at q ws)
 put_number id k q m n ws new is same number =
     ap (written_at q) (is ∙ ap (λ x. insert_entry id_cmp ws x n) same ∙ ap (insert_entry id_cmp ws id) number)
-    ∙ ap number_in (lookup-insert dtmi_text (dtmi_text q) id m ws)
+    ∙ ap record_number (lookup-insert dtmi_text (dtmi_text q) id m ws)
     ∙ put_in (is_eq (id_cmp q id)) (lookup (is_at (id_cmp q)) ws)
   where
-    put_in : (b : Bool) (o : Option ℕ) → number_in (cond b (Some m) o) ≡ cond b m (number_in o)
+    put_in : (b : Bool) (o : Option ℕ) → record_number (cond b (Some m) o) ≡ cond b m (record_number o)
     put_in true o = refl
     put_in false o = refl
 
@@ -69,20 +69,20 @@ written_next f id q rest m ws new same number put before off =
     ] refl put
 
 -- ---- one that comes
-pub fresh_is : (i : Interface) (t bytes : List ℕ) (n : ℕ) (r : Record) → r ≡ record { text = t; decommissioned = false; bytes = n } → t ≡ dtmi_text i.id → bytes ≡ interface_text i → n ≡ length bytes → r ≡ fresh i
+pub fresh_is : (i : Interface) (t bytes : List ℕ) (n : ℕ) (r : Record) → r ≡ record { text = t; decommissioned = false; bytes = n } → t ≡ dtmi_text i.id → bytes ≡ interface_text i → n ≡ length bytes → r ≡ fresh_record i
 unfolding text_bytes
 fresh_is i t bytes n r is same printed len =
     is
     ∙ ap (λ (x : List ℕ). let s : Record = record { text = x; decommissioned = false; bytes = n } in s) same
     ∙ ap (λ (m : ℕ). let s : Record = record { text = dtmi_text i.id; decommissioned = false; bytes = m } in s) (len ∙ ap length printed)
 
-pub put_record : (i : Interface) (id : Identifier) (r : Record) (es new : List (Identifier × Record)) → new ≡ insert_entry id_cmp es id r → id ≡ i.id → r ≡ fresh i → (q : Identifier) → record_at q new ≡ cond (is_eq (id_cmp q i.id)) (Some (fresh i)) (record_at q es)
+pub put_record : (i : Interface) (id : Identifier) (r : Record) (es new : List (Identifier × Record)) → new ≡ insert_entry id_cmp es id r → id ≡ i.id → r ≡ fresh_record i → (q : Identifier) → record_at q new ≡ cond (is_eq (id_cmp q i.id)) (Some (fresh_record i)) (record_at q es)
 put_record i id r es new is same one q =
     ap (record_at q) (is ∙ ap (λ k. insert_entry id_cmp es k r) same ∙ ap (insert_entry id_cmp es i.id) one)
-    ∙ lookup-insert dtmi_text (dtmi_text q) i.id (fresh i) es
+    ∙ lookup-insert dtmi_text (dtmi_text q) i.id (fresh_record i) es
 
-pub kept_record : (i : Interface) (es new : List (Identifier × Record)) → ((q : Identifier) → record_at q new ≡ cond (is_eq (id_cmp q i.id)) (Some (fresh i)) (record_at q es)) → (q : Identifier) → is_eq (id_cmp q i.id) ≡ false → record_at q new ≡ record_at q es
-kept_record i es new put q e = put q ∙ ap (λ b. cond b (Some (fresh i)) (record_at q es)) e
+pub kept_record : (i : Interface) (es new : List (Identifier × Record)) → ((q : Identifier) → record_at q new ≡ cond (is_eq (id_cmp q i.id)) (Some (fresh_record i)) (record_at q es)) → (q : Identifier) → is_eq (id_cmp q i.id) ≡ false → record_at q new ≡ record_at q es
+kept_record i es new put q e = put q ∙ ap (λ b. cond b (Some (fresh_record i)) (record_at q es)) e
 
 -- ---- several that come
 abbrev interface_of : Uploaded → Interface
@@ -91,7 +91,7 @@ interface_of u = u.interface
 abbrev id_of : Uploaded → Identifier
 id_of u = u.interface.id
 
-pub absent_next : (ys : List Uploaded) (u : Uploaded) (zs : List Uploaded) (set : List Interface) → AreAbsent set (ys ++ u ∷ zs) → AreApart (map interface_of (ys ++ u ∷ zs)) → interface_at u.interface.id (with_uploads ys set) ≡ None
+pub absent_next : (ys : List Uploaded) (u : Uploaded) (zs : List Uploaded) (set : List Interface) → AreAbsent set (ys ++ u ∷ zs) → HaveDistinctIds (map interface_of (ys ++ u ∷ zs)) → interface_at u.interface.id (with_uploads ys set) ≡ None
 absent_next [] u zs set absent apart = absent.0
 absent_next (y ∷ ys) u zs set absent apart = absent_next ys u zs (with_interface y.interface set) (absent_more y.interface set (ys ++ u ∷ zs) absent.0 absent.1 apart.0) apart.1
 
@@ -116,9 +116,9 @@ pub others_next : (ys : List Uploaded) (u : Uploaded) (zs : List Uploaded) (q : 
 others_next ys u zs q h = let both = none_of ys q u zs h in (both.0, eq_tests q u.interface.id ∙ both.1)
 
 -- the records of those before stay
-pub records_next : (ys : List Uploaded) (u : Uploaded) (zs : List Uploaded) (old new : List (Identifier × Record)) → AreApart (map interface_of (ys ++ u ∷ zs)) → ((q : Identifier) → record_at q new ≡ cond (is_eq (id_cmp q u.interface.id)) (Some (fresh u.interface)) (record_at q old))
-    → AllByRecursion (λ v. record_at v.interface.id old ≡ Some (fresh v.interface)) ys → AllByRecursion (λ v. record_at v.interface.id new ≡ Some (fresh v.interface)) (ys ++ u ∷ [])
-records_next [] u zs old new apart put all = (put u.interface.id ∙ ap (λ b. cond b (Some (fresh u.interface)) (record_at u.interface.id old)) (ap is_eq (alike (dtmi_text u.interface.id))), tt)
+pub records_next : (ys : List Uploaded) (u : Uploaded) (zs : List Uploaded) (old new : List (Identifier × Record)) → HaveDistinctIds (map interface_of (ys ++ u ∷ zs)) → ((q : Identifier) → record_at q new ≡ cond (is_eq (id_cmp q u.interface.id)) (Some (fresh_record u.interface)) (record_at q old))
+    → AllByRecursion (λ v. record_at v.interface.id old ≡ Some (fresh_record v.interface)) ys → AllByRecursion (λ v. record_at v.interface.id new ≡ Some (fresh_record v.interface)) (ys ++ u ∷ [])
+records_next [] u zs old new apart put all = (put u.interface.id ∙ ap (λ b. cond b (Some (fresh_record u.interface)) (record_at u.interface.id old)) (ap is_eq (alike (dtmi_text u.interface.id))), tt)
 records_next (y ∷ ys) u zs old new apart put all = (
   kept_record u.interface old new put y.interface.id (unlike y.interface.id u.interface.id (apart_from ys apart.0)) ∙ all.0,
   records_next ys u zs old new apart.1 put all.1,
@@ -129,7 +129,7 @@ records_next (y ∷ ys) u zs old new apart put all = (
     apart_from (x ∷ xs) h = apart_from xs h.1
 
 -- what is under another identifier stays, and the set stays in order
-pub interfaces_kept : (ys zs : List Uploaded) (set : List Interface) → AreAbsent set (ys ++ zs) → AreApart (map interface_of (ys ++ zs)) → (q : Identifier) → is_one_of (map id_of (ys ++ zs)) q ≡ false → interface_at q (with_uploads ys set) ≡ interface_at q set
+pub interfaces_kept : (ys zs : List Uploaded) (set : List Interface) → AreAbsent set (ys ++ zs) → HaveDistinctIds (map interface_of (ys ++ zs)) → (q : Identifier) → is_one_of (map id_of (ys ++ zs)) q ≡ false → interface_at q (with_uploads ys set) ≡ interface_at q set
 interfaces_kept [] zs set absent apart q off = refl
 interfaces_kept (y ∷ ys) zs set absent apart q off =
     let both = none_of [] q y (ys ++ zs) off in
@@ -142,7 +142,7 @@ interfaces_kept (y ∷ ys) zs set absent apart q off =
     tail true h = absurd (true≢false h)
     tail false h = h
 
-pub ordered_kept : (ys zs : List Uploaded) (set : List Interface) → InOrder set → AreAbsent set (ys ++ zs) → AreApart (map interface_of (ys ++ zs)) → InOrder (with_uploads ys set)
+pub ordered_kept : (ys zs : List Uploaded) (set : List Interface) → InOrder set → AreAbsent set (ys ++ zs) → HaveDistinctIds (map interface_of (ys ++ zs)) → InOrder (with_uploads ys set)
 ordered_kept [] zs set sorted absent apart = sorted
 ordered_kept (y ∷ ys) zs set sorted absent apart =
     ordered_kept ys zs (with_interface y.interface set) (ordered_with y.interface set absent.0 sorted) (absent_more y.interface set (ys ++ zs) absent.0 absent.1 apart.0) apart.1

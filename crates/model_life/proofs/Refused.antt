@@ -5,15 +5,15 @@ use Rattle.std.specs.Ordering.{match_ordering}
 use Rattle.std.specs.Map.{values_of}
 use Rattle.std.specs.BTreeMap.{insert_entry}
 use Rattle.std.proofs.lemmas.List.{length-map}
-use Rattle.dtmi_name.specs.Grammar.{id_cmp}
+use Rattle.dt_base.specs.names.Grammar.{id_cmp}
 use Rattle.dtdl_terms.specs.Sets.{keyed, interface_at, with_interface}
 use Rattle.dtdl_terms.specs.declared.interface.Interface.{Interface}
 use Rattle.dtdl_terms.specs.declared.uploaded.Uploaded.{Uploaded}
 use Rattle.dtdl_terms.proofs.Keyed.{values-keyed}
-use Rattle.extend_resolve.specs.Breaches.{IsFirstBreach, IsSound}
-use Rattle.model_resolve.proofs.Changes.{all_map}
-use Rattle.set_laws.specs.Changing.{with_uploads}
-use Rattle.model_life.specs.Models.{Model, model_of, by_id, interfaces_of, model_at, with_model, with_models}
+use Rattle.extend_resolve.specs.Breaches.{IsFirstSetBreach, IsSound}
+use Rattle.model_life.proofs.resolution.Changes.{all_map}
+use Rattle.model_life.specs.sets.Changing.{with_uploads}
+use Rattle.model_life.specs.Models.{Model, model_of, by_id, interfaces_of, model_at, with_model, with_new_models}
 use Rattle.model_life.specs.Refusals.{AreNew, PassesFirst, RefusesUploads}
 use Rattle.model_life.specs.Machinery.Judging.{AreAbsent, RefusesIn}
 use Rattle.model_life.specs.Machinery.Keeping.{models_of, Written, Users, IsKept}
@@ -37,7 +37,7 @@ interfaces_one i (n ∷ ns) =
       | Greater ↦ ap (λ is. n.interface ∷ is) (interfaces_one i ns)
     ]
 
-pub interfaces_with : (us : List Uploaded) (ms : List Model) → interfaces_of (with_models us ms) ≡ with_uploads us (interfaces_of ms)
+pub interfaces_with : (us : List Uploaded) (ms : List Model) → interfaces_of (with_new_models us ms) ≡ with_uploads us (interfaces_of ms)
 interfaces_with [] ms = refl
 interfaces_with (u ∷ us) ms = interfaces_with us (with_model u.interface ms) ∙ ap (with_uploads us) (interfaces_one u.interface ms)
 
@@ -51,16 +51,16 @@ module _ (us : List Uploaded) (set : List Interface) (es : Records) (users : Use
   pub sound_from : IsSound set us → IsSound (interfaces_of ms) us
   sound_from sound = subst (λ s. IsSound s us) same_set sound
 
-  many : AreAbsent set us → IsSound set us → length (with_models us ms) ≡ length set + length us
+  many : AreAbsent set us → IsSound set us → length (with_new_models us ms) ≡ length set + length us
   many absent sound =
-      sym (length-map (with_models us ms) (λ (m : Model). m.interface))
+      sym (length-map (with_new_models us ms) (λ (m : Model). m.interface))
       ∙ ap length (interfaces_with us ms ∙ ap (with_uploads us) (sym same_set))
       ∙ joined_length us (map (λ (u : Uploaded). u.interface.id) us) set es users ws bytes resolved kept refl absent sound
 
   pub refused : (end : AddEnd) → RefusesIn set us end → RefusesUploads ms us end
   refused (adds.ModelExists index) (u, at, some, before) = (u, at, seen_some u.interface.id set es ms view some, new_from (take index us) before)
-  refused (adds.ModelFault index spot rule) (absent, first) = (new_from us absent, subst (λ s. IsFirstBreach s us (record { index = index; rule = rule; spot = spot })) same_set first)
-  refused (adds.Full limit) (absent, sound, is, over) = (new_from us absent, sound_from sound, subst (PassesFirst (with_models us ms)) (sym is) (subst (λ n. 10000 < n) (sym (many absent sound)) over))
+  refused (adds.ModelFault index spot rule) (absent, first) = (new_from us absent, subst (λ s. IsFirstSetBreach s us (record { index = index; rule = rule; spot = spot })) same_set first)
+  refused (adds.Full limit) (absent, sound, is, over) = (new_from us absent, sound_from sound, subst (PassesFirst (with_new_models us ms)) (sym is) (subst (λ n. 10000 < n) (sym (many absent sound)) over))
   refused adds.OutOfMemory h = tt
 
 pub match_more : {T E P Q : Type 0} (R : E → Type 0) (r : Result T E) → (P → Q) → MatchResult r (λ _. P) R → MatchResult r (λ _. Q) R

@@ -9,22 +9,22 @@ use Rattle.std.proofs.lemmas.Option.{none-some}
 use denote.Ref.{Bor}
 use Rattle.ordered_table.proofs.Kept.{lookup-set}
 use Rattle.std.proofs.lemmas.Slice.Eq.{bytes_eq-Decides}
-use Rattle.dtmi_name.specs.Grammar.{Identifier, dtmi_text, id_cmp, id_eq}
+use Rattle.dt_base.specs.names.Grammar.{Identifier, dtmi_text, id_cmp, id_eq}
 use Rattle.dtdl_terms.specs.Sets.{interface_at, is_past, next_past}
 use Rattle.dtdl_terms.specs.declared.interface.Interface.{Interface}
-use Rattle.model_resolve.proofs.ByKey.{C}
-use Rattle.model_resolve.proofs.Families.{spelled}
-use Rattle.model_resolve.proofs.Changes.{ids_total}
-use Rattle.set_laws.proofs.Looking.{eq_tests, turned}
+use Rattle.model_life.proofs.resolution.ByKey.{C}
+use Rattle.model_life.proofs.resolution.Families.{spelled}
+use Rattle.model_life.proofs.resolution.Changes.{ids_total}
+use Rattle.model_life.proofs.sets.Looking.{eq_tests, turned}
 use Rattle.model_life.specs.Models.{Model, model_of, interfaces_of, model_at, next_model, mark_one, with_mark}
-use Rattle.model_life.specs.Machinery.Keeping.{record_at, is_marked, mark_at, models_of, RecordOf, Users, Fits}
+use Rattle.model_life.specs.Machinery.Keeping.{record_at, is_marked, record_mark_at, models_of, RecordOf, Users, RecordsFit}
 use Rattle.model_life.specs.declared.records.Record.{Record}
 
 abbrev pub Records : Type 0
 Records = List (Identifier × Record)
 
 abbrev pub seen : Records → Interface → Model
-seen es i = model_of i (mark_at i.id es)
+seen es i = model_of i (record_mark_at i.id es)
 
 pub seen_all : (set : List Interface) (es : Records) → interfaces_of (models_of set es) ≡ set
 seen_all [] es = refl
@@ -101,7 +101,7 @@ record_in None e some h = absurd (true≢false (sym some))
 record_in (Some i) None some h = absurd h
 record_in (Some i) (Some r) some h = (r, refl)
 
-pub record_there : (set : List Interface) (es : Records) (us : Users) (id : Identifier) → Fits set es us → IsSome (interface_at id set) → (r : Record) × (record_at id es ≡ Some r)
+pub record_there : (set : List Interface) (es : Records) (us : Users) (id : Identifier) → RecordsFit set es us → IsSome (interface_at id set) → (r : Record) × (record_at id es ≡ Some r)
 record_there set es us id fits some = record_in (interface_at id set) (record_at id es) some (fits.records id)
 
 pub marked_at : (id : Identifier) (es new : Records) (w : Record) → IsSome (record_at id es) → new ≡ set_value (is_at (id_cmp id)) es w → (q : Identifier) → record_at q new ≡ cond (id_eq q id) (Some w) (record_at q es)
@@ -124,7 +124,7 @@ marked_record None r w t b h = h
 marked_record (Some i) r w t b h = record { text = t ∙ h.text; bytes = b ∙ h.bytes }
 
 pub marked_fits : (set : List Interface) (es new : Records) (us : Users) (id : Identifier) (r w : Record) → w.text ≡ r.text → w.bytes ≡ r.bytes → record_at id es ≡ Some r → ((q : Identifier) → record_at q new ≡ cond (id_eq q id) (Some w) (record_at q es)) → ((q : Identifier) → id_eq q id ≡ true → record_at q es ≡ record_at id es)
-    → Fits set es us → Fits set new us
+    → RecordsFit set es us → RecordsFit set new us
 marked_fits set es new us id r w t b found put same fits = record { records = λ q. by q (id_eq q id) refl; users = fits.users }
   where
     by : (q : Identifier) (c : Bool) → id_eq q id ≡ c → RecordOf (interface_at q set) (record_at q new)
@@ -143,7 +143,7 @@ pub copied_not : {X : Type 0} (o : Option (Bor X)) (p : Option X) → option_cop
 copied_not o p is h = none_from p (ap is_some (sym is) ∙ copied_some o ∙ h)
 
 -- the text that is kept is the identifier's
-pub text_there : (set : List Interface) (es : Records) (us : Users) (id : Identifier) (r : Record) → Fits set es us → record_at id es ≡ Some r → r.text ≡ dtmi_text id
+pub text_there : (set : List Interface) (es : Records) (us : Users) (id : Identifier) (r : Record) → RecordsFit set es us → record_at id es ≡ Some r → r.text ≡ dtmi_text id
 text_there set es us id r fits found = by (interface_at id set) refl (subst (RecordOf (interface_at id set)) found (fits.records id))
   where
     by : (o : Option Interface) → interface_at id set ≡ o → RecordOf o (Some r) → r.text ≡ dtmi_text id

@@ -9,7 +9,7 @@ use Rattle.std.specs.BTreeMap.{is_at}
 use Rattle.std.proofs.lemmas.List.Sums.{sum_by-cons}
 use Rattle.std.proofs.lemmas.Map.Entries.{sum_by-insert_entry, sum_by-remove_entry}
 use denote.Ref.{Bor}
-use Rattle.dtmi_name.specs.Grammar.{Identifier, dtmi_text, id_cmp, id_eq}
+use Rattle.dt_base.specs.names.Grammar.{Identifier, dtmi_text, id_cmp, id_eq}
 use Rattle.dtdl_terms.specs.Distinct.{AreDistinct, HasDeclaration}
 use Rattle.dtdl_terms.specs.Sets.{keyed, InOrder, interface_at, with_interface, without_interface}
 use Rattle.dtdl_terms.specs.declared.interface.Interface.{Interface}
@@ -19,17 +19,17 @@ use Rattle.dtdl_terms.specs.declared.uploaded.Uploaded.{Uploaded}
 use Rattle.dtdl_terms.proofs.Keyed.{values-keyed}
 use Rattle.extend_resolve.specs.Chains.{IsAncestor}
 use Rattle.extend_resolve.specs.Breaches.{BreaksNoRule}
-use Rattle.model_resolve.specs.Resolving.{HasPart, IsWithin, LacksNone}
-use Rattle.model_resolve.specs.Machinery.Reaching.{ancestors_in, parts_in}
-use Rattle.model_resolve.specs.Machinery.Families.{IsThere}
-use Rattle.model_resolve.proofs.Families.{listed, stands, ancestors_there}
-use Rattle.model_resolve.proofs.Changes.{ids_total, keys_keyed, lacks_none, same_ancestors, same_parts}
-use Rattle.model_resolve.proofs.OneResolved.{one_ascending, one_resolved}
-use Rattle.model_resolve.proofs.Reaching.{ancestors_ordered, ancestors_are_in, parts_ordered, parts_are_in}
-use Rattle.model_resolve.proofs.Existing.{part_in, resolved_in, is_resolved_in}
-use Rattle.set_laws.specs.Changing.{with_uploads, is_one_of, without_interfaces, AreApart}
-use Rattle.set_laws.proofs.Apart.{contains_head, contains_tail, unlike}
-use Rattle.set_laws.proofs.Looking.{AreAbsent, absent_more, ordered_with, at_without, ordered_without, ordered_without_one, same_set, eq_tests}
+use Rattle.model_life.specs.resolution.Resolving.{HasPart, IsWithin, LacksNone}
+use Rattle.model_life.specs.resolution.Machinery.Reaching.{ancestors_in, parts_in}
+use Rattle.model_life.specs.resolution.Machinery.Families.{IsThere}
+use Rattle.model_life.proofs.resolution.Families.{listed, stands, ancestors_there}
+use Rattle.model_life.proofs.resolution.Changes.{ids_total, keys_keyed, lacks_none, same_ancestors, same_parts}
+use Rattle.model_life.proofs.resolution.OneResolved.{one_ascending, one_resolved}
+use Rattle.model_life.proofs.resolution.Reaching.{ancestors_ordered, ancestors_are_in, parts_ordered, parts_are_in}
+use Rattle.model_life.proofs.resolution.Existing.{part_in, resolved_in, is_resolved_in}
+use Rattle.model_life.specs.sets.Changing.{with_uploads, is_one_of, without_interfaces, HaveDistinctIds}
+use Rattle.model_life.proofs.sets.Apart.{contains_head, contains_tail, unlike}
+use Rattle.model_life.proofs.sets.Looking.{AreAbsent, absent_more, ordered_with, at_without, ordered_without, ordered_without_one, same_set, eq_tests}
 use Rattle.model_life.specs.Sums.{bytes_in, bytes_of, LineTakes, ResolvedTakes, AllTake}
 use Rattle.model_life.specs.Machinery.Keeping.{record_at, bytes_at, recorded, capped, line_of, line_in, share_of, share_in, RecordOf, AreRecorded}
 use Rattle.model_life.specs.declared.records.Record.{Record}
@@ -51,7 +51,7 @@ module _ (f : Interface → ℕ) where
       let d : sum_by f (values_of (keyed set)) ≡ sum_by f set = ap (sum_by f) (values-keyed set) in
       omega (arith, a, b, d)
 
-  pub sum_with_all : (us : List Uploaded) (set : List Interface) → InOrder set → AreAbsent set us → AreApart (map (λ u. u.interface) us) → sum_by f (with_uploads us set) ≡ sum_by f set + sum_by (λ u. f u.interface) us
+  pub sum_with_all : (us : List Uploaded) (set : List Interface) → InOrder set → AreAbsent set us → HaveDistinctIds (map (λ u. u.interface) us) → sum_by f (with_uploads us set) ≡ sum_by f set + sum_by (λ u. f u.interface) us
   sum_with_all [] set sorted absent apart = omega arith
   sum_with_all (u ∷ us) set sorted absent apart =
       let rest = sum_with_all us (with_interface u.interface set) (ordered_with u.interface set absent.0 sorted) (absent_more u.interface set us absent.0 absent.1 apart.0) apart.1 in

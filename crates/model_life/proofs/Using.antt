@@ -10,11 +10,11 @@ use Rattle.std.proofs.lemmas.Slice.Eq.{bytes_eq-Decides}
 use Rattle.ordered_table.specs.Rows.{pair_cmp}
 use Rattle.ordered_table.proofs.Ordered.{pairs_total, lookup-insert}
 use Rattle.ordered_table.proofs.Kept.{lookup-removed}
-use Rattle.dtmi_name.specs.Grammar.{Identifier, dtmi_text, id_cmp, id_eq}
+use Rattle.dt_base.specs.names.Grammar.{Identifier, dtmi_text, id_cmp, id_eq}
 use Rattle.dtdl_terms.specs.Terms.{KindTerm, telemetry, property, command, relationship, component}
-use Rattle.model_resolve.specs.Machinery.Families.{component_id}
-use Rattle.model_resolve.proofs.Changes.{ids_total}
-use Rattle.set_laws.proofs.Looking.{eq_tests}
+use Rattle.model_life.specs.resolution.Machinery.Families.{kind_id}
+use Rattle.model_life.proofs.resolution.Changes.{ids_total}
+use Rattle.model_life.proofs.sets.Looking.{eq_tests}
 use Rattle.model_life.specs.Models.{is_component}
 use Rattle.model_life.specs.Machinery.Keeping.{Users, user_at}
 
@@ -26,12 +26,6 @@ drop_suc (y ∷ ys) (suc k) x low is = drop_suc ys k x (omega (arith, low)) is
 
 pub drop_next : {X : Type 0} (xs : List X) (k : ℕ) (x : X) → k < length xs → x ≡ slice_index_or xs k x → drop k xs ≡ x ∷ drop (k + 1) xs
 drop_next xs k x low is = let next : suc k ≡ k + 1 = omega arith in drop_suc xs k x low is ∙ ap (λ n. x ∷ drop n xs) next
-
-pub drop_all : {X : Type 0} (xs : List X) (k : ℕ) → length xs ≤ k → drop k xs ≡ []
-drop_all [] zero long = refl
-drop_all [] (suc k) long = refl
-drop_all (x ∷ xs) zero long = absurd (omega (arith, long))
-drop_all (x ∷ xs) (suc k) long = drop_all xs k (omega (arith, long))
 
 suc_sum : {X : Type 0} (f : X → ℕ) (xs : List X) (k : ℕ) (x : X) → k < length xs → x ≡ slice_index_or xs k x → sum_by f (take (suc k) xs) ≡ sum_by f (take k xs) + f x
 suc_sum f [] k x low is = absurd (omega (arith, low))
@@ -146,7 +140,7 @@ abbrev pub is_named : Identifier → Option Identifier → Bool
 is_named t None = false
 is_named t (Some of) = id_eq t of
 
-pub component_named : (t : Identifier) (k : KindTerm) → is_component t k ≡ is_named t (component_id k)
+pub component_named : (t : Identifier) (k : KindTerm) → is_component t k ≡ is_named t (kind_id k)
 component_named t (telemetry schema semantic unit) = refl
 component_named t (property schema semantic unit writable) = refl
 component_named t (command request response) = refl

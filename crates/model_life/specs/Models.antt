@@ -4,13 +4,13 @@ use Rattle.std.specs.Option.{option_map}
 use Rattle.std.specs.List.{filter, list_any}
 use Rattle.std.specs.Map.{lookup, values_of}
 use Rattle.std.specs.BTreeMap.{is_at, insert_entry}
-use Rattle.dtmi_name.specs.Grammar.{Identifier, id_cmp, id_eq}
+use Rattle.dt_base.specs.names.Grammar.{Identifier, id_cmp, id_eq}
 use Rattle.dtdl_terms.specs.Sets.{is_past}
 use Rattle.dtdl_terms.specs.Terms.{KindTerm, telemetry, property, command, relationship, component}
 use Rattle.dtdl_terms.specs.TermViews.{kind_term}
 use Rattle.dtdl_terms.specs.declared.interface.Interface.{Interface}
 use Rattle.dtdl_terms.specs.declared.uploaded.Uploaded.{Uploaded}
-use Rattle.set_laws.specs.Changing.{is_one_of}
+use Rattle.model_life.specs.sets.Changing.{is_one_of}
 
 -- an interface, and whether it is decommissioned
 pub record Model : Type 0 where
@@ -47,9 +47,9 @@ with_mark id on ms = map (mark_one id on) ms
 abbrev pub with_model : Interface → List Model → List Model
 with_model i ms = values_of (insert_entry id_cmp (by_id ms) i.id (model_of i false))
 
-abbrev pub with_models : List Uploaded → List Model → List Model
-with_models [] ms = ms
-with_models (u ∷ us) ms = with_models us (with_model u.interface ms)
+abbrev pub with_new_models : List Uploaded → List Model → List Model
+with_new_models [] ms = ms
+with_new_models (u ∷ us) ms = with_new_models us (with_model u.interface ms)
 
 -- without the models of these identifiers
 abbrev pub without_models : List Identifier → List Model → List Model

@@ -1,12 +1,12 @@
 -- When the calls on models are refused.
 use Rattle.std.specs.Prelude.{◌≡◌, ◌<◌, ℕ, List, take, length, Some, None, IsSome, slice_get}
 use Rattle.std.specs.List.{AllByRecursion}
-use Rattle.dtmi_name.specs.Grammar.{Identifier}
+use Rattle.dt_base.specs.names.Grammar.{Identifier}
 use Rattle.dtdl_terms.specs.declared.limit.Limit.{Limit}
 use Rattle.dtdl_terms.specs.declared.limit.Limit.TheVariants as limits
 use Rattle.dtdl_terms.specs.declared.uploaded.Uploaded.{Uploaded}
-use Rattle.extend_resolve.specs.Breaches.{IsFirstBreach, IsSound}
-use Rattle.model_life.specs.Models.{Model, interfaces_of, model_at, with_models, first_user}
+use Rattle.extend_resolve.specs.Breaches.{IsFirstSetBreach, IsSound}
+use Rattle.model_life.specs.Models.{Model, interfaces_of, model_at, with_new_models, first_user}
 use Rattle.model_life.specs.Sums.{model_bytes, AllTake}
 use Rattle.model_life.specs.declared.ends.AddEnd.{AddEnd}
 use Rattle.model_life.specs.declared.ends.AddEnd.TheVariants as adds
@@ -45,8 +45,8 @@ PassesFirst ms other = ⊥
 -- the uploads for which `add` answers each end; want of memory may come at any
 abbrev pub RefusesUploads : List Model → List Uploaded → AddEnd → Type 0
 RefusesUploads ms us (adds.ModelExists index) = IsFirstThere ms us index
-RefusesUploads ms us (adds.ModelFault index spot rule) = AreNew ms us × IsFirstBreach (interfaces_of ms) us (record { index = index; rule = rule; spot = spot })
-RefusesUploads ms us (adds.Full limit) = AreNew ms us × IsSound (interfaces_of ms) us × PassesFirst (with_models us ms) limit
+RefusesUploads ms us (adds.ModelFault index spot rule) = AreNew ms us × IsFirstSetBreach (interfaces_of ms) us (record { index = index; rule = rule; spot = spot })
+RefusesUploads ms us (adds.Full limit) = AreNew ms us × IsSound (interfaces_of ms) us × PassesFirst (with_new_models us ms) limit
 RefusesUploads ms us adds.OutOfMemory = Unit {0}
 
 -- ---- models that are marked, and models that go

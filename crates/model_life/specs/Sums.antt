@@ -1,11 +1,11 @@
 -- How many bytes the canonical texts of models take, and those of all that they resolve to.
 use Rattle.std.specs.Prelude.{◌≡◌, ℕ, ◌+◌, ◌≤◌, List, length, Option, Some, None, Contains}
 use Rattle.std.specs.List.{sum_by}
-use Rattle.dtmi_name.specs.Grammar.{Identifier}
+use Rattle.dt_base.specs.names.Grammar.{Identifier}
 use Rattle.dtdl_terms.specs.Sets.{interface_at}
 use Rattle.dtdl_terms.specs.declared.interface.Interface.{Interface}
 use Rattle.dtdl_terms.specs.declared.resolved.Resolved.{Resolved}
-use Rattle.model_resolve.specs.Resolving.{HasPart, IsResolved}
+use Rattle.model_life.specs.resolution.Resolving.{HasPart, IsResolved}
 use Rattle.canon_text.specs.Canonical.{interface_text}
 use Rattle.model_life.specs.Models.{Model, interfaces_of}
 

@@ -9,8 +9,8 @@ ghost use Rattle.model_life.specs.Machinery.Judging.{IsFirstIn, RefusesIn};
 use crate::ends::AddEnd;
 use crate::models::MOST_MODELS;
 use dt_base::OutOfMemory;
+use dt_base::names::Dtmi;
 use dtdl_terms::{Limit, ModelSet, Uploaded};
-use dtmi_name::Dtmi;
 use extend_resolve::{SetEnd, check_set};
 use std::alloc::Global;
 

@@ -1,5 +1,6 @@
 //! The models of a graph: interfaces that together break no rule, each with a mark, and how many bytes they take with all
-//! that they inherit.
+//! that they inherit. In `resolution` what an interface has with all that it inherits, and in `sets` laws of sets to which
+//! interfaces come and from which they go.
 #![tactic(auto)]
 
 mod adding;
@@ -7,6 +8,8 @@ mod ends;
 mod laws;
 mod models;
 mod records;
+pub mod resolution;
+pub mod sets;
 mod shares;
 mod store;
 mod sums;

@@ -3,28 +3,28 @@
 ghost use Rattle.std.specs.Prelude.{◌≡◌, ◌+◌, ◌≤◌, [], ◌∷◌, cond, None, IsSome, length, map, OnErr, OnOk, IfErr, IfOk, MatchResult};
 ghost use Rattle.std.specs.Option.{option_copied, option_map};
 ghost use Rattle.std.specs.List.{AllByRecursion};
-ghost use Rattle.dtmi_name.specs.Grammar.{Identifier, dtmi_text};
+ghost use Rattle.dt_base.specs.names.Grammar.{Identifier, dtmi_text};
 ghost use Rattle.dtdl_terms.specs.Distinct.{AreDistinct, HasDeclaration};
 ghost use Rattle.dtdl_terms.specs.Sets.{InOrder, interface_at};
 ghost use Rattle.extend_resolve.specs.Breaches.{BreaksNoRule, IsSound};
-ghost use Rattle.model_resolve.specs.Resolving.{EntryOf};
-ghost use Rattle.set_laws.specs.Changing.{is_one_of, AreFree};
-ghost use Rattle.model_life.specs.Models.{model_of, interfaces_of, model_at, next_model, with_mark, with_models, without_models, first_user};
+ghost use Rattle.model_life.specs.resolution.Resolving.{EntryOf};
+ghost use Rattle.model_life.specs.sets.Changing.{is_one_of, AreFree};
+ghost use Rattle.model_life.specs.Models.{model_of, interfaces_of, model_at, next_model, with_mark, with_new_models, without_models, first_user};
 ghost use Rattle.model_life.specs.Sums.{model_bytes, AreWithinLimits};
-ghost use Rattle.model_life.specs.Machinery.Keeping.{mark_at, written_at};
+ghost use Rattle.model_life.specs.Machinery.Keeping.{record_mark_at, written_at};
 ghost use Rattle.model_life.specs.Refusals.{AreNew, RefusesUploads, RefusesMark, RefusesDrop};
 
 use crate::adding::{ids_of, judge};
 use crate::ends::{AddEnd, DropEnd, MarkEnd};
 use crate::records::Records;
+use crate::resolution::resolve;
 use crate::shares::Shares;
 use crate::store::{grow, shrink};
 use crate::sums::bytes_of;
 use crate::users::{Users, first_of};
+use dt_base::names::Dtmi;
 use dt_base::{List, OutOfMemory};
 use dtdl_terms::{Interface, Limit, ModelSet, Resolved, Uploaded};
-use dtmi_name::Dtmi;
-use model_resolve::resolve;
 use std::alloc::Global;
 use std::marker::Model;
 
@@ -204,8 +204,8 @@ impl Models {
     /// Adds models, which are not decommissioned. `Err` says why not, and nothing changes.
     pub fn add(&mut self, new: List<Uploaded>) -> Result<(), AddEnd>
         requires { AllByRecursion (λ u. HasDeclaration u.interface) new }
-        ensures end { MatchResult result (λ _. AreNew self.old new × IsSound (interfaces_of self.old) new × AreWithinLimits (with_models new self.old)) (RefusesUploads self.old new) }
-        ensures ok { OnOk result (self.new ≡ with_models new self.old) }
+        ensures end { MatchResult result (λ _. AreNew self.old new × IsSound (interfaces_of self.old) new × AreWithinLimits (with_new_models new self.old)) (RefusesUploads self.old new) }
+        ensures ok { OnOk result (self.new ≡ with_new_models new self.old) }
         ensures err { OnErr result (self.new ≡ self.old) }
     {
         match judge(self.alloc, &self.set, new.as_slice()) {
@@ -225,8 +225,8 @@ impl Models {
         requires new { AreNew self.old new }
         requires sound { IsSound (interfaces_of self.old) new }
         requires few { length self.old + length new ≤ 10000 }
-        ensures end { MatchResult result (λ _. AreWithinLimits (with_models new self.old)) (RefusesUploads self.old new) }
-        ensures ok { OnOk result (self.new ≡ with_models new self.old) }
+        ensures end { MatchResult result (λ _. AreWithinLimits (with_new_models new self.old)) (RefusesUploads self.old new) }
+        ensures ok { OnOk result (self.new ≡ with_new_models new self.old) }
         ensures err { OnErr result (self.new ≡ self.old) }
     {
         let Ok(_) = grow(
@@ -269,7 +269,7 @@ impl Models {
 
 /// An interface with the mark of its model.
 fn marked<'a>(records: &Records, interface: Option<&'a Interface>) -> Option<(&'a Interface, bool)>
-    ensures { option_map (λ m. model_of m.0.now m.1) result ≡ option_map (λ i. model_of i (mark_at i.id records.now)) (option_copied interface.entry) }
+    ensures { option_map (λ m. model_of m.0.now m.1) result ≡ option_map (λ i. model_of i (record_mark_at i.id records.now)) (option_copied interface.entry) }
 {
     match interface {
         Some(interface) => Some((interface, records.is_marked(&interface.id))),

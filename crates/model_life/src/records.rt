@@ -5,10 +5,10 @@ ghost use Rattle.std.specs.Option.{option_copied};
 ghost use Rattle.std.specs.List.Sorted.{IsStrictlySortedBy};
 ghost use Rattle.std.specs.Map.{remove_entry, set_value, keys_of};
 ghost use Rattle.std.specs.BTreeMap.{is_at, insert_entry};
-ghost use Rattle.dtmi_name.specs.Grammar.{id_cmp};
+ghost use Rattle.dt_base.specs.names.Grammar.{id_cmp};
 
+use dt_base::names::Dtmi;
 use dt_base::{OutOfMemory, Text};
-use dtmi_name::Dtmi;
 use std::alloc::Global;
 use std::collections::BTreeMap;
 use std::marker::Model;
@@ -34,7 +34,7 @@ impl Model for Records {
     ghost use Rattle.std.specs.Prelude.{List};
     ghost use Rattle.std.specs.Coded.{coded_list, coded×};
     ghost use Rattle.std.specs.BTreeMap.{IsOrdered};
-    ghost use Rattle.dtmi_name.specs.Grammar.{Identifier, identifier_code, id_cmp};
+    ghost use Rattle.dt_base.specs.names.Grammar.{Identifier, identifier_code, id_cmp};
     ghost use Rattle.model_life.specs.declared.records.Record.{Record};
     ghost use Rattle.model_life.specs.contracts.records.Record as record_of;
 
@@ -49,7 +49,7 @@ impl Model for Records {
 
 impl Records {
     ghost use Rattle.model_life.specs.declared.records.Record.{Record};
-    ghost use Rattle.model_life.specs.Machinery.Keeping.{record_at, mark_at};
+    ghost use Rattle.model_life.specs.Machinery.Keeping.{record_at, record_mark_at};
 
     /// No records. Takes no memory.
     pub fn new(alloc: Global) -> Records
@@ -69,7 +69,7 @@ impl Records {
 
     /// Whether the record of an identifier is marked. Takes no memory.
     pub fn is_marked(&self, id: &Dtmi) -> bool
-        ensures { result ≡ mark_at id.now self.now }
+        ensures { result ≡ record_mark_at id.now self.now }
     {
         match self.entries.get(id) {
             Some(record) => record.decommissioned,

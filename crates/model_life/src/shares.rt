@@ -6,18 +6,18 @@ ghost use Rattle.std.specs.List.Sorted.{IsStrictlySortedBy};
 ghost use Rattle.std.specs.Map.{remove_entry, keys_of};
 ghost use Rattle.std.specs.BTreeMap.{is_at};
 ghost use Rattle.std.specs.Ordering.{is_eq};
-ghost use Rattle.dtmi_name.specs.Grammar.{Identifier, id_cmp};
+ghost use Rattle.dt_base.specs.names.Grammar.{Identifier, id_cmp};
 ghost use Rattle.dtdl_terms.specs.Sets.{InOrder, interface_at};
 ghost use Rattle.extend_resolve.specs.Breaches.{BreaksNoRule};
-ghost use Rattle.set_laws.specs.Changing.{is_one_of};
+ghost use Rattle.model_life.specs.sets.Changing.{is_one_of};
 ghost use Rattle.model_life.specs.Machinery.Keeping.{AreRecorded, AreWritten, capped, share_at, written_at};
 
 use crate::models::MOST_RESOLVED_BYTES;
 use crate::records::Records;
 use crate::sums::share;
 use dt_base::OutOfMemory;
+use dt_base::names::Dtmi;
 use dtdl_terms::ModelSet;
-use dtmi_name::Dtmi;
 use std::alloc::Global;
 use std::collections::BTreeMap;
 use std::marker::Model;
@@ -34,7 +34,7 @@ impl Model for Shares {
     ghost use Rattle.std.specs.Prelude.{List, ℕ};
     ghost use Rattle.std.specs.Coded.{coded_list, coded×, coded_ℕ};
     ghost use Rattle.std.specs.BTreeMap.{IsOrdered};
-    ghost use Rattle.dtmi_name.specs.Grammar.{Identifier, identifier_code, id_cmp};
+    ghost use Rattle.dt_base.specs.names.Grammar.{Identifier, identifier_code, id_cmp};
 
     ghost Value = { List (Identifier × ℕ) };
 

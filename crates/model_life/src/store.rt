@@ -3,19 +3,19 @@
 ghost use Rattle.std.specs.Prelude.{◌≡◌, ◌&&◌, true, false, cond, map, Some, None, OnErr, OnOk};
 ghost use Rattle.std.specs.List.{AllByRecursion};
 ghost use Rattle.std.specs.Ordering.{is_eq};
-ghost use Rattle.dtmi_name.specs.Grammar.{Identifier, id_cmp};
+ghost use Rattle.dt_base.specs.names.Grammar.{Identifier, id_cmp};
 ghost use Rattle.dtdl_terms.specs.Sets.{InOrder, interface_at, with_interface};
-ghost use Rattle.set_laws.specs.Changing.{with_uploads, without_interfaces, is_one_of, AreApart};
-ghost use Rattle.model_resolve.specs.Resolving.{LacksNone};
-ghost use Rattle.model_life.specs.Models.{with_models};
-ghost use Rattle.model_life.specs.Machinery.Keeping.{record_at, models_of, fresh, HaveTexts, UsersAreWithin, user_at, Fits};
+ghost use Rattle.model_life.specs.sets.Changing.{with_uploads, without_interfaces, is_one_of, HaveDistinctIds};
+ghost use Rattle.model_life.specs.resolution.Resolving.{LacksNone};
+ghost use Rattle.model_life.specs.Models.{with_new_models};
+ghost use Rattle.model_life.specs.Machinery.Keeping.{record_at, models_of, fresh_record, HaveTexts, UsersAreWithin, user_at, RecordsFit};
 
 use crate::records::{Record, Records};
 use crate::users::{Users, link_all, unlink_all};
 use canon_text::canon_interface;
+use dt_base::names::Dtmi;
 use dt_base::{List, OutOfMemory, Text};
 use dtdl_terms::{Interface, ModelSet, Uploaded};
-use dtmi_name::Dtmi;
 use std::alloc::Global;
 
 /// Puts an interface into the set, with a record. After `Err` the record may be left in.
@@ -27,7 +27,7 @@ fn enter(
 ) -> Result<(), OutOfMemory>
     requires { interface_at interface.id set.old ≡ None }
     ensures ok { OnOk result (set.new ≡ with_interface interface set.old) }
-    ensures record { OnOk result ((q : Identifier) → record_at q records.new ≡ cond (is_eq (id_cmp q interface.id)) (Some (fresh interface)) (record_at q records.old)) }
+    ensures record { OnOk result ((q : Identifier) → record_at q records.new ≡ cond (is_eq (id_cmp q interface.id)) (Some (fresh_record interface)) (record_at q records.old)) }
     ensures err { OnErr result (set.new ≡ set.old) }
     ensures others { (q : Identifier) → is_eq (id_cmp q interface.id) ≡ false → record_at q records.new ≡ record_at q records.old }
 {
@@ -54,10 +54,10 @@ fn enter_all(
     new: List<Uploaded>,
 ) -> Result<(), OutOfMemory>
     requires absent { AllByRecursion (λ u. interface_at u.interface.id set.old ≡ None) new }
-    requires apart { AreApart (map (λ u. u.interface) new) }
+    requires apart { HaveDistinctIds (map (λ u. u.interface) new) }
     requires ordered { InOrder set.old }
     ensures ok { OnOk result (set.new ≡ with_uploads new set.old) }
-    ensures records { OnOk result (AllByRecursion (λ u. record_at u.interface.id records.new ≡ Some (fresh u.interface)) new) }
+    ensures records { OnOk result (AllByRecursion (λ u. record_at u.interface.id records.new ≡ Some (fresh_record u.interface)) new) }
     ensures ordered { InOrder set.new }
     ensures interfaces { (q : Identifier) → is_one_of (map (λ u. u.interface.id) new) q ≡ false → interface_at q set.new ≡ interface_at q set.old }
     ensures others { (q : Identifier) → is_one_of (map (λ u. u.interface.id) new) q ≡ false → record_at q records.new ≡ record_at q records.old }
@@ -91,15 +91,15 @@ pub fn grow(
 ) -> Result<(), OutOfMemory>
     requires ids { ids.now ≡ map (λ u. u.interface.id) new }
     requires absent { AllByRecursion (λ u. interface_at u.interface.id set.old ≡ None) new }
-    requires apart { AreApart (map (λ u. u.interface) new) }
+    requires apart { HaveDistinctIds (map (λ u. u.interface) new) }
     requires ordered { InOrder set.old }
     requires whole { LacksNone (with_uploads new set.old) }
-    requires fits { Fits set.old records.old users.old }
+    requires fits { RecordsFit set.old records.old users.old }
     ensures ok { OnOk result (set.new ≡ with_uploads new set.old) }
-    ensures models { OnOk result (models_of set.new records.new ≡ with_models new (models_of set.old records.old)) }
+    ensures models { OnOk result (models_of set.new records.new ≡ with_new_models new (models_of set.old records.old)) }
     ensures err { OnErr result (set.new ≡ set.old) }
     ensures same { OnErr result (models_of set.new records.new ≡ models_of set.old records.old) }
-    ensures fits { Fits set.new records.new users.new }
+    ensures fits { RecordsFit set.new records.new users.new }
 {
     let Ok(_) = enter_all(set, records, alloc, new) else {
         leave_all(set, records, ids);

@@ -5,14 +5,14 @@ ghost use Rattle.std.specs.List.{sum_by};
 ghost use Rattle.dtdl_terms.specs.Sets.{InOrder};
 ghost use Rattle.dtdl_terms.specs.declared.interface.Interface.{Interface};
 ghost use Rattle.extend_resolve.specs.Breaches.{BreaksNoRule};
-ghost use Rattle.model_resolve.specs.Machinery.Families.{IsThere};
+ghost use Rattle.model_life.specs.resolution.Machinery.Families.{IsThere};
 ghost use Rattle.model_life.specs.Machinery.Keeping.{AreRecorded, record_at, bytes_at, recorded, capped, line_of, share_of};
 
 use crate::records::Records;
+use crate::resolution::{ancestors, parts};
 use dt_base::OutOfMemory;
+use dt_base::names::Dtmi;
 use dtdl_terms::{Interface, ModelSet};
-use dtmi_name::Dtmi;
-use model_resolve::{ancestors, parts};
 use std::alloc::Global;
 
 /// The bytes of the text of one interface.

@@ -3,20 +3,20 @@
 ghost use Rattle.std.specs.Prelude.{◌≡◌, [], ◌&&◌, true, false, cond, slice_get, unwrap_or, Some, None, OnErr, OnOk};
 ghost use Rattle.std.specs.Map.{keys_of};
 ghost use Rattle.std.specs.List.{AllByRecursion, list_any};
-ghost use Rattle.dtmi_name.specs.Grammar.{Identifier, id_eq};
+ghost use Rattle.dt_base.specs.names.Grammar.{Identifier, id_eq};
 ghost use Rattle.dtdl_terms.specs.TermViews.{kind_term};
 ghost use Rattle.dtdl_terms.specs.declared.interface.Interface.{Interface};
 ghost use Rattle.model_life.specs.Models.{is_component, uses};
 ghost use Rattle.std.specs.Option.{option_copied};
 ghost use Rattle.dtdl_terms.specs.Sets.{interface_at};
-ghost use Rattle.model_resolve.specs.Machinery.Families.{component_id};
-ghost use Rattle.set_laws.specs.Changing.{is_one_of};
+ghost use Rattle.model_life.specs.resolution.Machinery.Families.{kind_id};
+ghost use Rattle.model_life.specs.sets.Changing.{is_one_of};
 ghost use Rattle.model_life.specs.Machinery.Keeping.{HasText, HaveTexts, UsersAreWithin, user_at, use_of};
 
 use crate::records::Records;
 use dt_base::OutOfMemory;
+use dt_base::names::Dtmi;
 use dtdl_terms::{Content, ContentKind, Interface, ModelSet};
-use dtmi_name::Dtmi;
 use ordered_table::{Entries, Table};
 use std::alloc::Global;
 
@@ -117,7 +117,7 @@ fn take_components(users: &mut Users, records: &Records, contents: &[Content], u
 
 /// The identifier of a component's interface, where the content is a component.
 fn component_of(content: &Content) -> Option<&Dtmi>
-    ensures { option_copied result ≡ component_id (kind_term content.now.kind) }
+    ensures { option_copied result ≡ kind_id (kind_term content.now.kind) }
 {
     match &content.kind {
         ContentKind::Component { of } => Some(of),

@@ -12,7 +12,7 @@ use Rattle.local_rules.specs.declared.role.Element.{Element}
 use Rattle.local_rules.specs.declared.role.Element.TheVariants as element_kind
 use Rattle.local_rules.specs.declared.role.Position.TheVariants as position
 use Rattle.model_read.specs.Declarations.{IsPayload, ArePayloads, IsSchema}
-use Rattle.model_read.specs.Limits.{levels, payload_levels, payloads_levels}
+use Rattle.local_rules.specs.Limits.{levels, payload_levels, payloads_levels}
 
 -- ---- lists
 contains_here : {A : Type 0} (x : A) (xs : List A) → Contains (x ∷ xs) x

@@ -10,7 +10,7 @@ use Rattle.dtdl_terms.specs.declared.interface.Interface.{Interface}
 use Rattle.dtdl_terms.specs.declared.uploaded.Uploaded.{Uploaded}
 use Rattle.local_rules.specs.Members.{list_of}
 use Rattle.model_read.specs.Declarations.{DeclaresInterface}
-use Rattle.model_read.specs.Limits.{IsWithinLimits}
+use Rattle.local_rules.specs.Limits.{IsWithinLimits}
 use Rattle.model_read.specs.Uploads.{IsUploadedAt, AreUploaded}
 use Rattle.model_read.proofs.Standing.{BreaksNowhere}
 use Rattle.model_read.proofs.Within.{interface_within}

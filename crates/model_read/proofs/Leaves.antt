@@ -1,13 +1,13 @@
 -- What a value without parts is, by its role in a value in which no rule is broken.
 use Rattle.std.proofs.Common.{◌≡◌, ◌≢◌, ℕ, ◌<◌, ◌≤◌, inl, inr, List, [], ◌∷◌, length, true, IsTrue, Option, Some, None, refl, sym, ap, subst, arith}
 use Rattle.std.proofs.lemmas.Bool.{false≢true, false_from_ne_true}
-use Rattle.dtmi_name.specs.Grammar.{OwnDtmiText, is_reserved}
+use Rattle.dt_base.specs.names.Grammar.{OwnDtmiText, is_reserved}
 use Rattle.json_decimal.specs.Number.{Number}
 use Rattle.json_tree.specs.Values.{Json, truth, text, array, object, Elements}
 use Rattle.local_rules.specs.Members.{list_of}
 use Rattle.local_rules.specs.Identifiers.{HasForm, IdUse, IsBadId, IsReservedId, of_interface, of_element, no_id, id_use}
 use Rattle.local_rules.specs.Kinds.{kind_of, is_of_kind}
-use Rattle.local_rules.specs.Quantities.{IsString}
+use Rattle.local_rules.specs.Quantities.{IsStringValue}
 use Rattle.local_rules.specs.Roles.{type_in}
 use Rattle.local_rules.specs.Types.{MayHaveBeside, NamesNothing, further}
 use Rattle.local_rules.specs.declared.role.Element.{Element}
@@ -27,7 +27,7 @@ use Rattle.model_read.proofs.Valid.{here, of_kind, placed_valid, entry_valid}
 
 -- ---- kinds
 -- a value of the kind of texts is a text
-pub word : (v : Json) → is_of_kind kind.Text v ≡ true → IsString v
+pub word : (v : Json) → is_of_kind kind.Text v ≡ true → IsStringValue v
 word (text bytes) is = (bytes, refl)
 word other is = absurd (false≢true is)
 
@@ -91,7 +91,7 @@ name other valid = absurd (false≢true (of_kind role.Name other valid))
 pub unit : (v : Json) → IsValid role.Unit v → CanBeName v
 unit v valid = λ none. here role.Unit v rule.BadUnit valid (refl, none)
 
-pub comment : (v : Json) → IsValid role.Comment v → IsString v
+pub comment : (v : Json) → IsValid role.Comment v → IsStringValue v
 comment v valid = word v (of_kind role.Comment v valid)
 
 pub localized : (which : Localized) (v : Json) → IsValid (role.Localized which) v → IsWords v

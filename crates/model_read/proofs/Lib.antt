@@ -14,3 +14,4 @@ pub mod Within
 pub mod Pairs
 pub mod Apart
 pub mod Documents
+pub mod Ordinals

@@ -2,8 +2,8 @@
 use Rattle.std.proofs.Common.{◌≡◌, ℕ, List, [], ◌∷◌, Bool, true, false, if◌then◌else◌, nat_eq, bytes_eq, Option, Some, None, refl, sym, ap, ap₂, subst, ◌∙◌}
 use Rattle.std.specs.Prelude.{codes}
 use Rattle.std.specs.List.{AllZip, starts_with}
-use Rattle.dtmi_name.specs.Grammar.{Identifier, HasDtmiForm, dtmi_text}
-use Rattle.dtmi_name.proofs.Cuts.{HasDtmiForm-unique}
+use Rattle.dt_base.specs.names.Grammar.{Identifier, HasDtmiForm, dtmi_text}
+use Rattle.dt_base.proofs.names.Cuts.{HasDtmiForm-unique}
 use Rattle.json_decimal.specs.Number.{Number}
 use Rattle.json_decimal.specs.Comparing.{IsWhole}
 use Rattle.json_decimal.proofs.Wholes.{one_whole}
@@ -22,7 +22,7 @@ use Rattle.local_rules.specs.Roles.{type_of}
 use Rattle.local_rules.specs.declared.role.Element.{Element}
 use Rattle.local_rules.specs.declared.role.Element.TheVariants as element_kind
 use Rattle.local_rules.specs.declared.role.Position.TheVariants as position
-use Rattle.model_read.specs.Declarations.{HasString, HasOptionalString, IsIdentifier, HasId, HasOptionalId, IsWritable, IsTextOfLanguage, IsLocalizedBy, IsLocalized, HasLocalized, HasCommon, IsEnumValue, DeclaresEnumEntry, IsEnumEntry, value_schema, IsSchemaObject, IsSchema, IsPayload, ArePayloads, HasOptionalPayload, HasSchema}
+use Rattle.model_read.specs.Declarations.{HasString, HasOptionalString, IsIdentifier, HasId, HasOptionalId, DeclaresWritable, IsTextOfLanguage, IsLocalizedBy, IsLocalized, HasLocalized, HasCommon, IsEnumValue, DeclaresEnumEntry, IsEnumEntry, value_schema, IsSchemaObject, IsSchema, IsPayload, ArePayloads, HasOptionalPayload, HasSchema}
 
 -- ---- forms of relations
 pub same_members : (v : Json) (ms ns : Members Number) → v ≡ object ms → v ≡ object ns → ns ≡ ms
@@ -77,7 +77,7 @@ id_once key ms = part_once IsIdentifier identifier_once (value_at key ms)
 pub optional_id_once : (key : List ℕ) (ms : Members Number) (i j : Option Identifier) → HasOptionalId key ms i → HasOptionalId key ms j → i ≡ j
 optional_id_once key ms = option_once (HasOptionalId key ms) (id_once key ms) (λ i g h. let there = h.1 in cc)
 
-pub writable_once : (o : Option Json) (a b : Bool) → IsWritable o a → IsWritable o b → a ≡ b
+pub writable_once : (o : Option Json) (a b : Bool) → DeclaresWritable o a → DeclaresWritable o b → a ≡ b
 writable_once None a b g h = g ∙ sym h
 writable_once (Some v) a b g h = cc
 

@@ -2,12 +2,12 @@
 use Rattle.std.proofs.Common.{◌≡◌, ℕ, ◌<◌, inl, inr, ◌↔◌, List, [], ◌∷◌, Bool, true, false, IsTrue, Option, Some, None, refl, sym, ap, ap₂, subst, ◌∙◌, arith}
 use Rattle.std.specs.Prelude.{codes, pos}
 use Rattle.std.specs.List.{AllZip, enumerate_from}
-use Rattle.dtmi_name.specs.Grammar.{Identifier}
+use Rattle.dt_base.specs.names.Grammar.{Identifier}
 use Rattle.json_decimal.specs.Number.{Number}
 use Rattle.json_decimal.specs.Comparing.{IsWhole}
 use Rattle.json_decimal.proofs.Wholes.{one_whole}
 use Rattle.json_tree.specs.Values.{Json, null, truth, number, text, array, object, Elements, no_elements, element, Members}
-use Rattle.json_tree.specs.Pointers.{HasToken, AreTokens, IsPointerOf, pointer_text}
+use Rattle.json_tree.specs.Pointers.{HasToken, AreReferenceTokens, IsPointerOf, pointer_text}
 use Rattle.dtdl_terms.specs.Terms.{KindTerm, telemetry, property, command, relationship, component, ContentTerm, content, ContentTerms, no_contents, more_contents}
 use Rattle.dtdl_terms.specs.TermViews.{schema_term, content_term}
 use Rattle.dtdl_terms.specs.declared.content.Content.{Content}
@@ -18,7 +18,8 @@ use Rattle.dtdl_terms.proofs.OneTerm.{one_schema, one_content}
 use Rattle.local_rules.specs.Members.{list_of, value_at}
 use Rattle.local_rules.specs.declared.role.Position.{Position}
 use Rattle.local_rules.specs.declared.role.Position.TheVariants as position
-use Rattle.model_read.specs.Declarations.{IsIdentifier, AreEntriesOf, IsSemantic, HasSemantic, HasMax, type_of_kind, AreKind, IsContent, IsPropertyTerm, AreProperties, HasKindOf, IsContentEntry, HasEach, IsSchema, HasParents, DeclaresInterface}
+use Rattle.model_read.specs.Declarations.{IsIdentifier, AreEntriesOf, IsSemantic, HasSemantic, HasMax, AreKind, IsContent, AreProperties, HasKindOf, IsContentEntry, HasEach, IsSchema, HasParents, DeclaresInterface}
+use Rattle.local_rules.specs.Typed.{type_of_kind, IsPropertyTerm}
 use Rattle.model_read.specs.Uploads.{HasOrdinal, IsUploaded, IsUploadedAt, AreUploaded}
 use Rattle.model_read.proofs.Once.{same_members, option_once, all_zip_once, optional_text_once, identifier_once, id_once, optional_id_once, writable_once, localized_once, commons_once, schema_once, schema_at_once, optional_payload_once}
 
@@ -172,11 +173,11 @@ token_once (truth b) i s t p q g h = absurd g
 token_once (number n) i s t p q g h = absurd g
 token_once (text bytes) i s t p q g h = absurd g
 
-tokens_once : (place : List ℕ) (v : Json) (ss ts : List (List ℕ)) → AreTokens v place ss → AreTokens v place ts → ss ≡ ts
+tokens_once : (place : List ℕ) (v : Json) (ss ts : List (List ℕ)) → AreReferenceTokens v place ss → AreReferenceTokens v place ts → ss ≡ ts
 tokens_once [] v ss ts g h = g ∙ sym h
 tokens_once (i ∷ place) v ss ts g h =
     let here = token_once v i g.0 h.0 g.1 h.1 g.3 h.3 in
-    let rest = tokens_once place g.1 g.2 h.2 g.4 (subst (λ (p : Json). AreTokens p place h.2) here.1 h.4) in
+    let rest = tokens_once place g.1 g.2 h.2 g.4 (subst (λ (p : Json). AreReferenceTokens p place h.2) here.1 h.4) in
     g.5 ∙ (ap₂ (λ (x : List ℕ) (xs : List (List ℕ)). x ∷ xs) here.0 rest ∙ sym h.5)
 
 pointer_once : (v : Json) (place a b : List ℕ) → IsPointerOf v place a → IsPointerOf v place b → a ≡ b

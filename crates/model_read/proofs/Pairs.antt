@@ -3,6 +3,7 @@ use Rattle.std.proofs.Common.{◌≡◌, ◌≢◌, ℕ, zero, suc, ◌<◌, Lis
 use Rattle.std.specs.Prelude.{slice_get}
 use Rattle.std.specs.List.{AllByRecursion, AllZip, list_any}
 use Rattle.std.proofs.lemmas.Slice.Eq.{bytes_eq-Decides}
+use Rattle.std.proofs.lemmas.Bool.{or_left, or_right}
 use Rattle.json_decimal.specs.Number.{Number}
 use Rattle.json_tree.specs.Values.{Json, Elements, no_elements, element}
 use Rattle.json_tree.specs.Places.{element_at}
@@ -42,19 +43,11 @@ mapped_at f no_elements i v at = absurd cc
 mapped_at {B = B} f (element w vs) zero v at = let same : w ≡ v = cc in ap (λ (u : Json). Some (f u)) same
 mapped_at f (element w vs) (suc i) v at = mapped_at f vs i v at
 
-true_or : (a b : Bool) → b ≡ true → (a || b) ≡ true
-true_or true b is = refl
-true_or false b is = is
-
-or_true : (a b : Bool) → a ≡ true → (a || b) ≡ true
-or_true true b is = refl
-or_true false b is = absurd cc
-
 any_before : {X : Type 0} (test : X → Bool) (xs : List X) (i j : ℕ) (x : X) → i < j → slice_get xs i ≡ Some x → test x ≡ true → list_any test (take j xs) ≡ true
 any_before test [] i j x less at on = absurd cc
 any_before test (y ∷ xs) i zero x less at on = absurd (omega arith)
-any_before test (y ∷ xs) zero (suc j) x less at on = let same : y ≡ x = cc in or_true (test y) (list_any test (take j xs)) (ap test same ∙ on)
-any_before test (y ∷ xs) (suc i) (suc j) x less at on = true_or (test y) (list_any test (take j xs)) (any_before test xs i j x (omega arith) at on)
+any_before test (y ∷ xs) zero (suc j) x less at on = let same : y ≡ x = cc in or_left (test y) (list_any test (take j xs)) (ap test same ∙ on)
+any_before test (y ∷ xs) (suc i) (suc j) x less at on = or_right (test y) (list_any test (take j xs)) (any_before test xs i j x (omega arith) at on)
 
 -- one that is equal to an earlier one repeats it
 repeats_earlier : (xs : List (Option (List ℕ))) (i j : ℕ) (t : List ℕ) → i < j → slice_get xs i ≡ Some (Some t) → slice_get xs j ≡ Some (Some t)

@@ -4,11 +4,11 @@ use Rattle.std.specs.Prelude.{ℤ, pos, negsuc, ◌≤ℤ◌, slice_index}
 use Rattle.std.specs.Char.{is_ascii_alphabetic, is_ascii_alphanumeric}
 use Rattle.std.proofs.lemmas.Bool.{leb-true, le-leb}
 use Rattle.std.proofs.lemmas.Int.{ints}
-use Rattle.dtmi_name.specs.Faults.{RefusesDtmi}
-use Rattle.dtmi_name.specs.Grammar.{NameText, OwnDtmiText, dtmi_text, is_name_byte}
-use Rattle.dtmi_name.proofs.Exact.{dtmi_refused}
-use Rattle.dtmi_name.specs.declared.fault.NameFault.{NameFault}
-use Rattle.dtmi_name.specs.declared.fault.NameFault.TheVariants as fault
+use Rattle.dt_base.specs.names.Faults.{RefusesDtmi}
+use Rattle.dt_base.specs.names.Grammar.{NameText, OwnDtmiText, dtmi_text, is_name_byte}
+use Rattle.dt_base.proofs.names.Exact.{dtmi_refused}
+use Rattle.dt_base.specs.declared.names.fault.NameFault.{NameFault}
+use Rattle.dt_base.specs.declared.names.fault.NameFault.TheVariants as fault
 use Rattle.json_decimal.specs.Number.{Number}
 use Rattle.json_decimal.specs.Comparing.{IsWhole}
 use Rattle.json_decimal.proofs.Wholes.{one_whole}
@@ -16,7 +16,7 @@ use Rattle.json_tree.specs.Values.{Json, null, truth, number, text, array, objec
 use Rattle.json_tree.specs.View.{view, elements_view}
 use Rattle.json_tree.specs.declared.tree.Tree.{Tree}
 use Rattle.json_tree.specs.declared.tree.Tree as variants
-use Rattle.local_rules.specs.Quantities.{IsString}
+use Rattle.local_rules.specs.Quantities.{IsStringValue}
 use Rattle.local_rules.specs.Types.{MayHaveBeside, further}
 use Rattle.local_rules.specs.declared.role.Element.TheVariants as element_kind
 use Rattle.local_rules.specs.declared.role.Position.{Position}
@@ -26,7 +26,7 @@ use Rattle.json_tree.proofs.Parts.{item_part}
 use Rattle.model_read.specs.Machinery.Shapes.{CanBe, CanBeId, CanBeName, CanBeMultiplicity, CanBeTypes, EachIs, IsListOf}
 
 -- ---- texts
-pub word_of : (P : List ℕ → Type 0) (v : Json) → CanBe ((bytes : List ℕ) × (v ≡ text bytes) × P bytes) → IsString v
+pub word_of : (P : List ℕ → Type 0) (v : Json) → CanBe ((bytes : List ℕ) × (v ≡ text bytes) × P bytes) → IsStringValue v
 word_of P (text bytes) can = (bytes, refl)
 word_of P null can = absurd (can (λ is. let e = is.1 in absurd cc))
 word_of P (truth b) can = absurd (can (λ is. let e = is.1 in absurd cc))
@@ -34,7 +34,7 @@ word_of P (number n) can = absurd (can (λ is. let e = is.1 in absurd cc))
 word_of P (array vs) can = absurd (can (λ is. let e = is.1 in absurd cc))
 word_of P (object ms) can = absurd (can (λ is. let e = is.1 in absurd cc))
 
-pub id_word : (v : Json) → CanBeId v → IsString v
+pub id_word : (v : Json) → CanBeId v → IsStringValue v
 id_word v can = word_of (λ bytes. Unit {0}) v (λ none. can (λ is. none (dtmi_text is.0, is.1.0, tt)))
 
 -- a text of the grammar is refused for want of memory alone

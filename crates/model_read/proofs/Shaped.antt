@@ -7,8 +7,8 @@ use Rattle.local_rules.specs.Tables.{key_text, required, types_of}
 use Rattle.local_rules.specs.Roles.{element_member, element_of, entry_role, key_of, key_role, schema_of_values_named, position_of, schema_role, type_in, type_of, untyped_role, schema_of_values}
 use Rattle.local_rules.specs.Kinds.{LacksKeyOf, is_of_kind, kind_of, needed_keys}
 use Rattle.local_rules.specs.Types.{NamesNothing}
-use Rattle.local_rules.specs.Levels.{IsPrimitive}
-use Rattle.local_rules.specs.Quantities.{IsString}
+use Rattle.local_rules.specs.Levels.{IsPrimitiveName}
+use Rattle.local_rules.specs.Quantities.{IsStringValue}
 use Rattle.local_rules.specs.declared.key.Key.{Key}
 use Rattle.local_rules.specs.declared.key.Key.TheVariants as key
 use Rattle.local_rules.specs.declared.role.Element.{Element}
@@ -32,7 +32,7 @@ use Rattle.json_tree.specs.View.{view, elements_view}
 use Rattle.json_tree.specs.declared.tree.Tree.{Tree}
 use Rattle.json_tree.specs.declared.tree.Tree as variants
 use Rattle.local_rules.proofs.Views.{view-Null, view-Bool, view-Number, view-List}
-use Rattle.model_read.specs.Machinery.Shapes.{ArrayShape, CanBeEnumValue, CanBeId, CanBeMultiplicity, CanBeName, CanBeTypes, CanBeValueSchema, CommonShape, CommandShape, ComponentShape, ContentShape, EnumEntryShape, EnumerationShape, Has, InterfaceShape, IsListOf, IsObject, IsParents, IsValid, IsValidContent, IsValidEnumEntry, IsValidInterface, IsValidPayload, IsValidProperty, IsValidSchema, IsTruth, IsWords, KindShape, MapShape, MayHave, ObjectShape, PayloadShape, PropertyShape, RelationshipPropertyShape, RelationshipShape, SchemaShape, TelemetryShape}
+use Rattle.model_read.specs.Machinery.Shapes.{ArrayShape, CanBeEnumValue, CanBeId, CanBeMultiplicity, CanBeName, CanBeTypes, CanBeValueSchema, CommonShape, CommandShape, ComponentShape, ContentShape, EnumEntryShape, EnumerationShape, HasMember, InterfaceShape, IsListOf, IsObject, IsParents, IsValid, IsValidContent, IsValidEnumEntry, IsValidInterface, IsValidPayload, IsValidProperty, IsValidSchema, IsTruth, IsWords, KindShape, MapShape, MayHave, ObjectShape, PayloadShape, PropertyShape, RelationshipPropertyShape, RelationshipShape, SchemaShape, TelemetryShape}
 use Rattle.model_read.proofs.Leaves as leaves
 use Rattle.model_read.proofs.Valid.{entry_valid, has_key, here, member_valid, keyed_valid, of_kind}
 
@@ -71,7 +71,7 @@ module _ (r : Role) (ms : Members Number) (valid : IsValid r (object ms)) where
   may_have e k P is known leaf = λ v at. leaf v (member_valid r ms e k (key_text k) v is known at valid)
 
   has : (e : Element) (k : Key) (P : Json → Type 0) → element_of r ms ≡ Some e → key_of e (key_text k) ≡ Some k → Contains (required e) k
-      → ((v : Json) → IsValid (key_role r e ms k) v → P v) → Has P (key_text k) ms
+      → ((v : Json) → IsValid (key_role r e ms k) v → P v) → HasMember P (key_text k) ms
   has e k P is known needed leaf = (has_key r ms e k is needed valid, may_have e k P is known leaf)
 
   -- the members that every element but an interface may have
@@ -79,7 +79,7 @@ module _ (r : Role) (ms : Members Number) (valid : IsValid r (object ms)) where
   common_shape element.Interface is other = absurd (other refl)
   common_shape e is other = record {
     id = may_have e key.Id CanBeId is refl leaves.element_id;
-    comment = may_have e key.Comment IsString is refl leaves.comment;
+    comment = may_have e key.Comment IsStringValue is refl leaves.comment;
     description = may_have e key.Description IsWords is refl (leaves.localized localized.Description);
     display_name = may_have e key.DisplayName IsWords is refl (leaves.localized localized.DisplayName);
   }
@@ -179,15 +179,15 @@ module _ (r : Role) (ms : Members Number) (valid : IsValid r (object ms)) where
   }
 
 -- ---- schemas
-pub schema_kind : (v : Json) → IsValidSchema v → IsString v ⊎ IsObject v
+pub schema_kind : (v : Json) → IsValidSchema v → IsStringValue v ⊎ IsObject v
 schema_kind v (inl valid) = inr (is_object role.NamedSchema v refl valid)
 schema_kind (text bytes) (inr valid) = inl (bytes, refl)
 schema_kind (object ms) (inr valid) = inr (ms, refl)
 schema_kind other (inr valid) = let is = of_kind (role.Schema valid.0) other valid.1 in absurd cc
 
 -- so no other value is a schema
-no_other : (v w : Json) → v ≡ w → (IsString w ⊎ IsObject w → ⊥) → IsValidSchema v → ⊥
-no_other v w is other valid = other (subst (λ (u : Json). IsString u ⊎ IsObject u) is (schema_kind v valid))
+no_other : (v w : Json) → v ≡ w → (IsStringValue w ⊎ IsObject w → ⊥) → IsValidSchema v → ⊥
+no_other v w is other valid = other (subst (λ (u : Json). IsStringValue u ⊎ IsObject u) is (schema_kind v valid))
 
 pub no_schema : (t : Tree) → (t ≡ variants.Null) ⊎ ((b : Bool) × (t ≡ variants.Bool b)) ⊎ ((d : Decimal) × (t ≡ variants.Number d)) ⊎ ((ts : List Tree) × (t ≡ variants.List ts))
     → IsValidSchema (view t) → ⊥
@@ -199,7 +199,7 @@ no_schema t (inr (inr (inl (d, e)))) valid =
 no_schema t (inr (inr (inr (ts, e)))) valid =
     no_other (view t) (array (elements_view ts)) (ap view e ∙ view-List ts) (λ is. elim is [ inl w ↦ (let q = w.1 in absurd cc) | inr o ↦ (let q = o.1 in absurd cc) ]) valid
 
-pub schema_text : (bytes : List ℕ) → IsValidSchema (text bytes) → (IsPrimitive bytes → ⊥) → CanBeId (text bytes)
+pub schema_text : (bytes : List ℕ) → IsValidSchema (text bytes) → (IsPrimitiveName bytes → ⊥) → CanBeId (text bytes)
 schema_text bytes (inl valid) none = let is = of_kind role.NamedSchema (text bytes) valid in absurd cc
 schema_text bytes (inr valid) none = valid.1.named [] (role.Schema valid.0) (text bytes) (refl, refl) valid.0 bytes refl refl none
 
@@ -327,7 +327,7 @@ interface_shape ms valid =
     let e = element.Interface in
     record {
       id = has r ms valid e key.Id CanBeId refl refl (1, lit≤ tt, refl) leaves.interface_id;
-      comment = may_have r ms valid e key.Comment IsString refl refl leaves.comment;
+      comment = may_have r ms valid e key.Comment IsStringValue refl refl leaves.comment;
       description = may_have r ms valid e key.Description IsWords refl refl (leaves.localized localized.Description);
       display_name = may_have r ms valid e key.DisplayName IsWords refl refl (leaves.localized localized.DisplayName);
       parents = may_have r ms valid e key.Extends IsParents refl refl leaves.parents;

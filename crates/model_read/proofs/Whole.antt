@@ -8,7 +8,7 @@ use Rattle.local_rules.specs.Members.{members_in, value_at, value_in}
 use Rattle.local_rules.specs.Roles.{HasRole, element_member, id_role, key_of, member_role, part_role, role_of_key, type_in, type_of}
 use Rattle.local_rules.specs.Kinds.{LacksKeyOf, needed_keys}
 use Rattle.local_rules.specs.Identifiers.{OfText}
-use Rattle.local_rules.specs.Levels.{IsPrimitive, has_id, schema_named}
+use Rattle.local_rules.specs.Levels.{IsPrimitiveName, has_id, schema_named}
 use Rattle.local_rules.specs.Breaches.{BreaksAlone, BreaksNoLocalRule, IsBreach, IsBroken}
 use Rattle.local_rules.specs.declared.key.Key.TheVariants as key
 use Rattle.local_rules.specs.declared.rule.LocalRule.{LocalRule}
@@ -113,7 +113,7 @@ interface v none = record { alone = alone; named = named }
 
     named : (place : List ℕ) (q : Role) (w : Json) → HasRole role.Interface v place q w → NamesSchema q w
     named place q w there part bytes is same other =
-        let Unknown : List ℕ → Type 0 = λ t. (IsPrimitive t → ⊥) × (schema_named (members_in v) t ≡ None) in
+        let Unknown : List ℕ → Type 0 = λ t. (IsPrimitiveName t → ⊥) × (schema_named (members_in v) t ≡ None) in
         let known = λ (lacks : schema_named (members_in v) bytes ≡ None).
         none place rule.UnknownSchema (q, w, there, inr (inr (inl (part, is, subst (OfText Unknown) (sym same) (other, lacks))))) in
         subst CanBeId (sym same) (named_can_be v bytes (schema_named (members_in v) bytes) refl known alone)

@@ -3,7 +3,7 @@ use Rattle.std.proofs.Common.{◌≡◌, ◌≢◌, ℕ, zero, suc, ◌<◌, ◌
 use Rattle.std.specs.Prelude.{IfSome, codes}
 use Rattle.std.specs.List.{AllByRecursion, AllZip}
 use Rattle.std.proofs.lemmas.Slice.Zip.{AllZip-long}
-use Rattle.dtmi_name.specs.Grammar.{Identifier, dtmi_text}
+use Rattle.dt_base.specs.names.Grammar.{Identifier, dtmi_text}
 use Rattle.json_decimal.specs.Number.{Number}
 use Rattle.json_tree.specs.Values.{Json, null, truth, number, text, array, object, Elements, no_elements, element, Members, no_members, member}
 use Rattle.json_tree.specs.Places.{element_at, member_at}
@@ -37,8 +37,9 @@ use Rattle.local_rules.specs.declared.role.Role.TheVariants as role
 use Rattle.local_rules.specs.declared.role.SchemaUse.{SchemaUse}
 use Rattle.local_rules.specs.declared.role.SchemaUse.TheVariants as schema_use
 use Rattle.local_rules.specs.declared.role.ValueSchema.{ValueSchema}
-use Rattle.model_read.specs.Declarations.{ArePayloads, AreProperties, AreEntriesOf, AreKind, DeclaresInterface, HasCommon, HasContents, HasKindOf, HasSchemas, HasOptionalId, HasOptionalPayload, HasOptionalString, HasParents, HasSchema, HasSemantic, HasString, IsContent, IsContentEntry, IsEnumEntry, IsIdentifier, IsLocalized, IsLocalizedBy, IsPayload, IsPropertyTerm, IsSchema, IsSemantic, IsTextOfLanguage, type_of_kind}
-use Rattle.model_read.specs.Limits.{ContentIsWithin, ContentsAreWithin, EnumEntryIsWithin, HasShortTexts, IsShortId, IsShortInterfaceId, IsShortName, IsShortText, IsWithinLimits, KindIsWithin, OuterPayloadIsWithin, OuterSchemaIsWithin, PayloadIsWithin, PayloadsAreWithin, SchemaIsWithin, levels}
+use Rattle.model_read.specs.Declarations.{ArePayloads, AreProperties, AreEntriesOf, AreKind, DeclaresInterface, HasCommon, HasContents, HasKindOf, HasSchemas, HasOptionalId, HasOptionalPayload, HasOptionalString, HasParents, HasSchema, HasSemantic, HasString, IsContent, IsContentEntry, IsEnumEntry, IsIdentifier, IsLocalized, IsLocalizedBy, IsPayload, IsSchema, IsSemantic, IsTextOfLanguage}
+use Rattle.local_rules.specs.Typed.{IsPropertyTerm, type_of_kind}
+use Rattle.local_rules.specs.Limits.{ContentIsWithin, ContentsAreWithin, EnumEntryIsWithin, HasShortTexts, IsShortId, IsShortInterfaceId, IsShortName, IsShortText, IsWithinLimits, KindIsWithin, OuterPayloadIsWithin, OuterSchemaIsWithin, PayloadIsWithin, PayloadsAreWithin, SchemaIsWithin, levels}
 use Rattle.model_read.specs.Machinery.Shapes.{CanBeName, CanBeTypes, IsValid}
 use Rattle.model_read.proofs.Valid.{here, placed_valid}
 use Rattle.model_read.proofs.Leaves as leaves

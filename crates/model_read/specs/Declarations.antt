@@ -3,7 +3,7 @@
 -- says nothing of limits.
 use Rattle.std.specs.Prelude.{◌≡◌, ℕ, ◌⊎◌, List, [], ◌∷◌, Bool, true, false, Option, Some, None, codes, pos}
 use Rattle.std.specs.List.{AllZip}
-use Rattle.dtmi_name.specs.Grammar.{Identifier, OwnDtmiText, dtmi_text}
+use Rattle.dt_base.specs.names.Grammar.{Identifier, OwnDtmiText, dtmi_text}
 use Rattle.json_decimal.specs.Number.{Number}
 use Rattle.json_decimal.specs.Comparing.{IsWhole}
 use Rattle.json_tree.specs.Values.{Json, null, truth, number, text, array, object, Elements, no_elements, element, Members}
@@ -20,6 +20,7 @@ use Rattle.dtdl_terms.specs.declared.interface.Interface.{Interface}
 use Rattle.dtdl_terms.specs.declared.schema.Schema.{Schema}
 use Rattle.local_rules.specs.Members.{list_of, pairs_of, value_at, members_in}
 use Rattle.local_rules.specs.Roles.{type_of}
+use Rattle.local_rules.specs.Typed.{IsPropertyTerm, type_of_kind}
 use Rattle.local_rules.specs.Types.{further}
 use Rattle.local_rules.specs.declared.role.Element.{Element}
 use Rattle.local_rules.specs.declared.role.Element.TheVariants as element_kind
@@ -47,9 +48,9 @@ HasOptionalId key ms None = value_at key ms ≡ None
 HasOptionalId key ms (Some id) = HasId key ms id
 
 -- `writable` is false where it is absent.
-abbrev pub IsWritable : Option Json → Bool → Type 0
-IsWritable None writable = writable ≡ false
-IsWritable (Some v) writable = v ≡ truth writable
+abbrev pub DeclaresWritable : Option Json → Bool → Type 0
+DeclaresWritable None writable = writable ≡ false
+DeclaresWritable (Some v) writable = v ≡ truth writable
 
 -- A text in a language, by a member of an object.
 abbrev pub IsTextOfLanguage : List ℕ × Json → Entry → Type 0
@@ -160,27 +161,15 @@ abbrev pub HasMax : Members Number → Option ℕ → Type 0
 HasMax ms None = value_at (codes "maxMultiplicity") ms ≡ None
 HasMax ms (Some most) = (n : Number) × (value_at (codes "maxMultiplicity") ms ≡ Some (number n)) × IsWhole n (pos most)
 
--- The kind of a content by its term. An entry of a relationship's `properties` is a property whatever its `@type`
--- names.
-abbrev pub type_of_kind : KindTerm → Element
-type_of_kind (telemetry s semantic unit) = element_kind.Telemetry
-type_of_kind (property s semantic unit writable) = element_kind.Property
-type_of_kind (command request response) = element_kind.Command
-type_of_kind (relationship target properties most writable) = element_kind.Relationship
-type_of_kind (component id) = element_kind.Component
-
-abbrev pub IsPropertyTerm : ContentTerm → Type 0
-IsPropertyTerm (content n c k) = type_of_kind k ≡ element_kind.Property
-
 abbrev mutual
   pub AreKind : Position → KindTerm → Members Number → Type 0
   AreKind p (telemetry s semantic unit) ms = HasSchema (codes "schema") ms s × HasSemantic p ms semantic × HasOptionalString (codes "unit") ms unit
   AreKind p (property s semantic unit writable) ms = HasSchema (codes "schema") ms s × HasSemantic p ms semantic × HasOptionalString (codes "unit") ms unit
-      × IsWritable (value_at (codes "writable") ms) writable
+      × DeclaresWritable (value_at (codes "writable") ms) writable
   AreKind p (command request response) ms = HasOptionalPayload (codes "request") ms request × HasOptionalPayload (codes "response") ms response
   AreKind p (relationship target properties most writable) ms = HasOptionalId (codes "target") ms target
       × ((vs : Elements Number) × AreEntriesOf (value_at (codes "properties") ms) vs × AreProperties properties vs)
-      × HasMax ms most × IsWritable (value_at (codes "writable") ms) writable
+      × HasMax ms most × DeclaresWritable (value_at (codes "writable") ms) writable
   AreKind p (component id) ms = HasId (codes "schema") ms id
 
   -- A content at a position of `@type`: its name, what every element has, and what its kind has.

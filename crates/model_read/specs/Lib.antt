@@ -1,5 +1,4 @@
 pub mod Declarations
 pub mod Uploads
 pub mod Ends
-pub mod Limits
 pub mod Machinery

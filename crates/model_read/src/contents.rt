@@ -18,9 +18,9 @@ use crate::kinds::{
 };
 use crate::parts::{entries_at, members_of};
 use crate::texts::{name_at, optional_id};
+use dt_base::names::Name;
 use dt_base::{List, OutOfMemory};
 use dtdl_terms::{Common, Content, ContentKind};
-use dtmi_name::Name;
 use json_tree::{Member, Tree};
 use local_rules::{Element, Position, type_of};
 use std::alloc::Global;

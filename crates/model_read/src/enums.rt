@@ -7,7 +7,7 @@ ghost use Rattle.json_tree.specs.Values.{number, text};
 ghost use Rattle.json_tree.specs.View.{view, members_view, elements_view};
 ghost use Rattle.local_rules.specs.Members.{list_of};
 ghost use Rattle.model_read.specs.Declarations.{DeclaresEnumEntry, HasString, IsEnumEntry, IsEnumValue, value_schema};
-ghost use Rattle.model_read.specs.Machinery.Shapes.{CanBeEnumValue, CanBeValueSchema, EachIs, EnumEntryShape, Has, IsValidEnumEntry};
+ghost use Rattle.model_read.specs.Machinery.Shapes.{CanBeEnumValue, CanBeValueSchema, EachIs, EnumEntryShape, HasMember, IsValidEnumEntry};
 
 use crate::common::common_of;
 use crate::parts::{members_of, wanted};
@@ -91,7 +91,7 @@ fn asks_for_text(name: &str) -> bool
 
 /// Whether the values of an enumeration are texts.
 pub fn is_of_text(members: &[Member]) -> bool
-    requires { Has CanBeValueSchema (codes "valueSchema") (members_view members.now) }
+    requires { HasMember CanBeValueSchema (codes "valueSchema") (members_view members.now) }
     ensures { HasString (codes "valueSchema") (members_view members.now) (value_schema result) }
 {
     let value = wanted(members, "valueSchema");

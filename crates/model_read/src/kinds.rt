@@ -10,7 +10,7 @@ ghost use Rattle.local_rules.specs.declared.role.Element.TheVariants as element;
 ghost use Rattle.local_rules.specs.declared.role.Position.TheVariants as position;
 ghost use Rattle.dtdl_terms.specs.TermViews.{payload_term};
 ghost use Rattle.std.specs.Option.{option_map};
-ghost use Rattle.model_read.specs.Declarations.{HasMax, HasOptionalPayload, IsWritable};
+ghost use Rattle.model_read.specs.Declarations.{HasMax, HasOptionalPayload, DeclaresWritable};
 ghost use Rattle.model_read.specs.Machinery.Gains.{GainsKind};
 ghost use Rattle.model_read.specs.Machinery.Shapes.{CanBeMultiplicity, CommandShape, ComponentShape, IsValidPayload, IsTruth, MayHave, PropertyShape, TelemetryShape};
 
@@ -18,8 +18,8 @@ use crate::schemas::{payload_at, schema_at};
 use crate::semantics::semantic_at;
 use crate::texts::{id_at, optional_name};
 use dt_base::OutOfMemory;
+use dt_base::names::Name;
 use dtdl_terms::{Boxed, Common, Content, ContentKind, Payload};
-use dtmi_name::Name;
 use json_decimal::Decimal;
 use json_tree::{Member, Tree};
 use local_rules::{Position, value_at};
@@ -42,7 +42,7 @@ fn truth_of(tree: &Tree) -> bool
 /// Whether an object is writable; it is not where it does not say so.
 pub fn is_writable(members: &[Member]) -> bool
     requires { MayHave IsTruth (codes "writable") (members_view members.now) }
-    ensures { IsWritable (value_at (codes "writable") (members_view members.now)) result }
+    ensures { DeclaresWritable (value_at (codes "writable") (members_view members.now)) result }
 {
     match value_at(members, "writable") {
         Some(value) => truth_of(value),

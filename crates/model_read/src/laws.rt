@@ -6,7 +6,7 @@ ghost use Rattle.json_tree.specs.Values.{HasDistinctKeys, Json};
 ghost use Rattle.dtdl_terms.specs.Distinct.{HasDeclaration};
 ghost use Rattle.dtdl_terms.specs.declared.uploaded.Uploaded.{Uploaded};
 ghost use Rattle.local_rules.specs.Breaches.{BreaksNoLocalRule};
-ghost use Rattle.model_read.specs.Limits.{IsWithinLimits};
+ghost use Rattle.local_rules.specs.Limits.{IsWithinLimits};
 ghost use Rattle.model_read.specs.Uploads.{AreUploaded};
 
 /// A document declares at most one list of interfaces.

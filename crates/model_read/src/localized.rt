@@ -4,9 +4,9 @@ ghost use Rattle.std.specs.Prelude.{◌≡◌, [], ◌∷◌, Some, IfOk, codes}
 ghost use Rattle.std.specs.List.{AllZip};
 ghost use Rattle.json_tree.specs.View.{view, member_view, members_view};
 ghost use Rattle.local_rules.specs.Members.{pairs_of, value_at};
-ghost use Rattle.local_rules.specs.Quantities.{IsString};
+ghost use Rattle.local_rules.specs.Quantities.{IsStringValue};
 ghost use Rattle.model_read.specs.Declarations.{HasLocalized, IsLocalizedBy, IsTextOfLanguage};
-ghost use Rattle.model_read.specs.Machinery.Shapes.{AreWords, IsWords, MayHave};
+ghost use Rattle.model_read.specs.Machinery.Shapes.{HaveStrings, IsWords, MayHave};
 
 use crate::texts::text_of;
 use dt_base::{List, OutOfMemory, Text};
@@ -17,7 +17,7 @@ use std::alloc::Global;
 
 /// The text of one language.
 fn entry_of(alloc: Global, member: &Member) -> Result<Entry, OutOfMemory>
-    requires { IsString (view member.now.value) }
+    requires { IsStringValue (view member.now.value) }
     ensures { IfOk result (λ e. IsTextOfLanguage (member_view member.now) e) }
 {
     let language = member.key.copy(alloc)?;
@@ -27,7 +27,7 @@ fn entry_of(alloc: Global, member: &Member) -> Result<Entry, OutOfMemory>
 
 /// The texts of the languages that the members name.
 fn entries_of(alloc: Global, members: &[Member]) -> Result<List<Entry>, OutOfMemory>
-    requires { AreWords (members_view members.now) }
+    requires { HaveStrings (members_view members.now) }
     ensures { IfOk result (λ es. AllZip IsTextOfLanguage (pairs_of (members_view members.now)) es) }
 {
     let mut entries = Vec::with_capacity(alloc, members.len())?;

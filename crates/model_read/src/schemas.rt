@@ -4,12 +4,12 @@ ghost use Rattle.std.specs.Prelude.{◌≡◌, Some, IfOk};
 ghost use Rattle.json_tree.specs.Values.{text, object};
 ghost use Rattle.json_tree.specs.View.{view, members_view, elements_view};
 ghost use Rattle.dtdl_terms.specs.TermViews.{schema_term, payload_term, payloads_term};
-ghost use Rattle.local_rules.specs.Levels.{IsPrimitive};
+ghost use Rattle.local_rules.specs.Levels.{IsPrimitiveName};
 ghost use Rattle.local_rules.specs.Roles.{type_of};
 ghost use Rattle.local_rules.specs.declared.role.Element.TheVariants as element;
 ghost use Rattle.local_rules.specs.declared.role.Position.TheVariants as position;
 ghost use Rattle.model_read.specs.Declarations.{IsSchema, IsPayload, ArePayloads, HasSchema, HasPayload};
-ghost use Rattle.model_read.specs.Machinery.Shapes.{ArrayShape, CanBeId, EachIs, EnumerationShape, Has, IsValidPayload, IsValidSchema, MapShape, ObjectShape, SchemaShape};
+ghost use Rattle.model_read.specs.Machinery.Shapes.{ArrayShape, CanBeId, EachIs, EnumerationShape, HasMember, IsValidPayload, IsValidSchema, MapShape, ObjectShape, SchemaShape};
 
 use crate::common::common_of;
 use crate::enums::{enum_entries_of, is_of_text};
@@ -24,7 +24,7 @@ use std::alloc::Global;
 /// The schema of this name: a primitive, or one that is declared elsewhere.
 #[tactic(auto, using(dtdl_terms::proofs::TermViews::terms))]
 fn schema_named(alloc: Global, name: &str) -> Result<Schema, OutOfMemory>
-    requires { (IsPrimitive name.now → ⊥) → CanBeId (text name.now) }
+    requires { (IsPrimitiveName name.now → ⊥) → CanBeId (text name.now) }
     ensures { IfOk result (λ s. IsSchema (schema_term s) (text name.now)) }
 {
     match primitive_named(name) {
@@ -116,7 +116,7 @@ fn object_in(alloc: Global, members: &[Member]) -> Result<Schema, OutOfMemory>
 /// The schema under a key.
 #[cycle(schemas)]
 pub fn schema_at(alloc: Global, members: &[Member], key: &str) -> Result<Schema, OutOfMemory>
-    requires { Has IsValidSchema key.now (members_view members.now) }
+    requires { HasMember IsValidSchema key.now (members_view members.now) }
     ensures { IfOk result (λ s. HasSchema key.now (members_view members.now) (schema_term s)) }
 {
     let value = wanted(members, key);
@@ -130,7 +130,7 @@ pub fn payload_at(
     members: &[Member],
     key: &str,
 ) -> Result<Boxed<Payload>, OutOfMemory>
-    requires { Has IsValidPayload key.now (members_view members.now) }
+    requires { HasMember IsValidPayload key.now (members_view members.now) }
     ensures { IfOk result (λ p. HasPayload key.now (members_view members.now) (payload_term p)) }
 {
     let value = wanted(members, key);

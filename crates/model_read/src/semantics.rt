@@ -10,7 +10,7 @@ ghost use Rattle.model_read.specs.Machinery.Shapes.{CanBe, CanBeTypes, MayHave};
 
 use crate::texts::name_of;
 use dt_base::OutOfMemory;
-use dtmi_name::Name;
+use dt_base::names::Name;
 use json_tree::{Member, Tree};
 use local_rules::{Further, Position, first_further, value_at};
 use std::alloc::Global;

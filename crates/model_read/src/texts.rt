@@ -1,16 +1,16 @@
 //! Texts, names and identifiers, as values and under keys.
 
 ghost use Rattle.std.specs.Prelude.{◌≡◌, IfOk};
-ghost use Rattle.dtmi_name.specs.declared.fault.NameFault.TheVariants as faults;
+ghost use Rattle.dt_base.specs.declared.names.fault.NameFault.TheVariants as faults;
 ghost use Rattle.json_tree.specs.Values.{text};
 ghost use Rattle.json_tree.specs.View.{view, members_view};
-ghost use Rattle.local_rules.specs.Quantities.{IsString};
+ghost use Rattle.local_rules.specs.Quantities.{IsStringValue};
 ghost use Rattle.model_read.specs.Declarations.{IsIdentifier, HasString, HasOptionalString, HasId, HasOptionalId};
-ghost use Rattle.model_read.specs.Machinery.Shapes.{CanBeId, CanBeName, Has, MayHave};
+ghost use Rattle.model_read.specs.Machinery.Shapes.{CanBeId, CanBeName, HasMember, MayHave};
 
 use crate::parts::wanted;
+use dt_base::names::{Dtmi, Name, NameFault};
 use dt_base::{OutOfMemory, Text};
-use dtmi_name::{Dtmi, Name, NameFault};
 use json_tree::{Member, Tree};
 use local_rules::value_at;
 use std::alloc::Global;
@@ -18,7 +18,7 @@ use std::alloc::Global;
 /// The text that a value is.
 #[tactic(auto, using(local_rules::proofs::Views::views))]
 pub fn bytes_of(tree: &Tree) -> &str
-    requires { IsString (view tree.now) }
+    requires { IsStringValue (view tree.now) }
     ensures { view tree.now ≡ text result.now }
 {
     match tree {
@@ -31,7 +31,7 @@ pub fn bytes_of(tree: &Tree) -> &str
 
 /// The text that a value is, in memory of its own.
 pub fn text_of(alloc: Global, tree: &Tree) -> Result<Text, OutOfMemory>
-    requires { IsString (view tree.now) }
+    requires { IsStringValue (view tree.now) }
     ensures { IfOk result (λ t. view tree.now ≡ text t) }
 {
     let bytes = bytes_of(tree);
@@ -87,7 +87,7 @@ pub fn id_of(alloc: Global, tree: &Tree) -> Result<Dtmi, OutOfMemory>
 
 /// The name under a key.
 pub fn name_at(alloc: Global, members: &[Member], key: &str) -> Result<Name, OutOfMemory>
-    requires { Has CanBeName key.now (members_view members.now) }
+    requires { HasMember CanBeName key.now (members_view members.now) }
     ensures { IfOk result (λ name. HasString key.now (members_view members.now) name) }
 {
     name_of(alloc, wanted(members, key))
@@ -95,7 +95,7 @@ pub fn name_at(alloc: Global, members: &[Member], key: &str) -> Result<Name, Out
 
 /// The identifier under a key.
 pub fn id_at(alloc: Global, members: &[Member], key: &str) -> Result<Dtmi, OutOfMemory>
-    requires { Has CanBeId key.now (members_view members.now) }
+    requires { HasMember CanBeId key.now (members_view members.now) }
     ensures { IfOk result (λ id. HasId key.now (members_view members.now) id) }
 {
     id_of(alloc, wanted(members, key))
@@ -107,7 +107,7 @@ pub fn optional_text(
     members: &[Member],
     key: &str,
 ) -> Result<Option<Text>, OutOfMemory>
-    requires { MayHave IsString key.now (members_view members.now) }
+    requires { MayHave IsStringValue key.now (members_view members.now) }
     ensures { IfOk result (λ t. HasOptionalString key.now (members_view members.now) t) }
 {
     match value_at(members, key) {

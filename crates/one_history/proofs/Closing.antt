@@ -14,7 +14,7 @@ use Rattle.one_history.specs.declared.history.Turn.TheVariants.{Idle, Waits, Ser
 use Rattle.one_history.specs.declared.history.View.{View}
 use Rattle.one_history.specs.declared.shared.Pass.{Pass}
 use Rattle.one_history.specs.Histories.{state_after, own}
-use Rattle.one_history.specs.Machinery.Rules.{Has, alone, Stands, IsServed, IsInTurn, Kept, AreApart}
+use Rattle.one_history.specs.Machinery.Rules.{StandsIn, alone, Stands, IsServed, IsInTurn, Kept, AreApart}
 use Rattle.one_history.specs.Passes.{seen, number, made, members_of, IsComplete, IsWholeHistory}
 use Rattle.one_history.proofs.Places.{has_one, has_none, has_append, has_left, has_right, at_below, at_once}
 use Rattle.one_history.proofs.Growth.{own_append}
@@ -27,16 +27,16 @@ module _ {X : Type 0} where
   read_at (x ∷ xs) zero a d e = some-injective x a e
   read_at (x ∷ xs) (suc i) a d e = read_at xs i a d e
 
-  pub has_contains : (l : List X) (x : X) → Has l x → Contains l x
+  pub has_contains : (l : List X) (x : X) → StandsIn l x → Contains l x
   has_contains l x h = (h.0, at_below l x h.0 h.1, read_at l h.0 x x h.1)
 
-  pub contains_has : (l : List X) (x : X) → Contains l x → Has l x
+  pub contains_has : (l : List X) (x : X) → Contains l x → StandsIn l x
   contains_has l x h = (h.0, at_index l h.0 x h.1 (sym h.2))
 
-  pub has_any : (P : X → Type 0) (l : List X) (x : X) → Has l x → P x → Any P l
+  pub has_any : (P : X → Type 0) (l : List X) (x : X) → StandsIn l x → P x → Any P l
   has_any P l x h p = (h.0, x, at_below l x h.0 h.1, read_at l h.0 x x h.1, p)
 
-  pub any_has : (P : X → Type 0) (l : List X) → Any P l → (x : X) × Has l x × P x
+  pub any_has : (P : X → Type 0) (l : List X) → Any P l → (x : X) × StandsIn l x × P x
   any_has P l h = (h.1, (h.0, at_index l h.0 h.1 h.2 (sym h.3)), h.4)
 
 module _ {O A R : Type 0} where
@@ -53,10 +53,10 @@ module _ {O S A R : Type 0} (state : O → S) (sound : A → Type 0) (allowed : 
   Rule = Kept state sound allowed follows key
 
   abbrev Root : List (Member O A R) → Type 0
-  Root ms = (m : Member O A R) × Has ms m × (m.number ≡ [])
+  Root ms = (m : Member O A R) × StandsIn ms m × (m.number ≡ [])
 
   abbrev Kids : List (Member O A R) → Type 0
-  Kids ms = (m : Member O A R) → Has ms m → (k : ℕ) → k < m.made → (n : Member O A R) × Has ms n × (n.number ≡ m.number ++ k ∷ [])
+  Kids ms = (m : Member O A R) → StandsIn ms m → (k : ℕ) → k < m.made → (n : Member O A R) × StandsIn ms n × (n.number ≡ m.number ++ k ∷ [])
 
   -- each pass stands in the one seat
   all_here : (s : State (Option O) V) (r : Rule s) (id : ℕ) (v : V) → get_elem? s.views id ≡ some v → Root v.members → Kids v.members
@@ -67,12 +67,12 @@ module _ {O S A R : Type 0} (state : O → S) (sound : A → Type 0) (allowed : 
       (λ (w : (i : ℕ) × (q : Member O A R) × (k : ℕ) × Stands s.views i q × (m.number ≡ q.number ++ k ∷ []) × (k < q.made)).
       let len : length m.number ≡ length (w.1.number ++ w.2 ∷ []) = ap length w.4 in
       let place : w.0 ≡ id = all_here s r id v at root kids fuel w.0 w.1 w.3 (omega (arith, length-append w.1.number (w.2 ∷ []))) in
-      let here : Has v.members w.1 = stands_here s.views id v w.1 at (subst (λ (z : ℕ). Stands s.views z w.1) place w.3) in
+      let here : StandsIn v.members w.1 = stands_here s.views id v w.1 at (subst (λ (z : ℕ). Stands s.views z w.1) place w.3) in
       let n = kids w.1 here w.2 w.5 in
       r.story.apart j id m n.0 h (v, at, n.1) (w.4 ∙ sym n.2))
       (r.story.made j m h)
 
-  here : (s : State (Option O) V) (r : Rule s) (id : ℕ) (v : V) → get_elem? s.views id ≡ some v → Root v.members → Kids v.members → (j : ℕ) (m : Member O A R) → Stands s.views j m → Has v.members m
+  here : (s : State (Option O) V) (r : Rule s) (id : ℕ) (v : V) → get_elem? s.views id ≡ some v → Root v.members → Kids v.members → (j : ℕ) (m : Member O A R) → Stands s.views j m → StandsIn v.members m
   here s r id v at root kids j m h = let place : j ≡ id = all_here s r id v at root kids (length m.number + 1) j m h (omega arith) in
       stands_here s.views id v m at (subst (λ (z : ℕ). Stands s.views z m) place h)
 
@@ -84,7 +84,7 @@ module _ {O S A R : Type 0} (state : O → S) (sound : A → Type 0) (allowed : 
       (h.0, ap (λ (l : List (Home (Option O))). get_elem? l 0) r.homes ∙ ap (λ (z : Home (Option O)). some z) h.1, h.2))
       (λ (h : (j : ℕ) × (d : V) × (get_elem? s.views j ≡ some d) × IsServed d.turn).
       let m = one_member r.drawn r.serving r.log h.1.members h.1.turn (r.queue.turns h.0 h.1 h.2) h.3 in
-      let stands : Stands s.views h.0 m.0 = (h.1, h.2, subst (λ (z : List (Member O A R)). Has z m.0) (sym m.1) (0, refl)) in
+      let stands : Stands s.views h.0 m.0 = (h.1, h.2, subst (λ (z : List (Member O A R)). StandsIn z m.0) (sym m.1) (0, refl)) in
       let place : h.0 ≡ id = all_here s r id v at root kids (length m.0.number + 1) h.0 m.0 stands (omega arith) in
       let same : h.1 ≡ v = at_once s.views h.1 v id (subst (λ (z : ℕ). get_elem? s.views z ≡ some h.1) place h.2) at in
       absurd (subst IsServed calm (subst (λ (z : V). IsServed z.turn) same h.3)))
@@ -92,20 +92,20 @@ module _ {O S A R : Type 0} (state : O → S) (sound : A → Type 0) (allowed : 
 
   -- what was known of the passes when they came
   abbrev pub Owns : List (Pass O A R) → Type 0
-  Owns ps = (p : Pass O A R) → Has ps p → (m : Member O A R) × (p.seat.me ≡ (alone m, []))
+  Owns ps = (p : Pass O A R) → StandsIn ps p → (m : Member O A R) × (p.seat.me ≡ (alone m, []))
 
-  member_in : (ps : List (Pass O A R)) (p : Pass O A R) (m : Member O A R) (k : ℕ) → get_elem? ps k ≡ some p → p.seat.me ≡ (alone m, []) → Has (members_of ps) m
+  member_in : (ps : List (Pass O A R)) (p : Pass O A R) (m : Member O A R) (k : ℕ) → get_elem? ps k ≡ some p → p.seat.me ≡ (alone m, []) → StandsIn (members_of ps) m
   member_in [] p m k e is = absurd (some-ne-none p (sym e))
-  member_in (q ∷ qs) p m zero e is = has_left q.seat.me.0.members (members_of qs) m (subst (λ (z : List (Member O A R)). Has z m) (sym (ap (λ (z : Pass O A R). z.seat.me.0.members) (some-injective q p e) ∙ ap (λ (z : Me (Option O) V). z.0.members) is)) (0, refl))
+  member_in (q ∷ qs) p m zero e is = has_left q.seat.me.0.members (members_of qs) m (subst (λ (z : List (Member O A R)). StandsIn z m) (sym (ap (λ (z : Pass O A R). z.seat.me.0.members) (some-injective q p e) ∙ ap (λ (z : Me (Option O) V). z.0.members) is)) (0, refl))
   member_in (q ∷ qs) p m (suc k) e is = has_right q.seat.me.0.members (members_of qs) m (member_in qs p m k e is)
 
-  pass_of : (ps : List (Pass O A R)) → Owns ps → (m : Member O A R) → Has (members_of ps) m → (p : Pass O A R) × Has ps p × (p.seat.me ≡ (alone m, []))
+  pass_of : (ps : List (Pass O A R)) → Owns ps → (m : Member O A R) → StandsIn (members_of ps) m → (p : Pass O A R) × StandsIn ps p × (p.seat.me ≡ (alone m, []))
   pass_of [] owns m h = absurd (has_none m h)
   pass_of (q ∷ qs) owns m h = ⊎_elim
-      (λ (t : Has q.seat.me.0.members m). let o = owns q (0, refl) in
-      let same : o.0 ≡ m = has_one o.0 m (subst (λ (z : List (Member O A R)). Has z m) (ap (λ (z : Me (Option O) V). z.0.members) o.1) t) in
+      (λ (t : StandsIn q.seat.me.0.members m). let o = owns q (0, refl) in
+      let same : o.0 ≡ m = has_one o.0 m (subst (λ (z : List (Member O A R)). StandsIn z m) (ap (λ (z : Me (Option O) V). z.0.members) o.1) t) in
       (q, (0, refl), o.1 ∙ ap (λ (z : Member O A R). (alone z, [])) same))
-      (λ (t : Has (members_of qs) m). let r = pass_of qs (λ p k. owns p (suc k.0, k.1)) m t in (r.0, (suc r.1.0, r.1.1), r.2))
+      (λ (t : StandsIn (members_of qs) m). let r = pass_of qs (λ p k. owns p (suc k.0, k.1)) m t in (r.0, (suc r.1.0, r.1.1), r.2))
       (has_append q.seat.me.0.members (members_of qs) m h)
 
   pub root_of : (ps : List (Pass O A R)) → Owns ps → IsComplete ps → Root (members_of ps)
@@ -133,14 +133,14 @@ module _ {O S A R : Type 0} (state : O → S) (sound : A → Type 0) (allowed : 
   ends_whole ps owns all s r id v at is o right =
       let root : Root v.members = subst Root (sym is) (root_of ps owns all) in
       let kids : Kids v.members = subst Kids (sym is) (kids_of ps owns all) in
-      let found : (j : ℕ) (m : Member O A R) → Stands s.views j m → (p : Pass O A R) × Has ps p × (p.seat.me ≡ (alone m, [])) =
-      λ j m h. pass_of ps owns m (subst (λ (z : List (Member O A R)). Has z m) is (here s r id v at root kids j m h)) in
+      let found : (j : ℕ) (m : Member O A R) → Stands s.views j m → (p : Pass O A R) × StandsIn ps p × (p.seat.me ≡ (alone m, [])) =
+      λ j m h. pass_of ps owns m (subst (λ (z : List (Member O A R)). StandsIn z m) is (here s r id v at root kids j m h)) in
       record {
         legal = r.story.legal;
         state_is = right;
         longest = let w = r.story.whole in let p = found w.0 w.1 w.2 in has_any (λ (z : Pass O A R). seen z ≡ r.log) ps p.0 p.1 (me_seen w.1 p.0.seat.me p.2 ∙ w.3);
         each = λ p h. let k = contains_has ps p h in let m = owns p k in
-            let g = r.story.seen id m.0 (v, at, subst (λ (z : List (Member O A R)). Has z m.0) (sym is) (member_in ps p m.0 k.0 k.1 m.1)) in
+            let g = r.story.seen id m.0 (v, at, subst (λ (z : List (Member O A R)). StandsIn z m.0) (sym is) (member_in ps p m.0 k.0 k.1 m.1)) in
             let sees : m.0.seen ≡ seen p = sym (me_seen m.0 p.seat.me m.1) in
             let name : m.0.number ≡ number p = sym (me_number m.0 p.seat.me m.1) in
             let mine : own m.0.number r.log ≡ own m.0.number m.0.seen = ap (own m.0.number) g.1 ∙ own_append m.0.number m.0.seen g.0 ∙ ap (λ (z : List (Entry A R)). own m.0.number m.0.seen ++ z) g.2 ∙ append-nil (own m.0.number m.0.seen) in

@@ -4,7 +4,7 @@ use mathlib.Core.List.{head-eq_of_cons-eq, tail-eq_of_cons-eq}
 use Rattle.std.proofs.lemmas.Bool.Decides.{nat_tests}
 use Rattle.one_history.specs.declared.history.Entry.{Entry}
 use Rattle.one_history.specs.Histories.{state_after, IsHistory, is_same, own, GrowsByOthers, GrowsByCall, entry}
-use Rattle.one_history.specs.Machinery.Rules.{Has}
+use Rattle.one_history.specs.Machinery.Rules.{StandsIn}
 
 same_numbers : (xs ys : List ℕ) → is_same xs ys ≡ true → xs ≡ ys
 same_numbers [] [] e = refl
@@ -32,7 +32,7 @@ module _ {A R : Type 0} where
   skips true m n e es is apart = absurd (apart (same_numbers m n is))
   skips false m n e es is apart = refl
 
-  pub own_absent : (n : List ℕ) (es : List (Entry A R)) → ((e : Entry A R) → Has es e → e.number ≢ n) → own n es ≡ []
+  pub own_absent : (n : List ℕ) (es : List (Entry A R)) → ((e : Entry A R) → StandsIn es e → e.number ≢ n) → own n es ≡ []
   own_absent n [] absent = refl
   own_absent n (e ∷ es) absent = skips (is_same e.number n) e.number n e (own n es) refl (absent e (0, refl)) ∙ own_absent n es (λ x h. absent x (suc h.0, h.1))
 

@@ -5,7 +5,7 @@ use lib.ListN.{get_elem?}
 use Rattle.atomic_table.proofs.Lists.{at_set}
 use Rattle.one_history.specs.declared.history.Member.{Member}
 use Rattle.one_history.specs.declared.history.View.{View}
-use Rattle.one_history.specs.Machinery.Rules.{Has, AreApart}
+use Rattle.one_history.specs.Machinery.Rules.{StandsIn, AreApart}
 use Rattle.one_history.proofs.Places.{end_at}
 
 module _ {X : Type 0} where
@@ -29,7 +29,7 @@ module _ {O A R : Type 0} where
   pub one_apart : (x : Member O A R) → AreApart (x ∷ [])
   one_apart x i j m n e f same = first_at x m i e ∙ sym (first_at x n j f)
 
-  pub both_apart : (xs ys : List (Member O A R)) → AreApart xs → AreApart ys → ((m n : Member O A R) → Has xs m → Has ys n → m.number ≡ n.number → ⊥) → AreApart (xs ++ ys)
+  pub both_apart : (xs ys : List (Member O A R)) → AreApart xs → AreApart ys → ((m n : Member O A R) → StandsIn xs m → StandsIn ys n → m.number ≡ n.number → ⊥) → AreApart (xs ++ ys)
   both_apart xs ys a b cross i j m n e f same = ⊎_elim
       (λ (p : get_elem? xs i ≡ some m). ⊎_elim (λ (q : get_elem? xs j ≡ some n). a i j m n p q same)
       (λ (q : (k : ℕ) × (j ≡ length xs + k) × (get_elem? ys k ≡ some n)). absurd (cross m n (i, p) (q.0, q.2) same)) (split_at xs ys j n f))

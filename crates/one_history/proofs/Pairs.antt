@@ -7,7 +7,7 @@ use lib.ListN.{get_elem?}
 use Rattle.one_history.specs.declared.history.Entry.{Entry}
 use Rattle.one_history.specs.Histories.{state_after, IsHistory, is_same, own, GrowsByOthers, GrowsByCall, entry}
 use Rattle.one_history.specs.declared.shared.Pass.{Pass}
-use Rattle.one_history.specs.Machinery.Rules.{Has}
+use Rattle.one_history.specs.Machinery.Rules.{StandsIn}
 use Rattle.one_history.specs.Passes.{seen, number, IsWholeHistory}
 use Rattle.one_history.proofs.Places.{has_one}
 use Rattle.one_history.proofs.Closing.{has_contains, contains_has, any_has}
@@ -18,7 +18,7 @@ module _ {A R : Type 0} where
   skip_le true e es = omega arith
   skip_le false e es = le_refl (length es)
 
-  count_own : (a b : List ℕ) (log : List (Entry A R)) → ((e : Entry A R) → Has log e → (e.number ≡ a) ⊎ (e.number ≡ b)) → length log ≤ length (own a log) + length (own b log)
+  count_own : (a b : List ℕ) (log : List (Entry A R)) → ((e : Entry A R) → StandsIn log e → (e.number ≡ a) ⊎ (e.number ≡ b)) → length log ≤ length (own a log) + length (own b log)
   count_own a b [] each = omega arith
   count_own a b (e ∷ es) each =
       let rest : length es ≤ length (own a es) + length (own b es) = count_own a b es (λ x h. each x (suc h.0, h.1)) in
@@ -34,7 +34,7 @@ module _ {A R : Type 0} where
   nothing (x ∷ xs) e = absurd (omega arith)
 
   pub only_two : (a b : List ℕ) (x y : A) (r u : R) (none p q q' log : List (Entry A R)) → none ≡ [] → GrowsByCall a x r none p → IsPrefix p q → GrowsByCall b y u q q' → IsPrefix q' log
-      → own a log ≡ entry x r a ∷ [] → own b log ≡ entry y u b ∷ [] → ((e : Entry A R) → Has log e → (e.number ≡ a) ⊎ (e.number ≡ b))
+      → own a log ≡ entry x r a ∷ [] → own b log ≡ entry y u b ∷ [] → ((e : Entry A R) → StandsIn log e → (e.number ≡ a) ⊎ (e.number ≡ b))
       → log ≡ entry x r a ∷ entry y u b ∷ []
   only_two a b x y r u none p q q' log empty g pre h post mine yours each =
       let e1 : Entry A R = entry x r a in
@@ -97,7 +97,7 @@ module _ {O S A R : Type 0} (state : O → S) (sound : A → Type 0) (allowed : 
       subst (λ (z : List ℕ). own z log ≡ own z (seen q2)) nq2 second.1
       ∙ own_of_call b y u (seen q1) (seen q2) h
       ∙ ap (λ (z : List (Entry A R)). z ++ entry y u b ∷ []) (subst (λ (z : List ℕ). own z (seen q1) ≡ own z (seen q0)) (sym nq1) (own_of_others (number q0) (seen q0) (seen q1) gq) ∙ ap (own b) none') in
-      let each : (e : Entry A R) → Has log e → (e.number ≡ a) ⊎ (e.number ≡ b) =
+      let each : (e : Entry A R) → StandsIn log e → (e.number ≡ a) ⊎ (e.number ≡ b) =
       λ e k. ⊎_elim (λ (t : number p2 ≡ e.number). inl (sym t ∙ np2 ∙ np1)) (λ (t : number q2 ≡ e.number). inr (sym t ∙ nq2))
       (any_of_two (λ (z : Pass O A R). number z ≡ e.number) p2 q2 (w.others e (has_contains log e k))) in
       pair_ends object last x y r u a b log (only_two a b x y r u (seen p0) (seen p1) (seen q1) (seen q2) log none g pre h second.0 mine yours each) w.legal w.state_is

@@ -17,7 +17,7 @@ use Rattle.one_history.specs.declared.history.Turn.{Turn}
 use Rattle.one_history.specs.declared.history.Turn.TheVariants.{Idle, Waits, Serves}
 use Rattle.one_history.specs.declared.history.View.{View}
 use Rattle.one_history.specs.Histories.{state_after, IsHistory, GrowsByOthers, entry}
-use Rattle.one_history.specs.Machinery.Rules.{Has, newcomer, saw, view, alone, grown, born, spent, merged, Stands, WasTold, IsInTurn, Story, Queue, Kept, AreApart}
+use Rattle.one_history.specs.Machinery.Rules.{StandsIn, newcomer, saw, view, alone, grown, born, spent, merged, Stands, WasTold, IsInTurn, Story, Queue, Kept, AreApart}
 use Rattle.one_history.specs.Machinery.Plays.{drew, entered, left, Learns, awaited, looked, checked}
 use Rattle.one_history.proofs.Places.{has_one, has_none, has_append, has_left, has_right, end_at, at_once}
 use Rattle.one_history.proofs.Growth.{grow_none, history_none, history_one, history_less, state_one}
@@ -59,11 +59,11 @@ module _ {O S A R : Type 0} (state : O → S) (sound : A → Type 0) (allowed : 
   same_pass : (log : Log) (views : List V) (id : ℕ) (v w : V) (m : Member O A R) → get_elem? views id ≡ some v → v.members ≡ m ∷ [] → w.members ≡ m ∷ [] → w.older ≡ []
       → Story state sound allowed follows key log (Stands views) (WasTold views) → Story state sound allowed follows key log (Stands (set views id w)) (WasTold (set views id w))
   same_pass log views id v w m at one one' silent story = story_moved state sound allowed follows key log (Stands views) (Stands (set views id w)) (WasTold views) (WasTold (set views id w)) (λ j. j)
-      (λ j n h. ⊎_elim (λ (t : (j ≡ id) × Has w.members n). (j, subst (λ (z : ℕ). Stands views z n) (sym t.0) (v, at, subst (λ (z : List (Member O A R)). Has z n) (one' ∙ sym one) t.1), refl)) (λ (t : (j ≢ id) × Stands views j n). (j, t.1, refl)) (stands_set views id w j n h))
+      (λ j n h. ⊎_elim (λ (t : (j ≡ id) × StandsIn w.members n). (j, subst (λ (z : ℕ). Stands views z n) (sym t.0) (v, at, subst (λ (z : List (Member O A R)). StandsIn z n) (one' ∙ sym one) t.1), refl)) (λ (t : (j ≢ id) × Stands views j n). (j, t.1, refl)) (stands_set views id w j n h))
       (λ j n h. dite (ℕ_discrete j id)
-      (λ (e : j ≡ id). subst (λ (z : ℕ). Stands (set views id w) z n) (sym e) (put_stands views id v w n at (subst (λ (z : List (Member O A R)). Has z n) (one ∙ sym one') (stands_here views id v n at (subst (λ (z : ℕ). Stands views z n) e h)))))
+      (λ (e : j ≡ id). subst (λ (z : ℕ). Stands (set views id w) z n) (sym e) (put_stands views id v w n at (subst (λ (z : List (Member O A R)). StandsIn z n) (one ∙ sym one') (stands_here views id v n at (subst (λ (z : ℕ). Stands views z n) e h)))))
       (λ (ne : j ≢ id). set_stands views id w j n ne h))
-      (λ es h. ⊎_elim (λ (t : Has w.older es). absurd (has_none es (subst (λ (z : List Log). Has z es) silent t))) (λ (t : WasTold views es). story.older es t) (told_set views id w es h))
+      (λ es h. ⊎_elim (λ (t : StandsIn w.older es). absurd (has_none es (subst (λ (z : List Log). StandsIn z es) silent t))) (λ (t : WasTold views es). story.older es t) (told_set views id w es h))
       story
 
   prefix_longer : (es log added : Log) → IsPrefix es log → IsPrefix es (log ++ added)
@@ -71,16 +71,16 @@ module _ {O S A R : Type 0} (state : O → S) (sound : A → Type 0) (allowed : 
 
   -- the view of one pass is replaced by one that has seen all of the history, to which its own entries may have been added
   all_seen : (log added : Log) (views : List V) (id : ℕ) (v w : V) (m : Member O A R) → get_elem? views id ≡ some v → v.members ≡ m ∷ [] → w.members ≡ saw m (log ++ added) ∷ [] → w.older ≡ []
-      → IsHistory sound allowed follows (state key) (log ++ added) → ((e : Entry A R) → Has added e → e.number ≡ m.number)
+      → IsHistory sound allowed follows (state key) (log ++ added) → ((e : Entry A R) → StandsIn added e → e.number ≡ m.number)
       → Story state sound allowed follows key log (Stands views) (WasTold views) → Story state sound allowed follows key (log ++ added) (Stands (set views id w)) (WasTold (set views id w))
   all_seen log added views id v w m at one one' silent legal mine story = story_to state sound allowed follows key log added (Stands views) (Stands (set views id w)) (WasTold views) (WasTold (set views id w)) id m
-      (v, at, subst (λ (z : List (Member O A R)). Has z m) (sym one) (0, refl))
-      (λ n h. has_one m n (subst (λ (z : List (Member O A R)). Has z n) one (stands_here views id v n at h)))
-      (λ j n h. ⊎_elim (λ (t : (j ≡ id) × Has w.members n). inl (t.0, has_one (saw m (log ++ added)) n (subst (λ (z : List (Member O A R)). Has z n) one' t.1))) (λ (t : (j ≢ id) × Stands views j n). inr t) (stands_set views id w j n h))
+      (v, at, subst (λ (z : List (Member O A R)). StandsIn z m) (sym one) (0, refl))
+      (λ n h. has_one m n (subst (λ (z : List (Member O A R)). StandsIn z n) one (stands_here views id v n at h)))
+      (λ j n h. ⊎_elim (λ (t : (j ≡ id) × StandsIn w.members n). inl (t.0, has_one (saw m (log ++ added)) n (subst (λ (z : List (Member O A R)). StandsIn z n) one' t.1))) (λ (t : (j ≢ id) × Stands views j n). inr t) (stands_set views id w j n h))
       (λ j n ne h. set_stands views id w j n ne h)
-      (put_stands views id v w (saw m (log ++ added)) at (subst (λ (z : List (Member O A R)). Has z (saw m (log ++ added))) (sym one') (0, refl)))
+      (put_stands views id v w (saw m (log ++ added)) at (subst (λ (z : List (Member O A R)). StandsIn z (saw m (log ++ added))) (sym one') (0, refl)))
       legal mine
-      (λ es h. ⊎_elim (λ (t : Has w.older es). absurd (has_none es (subst (λ (z : List Log). Has z es) silent t))) (λ (t : WasTold views es). prefix_longer es log added (story.older es t)) (told_set views id w es h))
+      (λ es h. ⊎_elim (λ (t : StandsIn w.older es). absurd (has_none es (subst (λ (z : List Log). StandsIn z es) silent t))) (λ (t : WasTold views es). prefix_longer es log added (story.older es t)) (told_set views id w es h))
       story
 
   -- the same where nothing was added
@@ -92,7 +92,7 @@ module _ {O S A R : Type 0} (state : O → S) (sound : A → Type 0) (allowed : 
 
   -- what the rule says of a pass that stands
   learns : (s : St) (r : Rule s) (id : ℕ) (v : V) (m : Member O A R) → get_elem? s.views id ≡ some v → v.members ≡ m ∷ [] → (m.opening ≡ key) × Learns state sound allowed follows m r.log
-  learns s r id v m at one = let here : Stands s.views id m = (v, at, subst (λ (z : List (Member O A R)). Has z m) (sym one) (0, refl)) in let is = r.story.opened id m here in
+  learns s r id v m at one = let here : Stands s.views id m = (v, at, subst (λ (z : List (Member O A R)). StandsIn z m) (sym one) (0, refl)) in let is = r.story.opened id m here in
       (is, (r.story.seen id m here, subst (λ (z : O). IsHistory sound allowed follows (state z) r.log) (sym is) r.story.legal))
 
   -- one view is replaced that calls nothing, and called nothing
@@ -225,7 +225,7 @@ module _ {O S A R : Type 0} (state : O → S) (sound : A → Type 0) (allowed : 
             let same : m ≡ p = head-eq_of_cons-eq (ap (λ (z : M). z.0.members) e) in (
               r.log,
               subst (λ (z : Member O A R). Learns state sound allowed follows z r.log) same know.1,
-              (λ es h. r.story.older es (id, v, at, subst (λ (z : List Log). Has z es) (sym (ap (λ (z : M). z.0.older) e)) h)),
+              (λ es h. r.story.older es (id, v, at, subst (λ (z : List Log). StandsIn z es) (sym (ap (λ (z : M). z.0.older) e)) h)),
               (λ i. (alone (saw (same i) r.log), [])),
             ),
       )
@@ -248,7 +248,7 @@ module _ {O S A R : Type 0} (state : O → S) (sound : A → Type 0) (allowed : 
   -- the served seat gives the object back, and the history has grown by entries of its own
   moves : (s : St) (r : Rule s) (id t : ℕ) (m : Member O A R) (x : Option O) (o : O) (added : Log) (w : V)
       → get_elem? s.views id ≡ some (view (m ∷ []) [] (Serves t)) → x ≡ Some o → w ≡ alone (saw m (m.seen ++ added))
-      → (m.seen ≡ r.log → m.opening ≡ key → IsHistory sound allowed follows (state key) (r.log ++ added)) → ((e : Entry A R) → Has added e → e.number ≡ m.number)
+      → (m.seen ≡ r.log → m.opening ≡ key → IsHistory sound allowed follows (state key) (r.log ++ added)) → ((e : Entry A R) → StandsIn added e → e.number ≡ m.number)
       → state o ≡ state_after follows (state m.opening) (m.seen ++ added)
       → Rule (stepped s 1 ((get_or s.words 1 0 + 1) % 2 ^ 64) id ((0, x) ∷ []) w gives)
   moves s r id t m x o added w at full is legal mine right =
@@ -325,15 +325,15 @@ module _ {O S A R : Type 0} (state : O → S) (sound : A → Type 0) (allowed : 
             (alone m, at, (0, refl))
             (λ n h. has_one m n (stands_here s.views id (alone m) n at h))
             (λ j n h. ⊎_elim
-            (λ (t : Stands views' j n). ⊎_elim (λ (u : (j ≡ id) × Has (grown m ∷ []) n). inl (u.0, has_one (grown m) n u.1)) (λ (u : (j ≢ id) × Stands s.views j n). inr (inr u)) (stands_set s.views id (alone (grown m)) j n t))
-            (λ (t : (j ≡ length views') × Has (born m ∷ []) n). inr (inl (t.0 ∙ count, has_one (born m) n t.1)))
+            (λ (t : Stands views' j n). ⊎_elim (λ (u : (j ≡ id) × StandsIn (grown m ∷ []) n). inl (u.0, has_one (grown m) n u.1)) (λ (u : (j ≢ id) × Stands s.views j n). inr (inr u)) (stands_set s.views id (alone (grown m)) j n t))
+            (λ (t : (j ≡ length views') × StandsIn (born m ∷ []) n). inr (inl (t.0 ∙ count, has_one (born m) n t.1)))
             (stands_end views' (alone (born m)) j n h))
             (λ j n ne h. longer_stands views' (alone (born m)) j n (set_stands s.views id (alone (grown m)) j n ne h))
             (longer_stands views' (alone (born m)) id (grown m) (put_stands s.views id (alone m) (alone (grown m)) (grown m) at (0, refl)))
             (end_stands views' (alone (born m)) (born m) (length s.views) count (0, refl))
             (λ es h. ⊎_elim
-            (λ (t : WasTold views' es). ⊎_elim (λ (u : Has [] es). absurd (has_none es u)) (λ (u : WasTold s.views es). r.story.older es u) (told_set s.views id (alone (grown m)) es t))
-            (λ (t : Has [] es). absurd (has_none es t))
+            (λ (t : WasTold views' es). ⊎_elim (λ (u : StandsIn [] es). absurd (has_none es u)) (λ (u : WasTold s.views es). r.story.older es u) (told_set s.views id (alone (grown m)) es t))
+            (λ (t : StandsIn [] es). absurd (has_none es t))
             (told_end views' (alone (born m)) es h))
             r.story;
         once = once_end views' (alone (born m)) (one_apart (born m)) (once_set s.views id (alone (grown m)) (one_apart (grown m)) r.once);
@@ -354,9 +354,9 @@ module _ {O S A R : Type 0} (state : O → S) (sound : A → Type 0) (allowed : 
         words = r.words;
         homes = r.homes;
         story = story_moved state sound allowed follows key r.log (Stands s.views) (Stands full) (WasTold s.views) (WasTold full) (λ j. j)
-            (λ j k h. ⊎_elim (λ (t : Stands s.views j k). (j, t, refl)) (λ (t : (j ≡ length s.views) × Has [] k). absurd (has_none k t.1)) (stands_end s.views n j k h))
+            (λ j k h. ⊎_elim (λ (t : Stands s.views j k). (j, t, refl)) (λ (t : (j ≡ length s.views) × StandsIn [] k). absurd (has_none k t.1)) (stands_end s.views n j k h))
             (λ j k h. longer_stands s.views n j k h)
-            (λ es h. ⊎_elim (λ (t : WasTold s.views es). r.story.older es t) (λ (t : Has (m.seen ∷ []) es). subst (λ (z : Log). IsPrefix z r.log) (has_one m.seen es t) (know.1.0.0, sym know.1.0.1)) (told_end s.views n es h))
+            (λ es h. ⊎_elim (λ (t : WasTold s.views es). r.story.older es t) (λ (t : StandsIn (m.seen ∷ []) es). subst (λ (z : Log). IsPrefix z r.log) (has_one m.seen es t) (know.1.0.0, sym know.1.0.1)) (told_end s.views n es h))
             r.story;
         once = once_end s.views n (none_apart {O = O} {A = A} {R = R}) r.once;
         queue = calm_end r.drawn r.serving r.slot r.log s.views n refl r.queue;
@@ -378,11 +378,11 @@ module _ {O S A R : Type 0} (state : O → S) (sound : A → Type 0) (allowed : 
         words = r.words;
         homes = r.homes;
         story = story_moved state sound allowed follows key r.log (Stands s.views) (Stands full) (WasTold s.views) (WasTold full) sigma
-            (λ j n h. ⊎_elim (λ (t : (j ≡ other) × Has [] n). absurd (has_none n t.1))
+            (λ j n h. ⊎_elim (λ (t : (j ≡ other) × StandsIn [] n). absurd (has_none n t.1))
             (λ (t : (j ≢ other) × Stands mid j n). ⊎_elim
-            (λ (u : (j ≡ id) × Has (w.members ++ v.members) n). ⊎_elim
-            (λ (k : Has w.members n). (other, (w, there', k), u.0 ∙ sym (ap (λ z. if z then id else other) (eq-eqb other other refl))))
-            (λ (k : Has v.members n). (id, (v, at, k), u.0 ∙ sym (ap (λ z. if z then id else id) (ne_eqb id other (λ e. apart (sym e))))))
+            (λ (u : (j ≡ id) × StandsIn (w.members ++ v.members) n). ⊎_elim
+            (λ (k : StandsIn w.members n). (other, (w, there', k), u.0 ∙ sym (ap (λ z. if z then id else other) (eq-eqb other other refl))))
+            (λ (k : StandsIn v.members n). (id, (v, at, k), u.0 ∙ sym (ap (λ z. if z then id else id) (ne_eqb id other (λ e. apart (sym e))))))
             (has_append w.members v.members n u.1))
             (λ (u : (j ≢ id) × Stands s.views j n). (j, u.1, sym (ap (λ z. if z then id else j) (ne_eqb j other t.0))))
             (stands_set s.views id b j n t.1))
@@ -394,11 +394,11 @@ module _ {O S A R : Type 0} (state : O → S) (sound : A → Type 0) (allowed : 
             (set_stands mid other spent j n ne (dite (ℕ_discrete j id)
             (λ (e : j ≡ id). subst (λ (z : ℕ). Stands mid z n) (sym e) (put_stands s.views id v b n at (has_right w.members v.members n (stands_here s.views id v n at (subst (λ (z : ℕ). Stands s.views z n) e h)))))
             (λ (ne' : j ≢ id). set_stands s.views id b j n ne' h)))))
-            (λ es h. ⊎_elim (λ (t : Has [] es). absurd (has_none es t))
+            (λ es h. ⊎_elim (λ (t : StandsIn [] es). absurd (has_none es t))
             (λ (t : WasTold mid es). ⊎_elim
-            (λ (u : Has (w.older ++ v.older) es). ⊎_elim
-            (λ (k : Has w.older es). r.story.older es (other, w, there', k))
-            (λ (k : Has v.older es). r.story.older es (id, v, at, k))
+            (λ (u : StandsIn (w.older ++ v.older) es). ⊎_elim
+            (λ (k : StandsIn w.older es). r.story.older es (other, w, there', k))
+            (λ (k : StandsIn v.older es). r.story.older es (id, v, at, k))
             (has_append w.older v.older es u))
             (λ (u : WasTold s.views es). r.story.older es u)
             (told_set s.views id b es t))
@@ -414,7 +414,7 @@ module _ {O S A R : Type 0} (state : O → S) (sound : A → Type 0) (allowed : 
       let first : Member O A R = newcomer o in
       let views : List V = alone first ∷ [] in
       let only : (j : ℕ) (d : V) → get_elem? views j ≡ some d → (j ≡ 0) × (alone first ≡ d) = λ j d h. only_at (alone first) d j h in
-      let who : (j : ℕ) (n : Member O A R) → Stands views j n → (j ≡ 0) × (first ≡ n) = λ j n h. let p = only j h.0 h.1 in (p.0, has_one first n (subst (λ (z : V). Has z.members n) (sym p.1) h.2)) in
+      let who : (j : ℕ) (n : Member O A R) → Stands views j n → (j ≡ 0) × (first ≡ n) = λ j n h. let p = only j h.0 h.1 in (p.0, has_one first n (subst (λ (z : V). StandsIn z.members n) (sym p.1) h.2)) in
       let here : Stands views 0 first = (alone first, refl, (0, refl)) in
       record {
         log = [];
@@ -427,7 +427,7 @@ module _ {O S A R : Type 0} (state : O → S) (sound : A → Type 0) (allowed : 
           legal = history_none sound allowed follows (state key);
           opened = λ j n h. ap (λ (z : Member O A R). z.opening) (sym (who j n h).1) ∙ is;
           seen = λ j n h. subst (λ (z : Member O A R). GrowsByOthers z.number z.seen []) (who j n h).1 (grow_none [] []);
-          older = λ es h. absurd (has_none es (subst (λ (z : V). Has z.older es) (sym (only h.0 h.1 h.2).1) h.3));
+          older = λ es h. absurd (has_none es (subst (λ (z : V). StandsIn z.older es) (sym (only h.0 h.1 h.2).1) h.3));
           apart = λ i j n p h k e. (who i n h).0 ∙ sym (who j p k).0;
           made = λ j n h. inl (ap (λ (z : Member O A R). z.number) (sym (who j n h).1));
           written = λ e h. absurd (has_none e h);

@@ -6,7 +6,7 @@ use native.Mathlib.Decide.{ℕ_discrete}
 use Rattle.one_history.specs.declared.history.Entry.{Entry}
 use Rattle.one_history.specs.declared.history.Member.{Member}
 use Rattle.one_history.specs.Histories.{IsHistory, GrowsByOthers}
-use Rattle.one_history.specs.Machinery.Rules.{Has, saw, grown, born, WasMade, Story}
+use Rattle.one_history.specs.Machinery.Rules.{StandsIn, saw, grown, born, WasMade, Story}
 use Rattle.one_history.proofs.Places.{has_append, has_right}
 use Rattle.one_history.proofs.Growth.{own_absent, grow_none, grow_more}
 
@@ -46,7 +46,7 @@ module _ {O S A R : Type 0} (state : O → S) (sound : A → Type 0) (allowed : 
       → ((j : ℕ) (n : Member O A R) → j ≢ id → has j n → has' j n)
       → has' id (saw m (log ++ added))
       → IsHistory sound allowed follows (state key) (log ++ added)
-      → ((e : Entry A R) → Has added e → e.number ≡ m.number)
+      → ((e : Entry A R) → StandsIn added e → e.number ≡ m.number)
       → ((es : Log) → told' es → IsPrefix es (log ++ added))
       → Tale log has told → Tale (log ++ added) has' told'
   story_to log added has has' told told' id m here only back forth there legal mine prefixes s =
@@ -68,7 +68,7 @@ module _ {O S A R : Type 0} (state : O → S) (sound : A → Type 0) (allowed : 
             (λ (w : (i : ℕ) × (p : Member O A R) × (k : ℕ) × has i p × (b.0.number ≡ p.number ++ k ∷ []) × (k < p.made)). let c = now w.0 w.1 w.3 in
             inr (w.0, c.0, w.2, c.1, sym b.2 ∙ w.4 ∙ ap (λ (z : List ℕ). z ++ w.2 ∷ []) (sym c.2), subst (λ (z : ℕ). w.2 < z) (sym c.3) w.5))
             (s.made j b.0 b.1);
-        written = λ e h. ⊎_elim (λ (t : Has log e). let w = s.written e t in let c = now w.0 w.1 w.2 in (w.0, c.0, c.1, c.2 ∙ w.3)) (λ (t : Has added e). (id, saw m (log ++ added), there, sym (mine e t))) (has_append log added e h);
+        written = λ e h. ⊎_elim (λ (t : StandsIn log e). let w = s.written e t in let c = now w.0 w.1 w.2 in (w.0, c.0, c.1, c.2 ∙ w.3)) (λ (t : StandsIn added e). (id, saw m (log ++ added), there, sym (mine e t))) (has_append log added e h);
         whole = (id, saw m (log ++ added), there, refl);
       }
 
@@ -133,7 +133,7 @@ module _ {O S A R : Type 0} (state : O → S) (sound : A → Type 0) (allowed : 
         seen = λ j n h. ⊎_elim (λ (t : (j ≡ id) × (grown m ≡ n)). subst (λ (z : Member O A R). GrowsByOthers z.number z.seen log) t.1 (s.seen id m here))
             (λ (u : ((j ≡ new) × (born m ≡ n)) ⊎ ((j ≢ id) × has j n)). ⊎_elim
             (λ (t : (j ≡ new) × (born m ≡ n)). let g = s.seen id m here in subst (λ (z : Member O A R). GrowsByOthers z.number z.seen log) t.1
-            (g.0, g.1, own_absent (m.number ++ m.made ∷ []) g.0 (λ e in_it. λ same. let w = s.written e (subst (λ (z : Log). Has z e) (sym g.1) (has_right m.seen g.0 e in_it)) in bare w.0 w.1 w.2 (w.3 ∙ same))))
+            (g.0, g.1, own_absent (m.number ++ m.made ∷ []) g.0 (λ e in_it. λ same. let w = s.written e (subst (λ (z : Log). StandsIn z e) (sym g.1) (has_right m.seen g.0 e in_it)) in bare w.0 w.1 w.2 (w.3 ∙ same))))
             (λ (t : (j ≢ id) × has j n). s.seen j n t.1) u)
             (back j n h);
         older = prefixes;

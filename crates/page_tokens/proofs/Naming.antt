@@ -11,7 +11,7 @@ use Rattle.std.proofs.lemmas.Str.{IsUtf8-from_ascii}
 use Rattle.std.proofs.lemmas.List.Elements.{AllZip-push}
 use Rattle.std.proofs.Math.Seq.{take-suc}
 use Rattle.twin_value.specs.Breaches.{IsTwinId, is_id_byte}
-use Rattle.page_tokens.specs.Tokens.{NamesId, NameIds, token_parts, IsToken}
+use Rattle.page_tokens.specs.Tokens.{NamesId, NameIds, token_parts, IsPageToken}
 
 id_byte_small : (b : ℕ) → is_id_byte b ≡ true → b < 128
 id_byte_small b h = grind (arith, nat_tests)
@@ -47,7 +47,7 @@ named_more parts i d ids id within h n =
 -- what the parts of a token name the token names
 pub told : {V E : Type 0} (items : V → List (List ℕ)) (r : Result (Option V) E) (parts : List (List ℕ)) (token : List ℕ) (count : ℕ) → parts ≡ token_parts token → length (token_parts token) ≡ count
     → IfOk r (λ found. MatchOption found ((ids : List (List ℕ)) → NameIds parts ids → ⊥) (λ v. NameIds parts (items v)))
-    → IfOk r (λ found. MatchOption found ((ids : List (List ℕ)) → IsToken token count ids → ⊥) (λ v. IsToken token count (items v)))
+    → IfOk r (λ found. MatchOption found ((ids : List (List ℕ)) → IsPageToken token count ids → ⊥) (λ v. IsPageToken token count (items v)))
 told items (Err e) parts token count same number h = h
 told items (Ok None) parts token count same number h = λ ids t. h ids (subst (λ ps. NameIds ps ids) (sym same) t.named)
 told items (Ok (Some v)) parts token count same number h = record { number = number; named = subst (λ ps. NameIds ps (items v)) same h }

@@ -19,6 +19,6 @@ abbrev pub token_parts : List ℕ → List (List ℕ)
 token_parts token = slice_split (λ b. b == 47) token
 
 -- The text is the token of these ids, of which there are so many.
-pub record IsToken (token : List ℕ) (count : ℕ) (ids : List (List ℕ)) : Type 0 where
+pub record IsPageToken (token : List ℕ) (count : ℕ) (ids : List (List ℕ)) : Type 0 where
   pub number : length (token_parts token) ≡ count
   pub named : NameIds (token_parts token) ids

@@ -1,7 +1,7 @@
 //! The ids that a token names.
 
 ghost use Rattle.std.specs.Prelude.{◌≡◌, ◌==◌, List, ℕ, map, count_by, IfOk, MatchOption};
-ghost use Rattle.page_tokens.specs.Tokens.{NameIds, IsToken, token_parts};
+ghost use Rattle.page_tokens.specs.Tokens.{NameIds, IsPageToken, token_parts};
 
 use crate::named::id_named;
 use dt_base::{OutOfMemory, Text};
@@ -42,7 +42,7 @@ pub fn ids_of_token(
     text: &str,
     count: usize,
 ) -> Result<Option<Vec<Text>>, OutOfMemory>
-    ensures { IfOk result (λ found. MatchOption found ((ids : List (List ℕ)) → IsToken text.now count ids → ⊥) (λ ids. IsToken text.now count ids.items)) }
+    ensures { IfOk result (λ found. MatchOption found ((ids : List (List ℕ)) → IsPageToken text.now count ids → ⊥) (λ ids. IsPageToken text.now count ids.items)) }
 {
     if count == 0 {
         return Ok(None);

@@ -9,7 +9,7 @@ use Rattle.json_tree.specs.Places.{member_at}
 use Rattle.json_tree.specs.Pointers.{pointer_text}
 use Rattle.local_rules.specs.Members.{text_in, value_at}
 use Rattle.local_rules.proofs.Keyed.{position_of_key}
-use Rattle.twin_value.specs.Breaches.{ComesBefore, HasNoBreach, IsFirst, text_under}
+use Rattle.twin_value.specs.Breaches.{BodyBreachComesBefore, HasNoBreach, IsFirstBodyBreach, text_under}
 use Rattle.twin_value.specs.Codes.{code_name, code_number}
 use Rattle.twin_value.specs.declared.code.BodyCode.{BodyCode}
 use Rattle.twin_value.specs.declared.code.BodyCode.TheVariants as code
@@ -123,10 +123,10 @@ lowest code.BadValue h = omega (arith, h)
 lowest code.UnknownRelationship h = omega (arith, h)
 
 -- A breach at the value itself is first where it is no object.
-first_kind : (v : Json) → IsQueryBreach v [] code.WrongKind → IsFirst (IsQueryBreach v) [] code.WrongKind
+first_kind : (v : Json) → IsQueryBreach v [] code.WrongKind → IsFirstBodyBreach (IsQueryBreach v) [] code.WrongKind
 first_kind v is = record { breach = is; least = least }
   where
-    least : (other : List ℕ) (another : BodyCode) → ComesBefore other another [] code.WrongKind → IsQueryBreach v other another → ⊥
+    least : (other : List ℕ) (another : BodyCode) → BodyBreachComesBefore other another [] code.WrongKind → IsQueryBreach v other another → ⊥
     least other another (inl before) b = absurd before
     least other another (inr (same, less)) b = lowest another less
 
@@ -148,10 +148,10 @@ module _ (ms : Members Number) where
   is_an_object : IsQueryBreach (object ms) [] code.WrongKind → ⊥
   is_an_object b = absurd cc
 
-  missing_first : value_at (codes "query") ms ≡ None → IsFirst (IsQueryBreach (object ms)) [] code.MissingKey
+  missing_first : value_at (codes "query") ms ≡ None → IsFirstBodyBreach (IsQueryBreach (object ms)) [] code.MissingKey
   missing_first none = record { breach = (refl, none); least = least }
     where
-      least : (other : List ℕ) (another : BodyCode) → ComesBefore other another [] code.MissingKey → IsQueryBreach (object ms) other another → ⊥
+      least : (other : List ℕ) (another : BodyCode) → BodyBreachComesBefore other another [] code.MissingKey → IsQueryBreach (object ms) other another → ⊥
       least other another (inl before) b = absurd before
       least other code.WrongKind (inr (same, less)) b = is_an_object (subst (λ (p : List ℕ). IsQueryBreach (object ms) p code.WrongKind) same b)
       least other code.MissingKey (inr (same, less)) b = omega (arith, less)
@@ -185,10 +185,10 @@ module _ (ms : Members Number) where
   clear_below j k place code.BadValue b = b
   clear_below j k place code.UnknownRelationship b = b
 
-  wrong_first : (p : List ℕ) → (value_at (codes "query") ms ≡ None → ⊥) → (h : IsFirstWrong ms p) → IsFirst (IsQueryBreach (object ms)) (h.at ∷ []) code.WrongKind
+  wrong_first : (p : List ℕ) → (value_at (codes "query") ms ≡ None → ⊥) → (h : IsFirstWrong ms p) → IsFirstBodyBreach (IsQueryBreach (object ms)) (h.at ∷ []) code.WrongKind
   wrong_first p has h = record { breach = (h.key, h.part, h.there, h.wrong); least = least }
     where
-      least : (other : List ℕ) (another : BodyCode) → ComesBefore other another (h.at ∷ []) code.WrongKind → IsQueryBreach (object ms) other another → ⊥
+      least : (other : List ℕ) (another : BodyCode) → BodyBreachComesBefore other another (h.at ∷ []) code.WrongKind → IsQueryBreach (object ms) other another → ⊥
       least [] another before b = clear_here has another b
       least (j ∷ []) another (inl (inl less)) b = clear_at j (h.least j less) another b
       least (j ∷ []) another (inl (inr (same, before))) b = absurd before

@@ -5,7 +5,7 @@ use Rattle.json_tree.specs.Values.{Json}
 use Rattle.query_terms.specs.Queries.{Asked, asked, key_length}
 use Rattle.query_terms.specs.declared.query.Query.{Query}
 use Rattle.query_grammar.specs.Grammar.{IsQuery}
-use Rattle.query_parse.specs.Faults.{Spells}
+use Rattle.query_parse.specs.Faults.{SpellsQuery}
 use Rattle.query_parse.specs.declared.fault.QueryFault.{QueryFault}
 use Rattle.query_parse.specs.declared.fault.QueryFault.TheVariants as faults
 use Rattle.twin_value.specs.Breaches.{IsTwinId}
@@ -14,14 +14,14 @@ use Rattle.graph_asks.specs.declared.ask.Ask.{Ask}
 use Rattle.graph_asks.specs.declared.ask.Ask.TheVariants as asks
 use Rattle.graph_asks.specs.declared.refusal.Refusal.{Refusal}
 use Rattle.graph_asks.specs.declared.refusal.Refusal.TheVariants as refusals
-use Rattle.graph_steps.specs.Soundness.{FitsKey, IsReadQuery, IsSound}
-use Rattle.query_bodies.specs.Outcomes.{BeginsPast, IsMadeOfBody, IsMadeOfQuery, IsMadeOfText, Outcome, TellsFault}
+use Rattle.graph_steps.specs.Soundness.{FitsKey, IsReadQuery, IsSoundAsk}
+use Rattle.query_bodies.specs.Outcomes.{BeginsPast, IsMadeOfBody, IsMadeOfQuery, IsMadeOfText, AskOrRefusal, TellsFault}
 
 -- ---- queries
-pub few_joins : (text : List ℕ) (query : Query) → Spells text (asked query) → length query.joins ≤ 5
+pub few_joins : (text : List ℕ) (query : Query) → SpellsQuery text (asked query) → length query.joins ≤ 5
 few_joins text query (short, (q, (notes, is, h))) = subst (λ (a : Asked). length a.joins ≤ 5) h.4 h.0
 
-read_query : (text : List ℕ) (query : Query) → Spells text (asked query) → IsReadQuery query
+read_query : (text : List ℕ) (query : Query) → SpellsQuery text (asked query) → IsReadQuery query
 read_query text query (short, (q, (notes, (tokens, (rest, are, spaces, is)), h))) = (tokens, notes, subst (λ (a : Asked). IsQuery tokens (a, notes)) h.4 is)
 
 -- ---- tokens
@@ -47,14 +47,14 @@ IsOfBody (refusals.QueryFault fault place) = Unit {0}
 IsOfBody refusals.BadToken = Unit {0}
 IsOfBody other = ⊥
 
-abbrev IsRight : Outcome → Type 0
-IsRight (Ok ask) = IsSound ask
+abbrev IsRight : AskOrRefusal → Type 0
+IsRight (Ok ask) = IsSoundAsk ask
 IsRight (Err refusal) = IsOfBody refusal
 
-right_by : (x y : Outcome) → x ≡ y → IsRight y → IsRight x
+right_by : (x y : AskOrRefusal) → x ≡ y → IsRight y → IsRight x
 right_by x y e h = subst IsRight (sym e) h
 
-right_query : (token : Option (List ℕ)) (query : Query) (x : Outcome) → IsReadQuery query → IsMadeOfQuery token query x → IsRight x
+right_query : (token : Option (List ℕ)) (query : Query) (x : AskOrRefusal) → IsReadQuery query → IsMadeOfQuery token query x → IsRight x
 right_query token query x read (inl (none, e)) = right_by x (Err refusals.BadToken) e tt
 right_query token query x read (inr (after, is, e)) = right_by x (Ok (asks.Query query after)) e (read, past_fits token query after is)
 
@@ -67,15 +67,15 @@ told_of_body (faults.TwiceAlias n) r e = subst IsOfBody (sym e) tt
 told_of_body (faults.UnknownAlias n) r e = subst IsOfBody (sym e) tt
 told_of_body faults.OutOfMemory r e = absurd e
 
-right_text : (text : List ℕ) (token : Option (List ℕ)) (x : Outcome) → IsMadeOfText text token x → IsRight x
+right_text : (text : List ℕ) (token : Option (List ℕ)) (x : AskOrRefusal) → IsMadeOfText text token x → IsRight x
 right_text text token x (inl (r, (fault, is, h), e)) = right_by x (Err r) e (told_of_body fault r h)
 right_text text token x (inr (query, spells, h)) = right_query token query x (read_query text query spells) h
 
-right_body : (v : Json) (x : Outcome) → IsMadeOfBody v x → IsRight x
+right_body : (v : Json) (x : AskOrRefusal) → IsMadeOfBody v x → IsRight x
 right_body v x (inl (r, (place, pointer, code, first, leads, h), e)) = right_by x (Err r) e (subst IsOfBody (sym h) tt)
 right_body v x (inr (none, (text, e, h))) = right_text text _ x h
 
-pub sound : (v : Json) (ask : Ask) → IsMadeOfBody v (Ok ask) → IsSound ask
+pub sound : (v : Json) (ask : Ask) → IsMadeOfBody v (Ok ask) → IsSoundAsk ask
 sound v ask h = right_body v (Ok ask) h
 
 pub of_body : (v : Json) (refusal : Refusal) → IsMadeOfBody v (Err refusal) → IsOfBody refusal

@@ -6,14 +6,14 @@ ghost use Rattle.graph_steps.specs.Conditions.{source_of};
 ghost use Rattle.graph_steps.specs.QueryAsks.{item_members, whole_value, with_item};
 ghost use Rattle.json_tree.specs.Values.{object, number, member as member_of, no_members};
 ghost use Rattle.json_tree.specs.View.{view as tree_view};
-ghost use Rattle.query_eval.specs.Machinery.Gathering.{value_of};
+ghost use Rattle.query_eval.specs.Machinery.Gathering.{row_value};
 ghost use Rattle.query_eval.specs.Machinery.Seen.{values_view};
-ghost use Rattle.query_paths.specs.Rows.{row_view, AreKept};
+ghost use Rattle.query_eval.specs.values.Rows.{row_view, AreKept};
 
 use crate::numbers::of_count;
+use crate::values::{Binding, value_at, whole_value};
 use dt_base::{List, OutOfMemory, Text};
 use json_tree::{Member, Tree};
-use query_paths::{Binding, value_at, whole_value};
 use query_terms::{Item, Projection};
 use std::alloc::Global;
 use std::collections::BTreeMap;
@@ -82,7 +82,7 @@ pub fn value_of(
     row: &[Binding<'_>],
 ) -> Result<Tree, OutOfMemory>
     requires { AreKept row.now }
-    ensures { IfOk result (λ tree. tree_view tree ≡ value_of select.now (row_view row.now)) }
+    ensures { IfOk result (λ tree. tree_view tree ≡ row_value select.now (row_view row.now)) }
 {
     match select {
         Projection::Items { items, .. } => object_of(

@@ -1,7 +1,7 @@
 -- In every state some tokens may remain, of these that stand at the byte 0.
 use Rattle.std.proofs.Common.{lit<, arith, rules, ◌≡◌, ℕ, zero, inr, List, [], ◌∷◌, ◌++◌, length, map, Bool, true, false, Option, Some, None, refl, sym, subst}
 use Rattle.std.specs.Prelude.{codes}
-use Rattle.dtmi_name.specs.Grammar.{Identifier}
+use Rattle.dt_base.specs.names.Grammar.{Identifier}
 use Rattle.query_terms.specs.declared.operand.Operand.{Operand}
 use Rattle.query_terms.specs.declared.operand.Operand.TheVariants as operands
 use Rattle.query_terms.specs.declared.operand.Literal.{Literal}
@@ -10,10 +10,10 @@ use Rattle.query_terms.specs.declared.query.Projection.{Projection}
 use Rattle.query_terms.specs.declared.query.Projection.TheVariants as projections
 use Rattle.query_terms.specs.declared.query.Item.{Item}
 use Rattle.query_terms.specs.Conditions.{Condition, compared, is_kind, has_part, of_model}
-use Rattle.query_tokens.specs.declared.token.Word.TheVariants as words
-use Rattle.query_tokens.specs.declared.token.Mark.TheVariants as marks
-use Rattle.query_tokens.specs.declared.token.Token.{Token}
-use Rattle.query_tokens.specs.declared.token.Token.TheVariants as tokens
+use Rattle.query_terms.specs.declared.tokens.token.Word.TheVariants as words
+use Rattle.query_terms.specs.declared.tokens.token.Mark.TheVariants as marks
+use Rattle.query_terms.specs.declared.tokens.token.Token.{Token}
+use Rattle.query_terms.specs.declared.tokens.token.Token.TheVariants as tokens
 use Rattle.query_grammar.specs.declared.names.Notes.{Notes}
 use Rattle.query_grammar.specs.declared.state.State.{State}
 use Rattle.query_grammar.specs.declared.state.State.TheVariants as states
@@ -24,7 +24,7 @@ use Rattle.query_grammar.specs.declared.state.Goal.{Goal}
 use Rattle.query_grammar.specs.declared.state.Goal.TheVariants as goals
 use Rattle.query_grammar.specs.Phrases.{Placed, PlacedName}
 use Rattle.query_grammar.specs.Grammar.{no_notes}
-use Rattle.query_grammar.specs.Machinery.Steps.{noting_output, noting_alias, path_of, step, asked_of, head_of, joined, closed, membership, noting_use, with_both, with_either, negations}
+use Rattle.query_grammar.specs.Machinery.Steps.{noting_output, noting_alias, operand_path, step, asked_of, head_of, with_join, closed, membership, noting_use, with_both, with_either, negations}
 use Rattle.query_grammar.specs.Machinery.Remains.{Whole, Remains, Follows}
 use Rattle.std.specs.Prelude.{pos, neg_ℤ, ◌≤ℤ◌}
 use Rattle.json_decimal.specs.declared.decimal.Decimal.{Decimal}
@@ -114,7 +114,7 @@ live-behind_relationships : (n : Notes) (d : Head) → Live (states.BehindRelati
 live-behind_relationships n d = at_once _ (asked_of d None, n) (inr (refl, refl))
 
 live-join_alias : (n : Notes) (d : Head) (target source name : List ℕ) → Live (states.JoinAlias n d target source name)
-live-join_alias n d target source name = at_once _ (asked_of (joined d target source name None) None, n) (zero, inr (inr (refl, refl)))
+live-join_alias n d target source name = at_once _ (asked_of (with_join d target source name None) None, n) (zero, inr (inr (refl, refl)))
 
 live-join_name : (n : Notes) (d : Head) (target source : List ℕ) → Live (states.JoinName n d target source)
 live-join_name n d target source = via _ _ an_alias refl (live-join_alias n d target source (codes "a"))
@@ -182,7 +182,7 @@ live-behind n a goals.Left o =
     (let r = live-closed n a (compared o compares.Same a_value) in record { rest = r.rest; whole = r.whole; remains = r.remains }))
 live-behind n a (goals.Right left compare) o =
     let r = live-closed n a (compared left compare o) in record { rest = r.rest; whole = r.whole; remains = r.remains }
-live-behind n a (goals.Is kind) o = via _ _ a_close refl (live-closed n a (is_kind kind (path_of o)))
+live-behind n a (goals.Is kind) o = via _ _ a_close refl (live-closed n a (is_kind kind (operand_path o)))
 live-behind n a (goals.First kind) o =
     via _ _ a_comma refl (via (states.Operand n a (goals.Second kind o)) (states.Behind n a (goals.Second kind o) a_value) a_true refl
     (via _ _ a_close refl (live-closed n a (has_part kind o a_value))))

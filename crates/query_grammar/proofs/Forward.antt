@@ -1,7 +1,7 @@
 -- What may remain from a token on remains behind it in the state that follows.
 use Rattle.std.proofs.Common.{◌≡◌, ℕ, zero, suc, ◌==◌, nat_lt, inl, inr, List, [], ◌∷◌, ◌++◌, length, Bool, true, false, Option, Some, None, refl, sym, subst}
 use Rattle.std.specs.Prelude.{codes}
-use Rattle.dtmi_name.specs.Grammar.{Identifier}
+use Rattle.dt_base.specs.names.Grammar.{Identifier}
 use Rattle.json_decimal.specs.Decimals.{number_of}
 use Rattle.query_terms.specs.declared.operand.Operand.{Operand}
 use Rattle.query_terms.specs.declared.operand.Operand.TheVariants as operands
@@ -11,13 +11,13 @@ use Rattle.query_terms.specs.declared.query.Projection.{Projection}
 use Rattle.query_terms.specs.declared.query.Projection.TheVariants as projections
 use Rattle.query_terms.specs.declared.query.Item.{Item}
 use Rattle.query_terms.specs.Conditions.{Condition, compared, is_kind, has_part, of_model}
-use Rattle.query_tokens.specs.Words.{same_letters}
-use Rattle.query_tokens.specs.declared.token.Word.{Word}
-use Rattle.query_tokens.specs.declared.token.Word.TheVariants as words
-use Rattle.query_tokens.specs.declared.token.Mark.{Mark}
-use Rattle.query_tokens.specs.declared.token.Mark.TheVariants as marks
-use Rattle.query_tokens.specs.declared.token.Token.{Token}
-use Rattle.query_tokens.specs.declared.token.Token.TheVariants as tokens
+use Rattle.query_terms.specs.tokens.Words.{same_letters}
+use Rattle.query_terms.specs.declared.tokens.token.Word.{Word}
+use Rattle.query_terms.specs.declared.tokens.token.Word.TheVariants as words
+use Rattle.query_terms.specs.declared.tokens.token.Mark.{Mark}
+use Rattle.query_terms.specs.declared.tokens.token.Mark.TheVariants as marks
+use Rattle.query_terms.specs.declared.tokens.token.Token.{Token}
+use Rattle.query_terms.specs.declared.tokens.token.Token.TheVariants as tokens
 use Rattle.query_grammar.specs.declared.names.Notes.{Notes}
 use Rattle.query_grammar.specs.declared.state.State.{State}
 use Rattle.query_grammar.specs.declared.state.State.TheVariants as states
@@ -28,7 +28,7 @@ use Rattle.query_grammar.specs.declared.state.Goal.{Goal}
 use Rattle.query_grammar.specs.declared.state.Goal.TheVariants as goals
 use Rattle.query_grammar.specs.Phrases.{Placed, PlacedName, Rest, On, choice, only_some, word_number, mark_number, word, mark, number, field}
 use Rattle.query_grammar.specs.Grammar.{top_size, factor, no_notes, operand, literal, relationships, twins, at_end, model_and_exact}
-use Rattle.query_grammar.specs.Machinery.Steps.{when, is_mark, is_word, noting_output, select_step, behind_top_step, top_closed, item_start_step, item_path_step, behind_item_step, source_step, relationships_alias_step, behind_relationships_step, twins_alias_step, behind_twins_step, join_alias_step, factor_step, operand_step, takes_literal, path_of, behind_factor_step, behind_left_step, behind_step, path_step, list_item_step, behind_list_item_step, model_start_step, model_text_step, behind_model_step, step, with_both, negations}
+use Rattle.query_grammar.specs.Machinery.Steps.{when, is_mark, is_word, noting_output, select_step, behind_top_step, top_closed, item_start_step, item_path_step, behind_item_step, source_step, relationships_alias_step, behind_relationships_step, twins_alias_step, behind_twins_step, join_alias_step, factor_step, operand_step, takes_literal, operand_path, behind_factor_step, behind_left_step, behind_step, path_step, list_item_step, behind_list_item_step, model_start_step, model_text_step, behind_model_step, step, with_both, negations}
 use Rattle.query_grammar.specs.Machinery.Remains.{Whole, Remains, Follows, after_select, behind_top, operand_for, goal_rest, factor_rest, behind_related, behind_name, literals_rest, model_start}
 
 pub on_when : (b : Bool) (P : Type 0) (s : State) (rest : List Placed) (w : Whole) → (P → Remains s rest w) → On b P → Follows (when b s) rest w
@@ -210,7 +210,7 @@ fwd-behind : (n : Notes) (a : Around) (g : Goal) (o : Operand) (at : ℕ) (t : T
 fwd-behind n a goals.Left o at t rest w h = fwd-behind_left n a o at t rest w h
 fwd-behind n a (goals.Right left compare) o at t rest w h =
     fwd-behind_factor n a.head a.chain.either (with_both a.chain.both (negations a.chain.nots (compared left compare o))) a.chains a.chain.room at t rest w h
-fwd-behind n a (goals.Is kind) o at t rest w (m, (l, (ms, x))) = fwd-mark marks.Close (λ _. factor_rest m l ms a w (is_kind kind (path_of o))) _ n at t rest w (λ y. (m, (l, (ms, y)))) x
+fwd-behind n a (goals.Is kind) o at t rest w (m, (l, (ms, x))) = fwd-mark marks.Close (λ _. factor_rest m l ms a w (is_kind kind (operand_path o))) _ n at t rest w (λ y. (m, (l, (ms, y)))) x
 fwd-behind n a (goals.First kind) o at t rest w (m, (l, (ms, x))) =
     fwd-mark marks.Comma (λ _. operand (λ part. mark marks.Close (λ _. factor_rest m l ms a w (has_part kind o part)))) (states.Operand n a (goals.Second kind o)) n at t rest w (λ y. (m, (l, (ms, y)))) x
 fwd-behind n a (goals.Second kind whole) o at t rest w (m, (l, (ms, x))) = fwd-mark marks.Close (λ _. factor_rest m l ms a w (has_part kind whole o)) _ n at t rest w (λ y. (m, (l, (ms, y)))) x

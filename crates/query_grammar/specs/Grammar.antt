@@ -12,9 +12,9 @@ use Rattle.query_terms.specs.declared.query.Item.{Item}
 use Rattle.query_terms.specs.declared.query.Join.{Join}
 use Rattle.query_terms.specs.Conditions.{Condition, either, both, negated, compared, among, not_among, is_kind, has_part, of_model}
 use Rattle.query_terms.specs.Queries.{Asked}
-use Rattle.query_tokens.specs.Words.{same_letters}
-use Rattle.query_tokens.specs.declared.token.Word.TheVariants as words
-use Rattle.query_tokens.specs.declared.token.Mark.TheVariants as marks
+use Rattle.query_terms.specs.tokens.Words.{same_letters}
+use Rattle.query_terms.specs.declared.tokens.token.Word.TheVariants as words
+use Rattle.query_terms.specs.declared.tokens.token.Mark.TheVariants as marks
 use Rattle.query_grammar.specs.declared.names.Notes.{Notes}
 use Rattle.query_grammar.specs.declared.names.Referent.TheVariants as referents
 use Rattle.query_grammar.specs.Phrases.{Placed, PlacedName, Rest, Phrase, ◌>>=◌, ◌>>◌, pure, choice, some_number, only_if, only_some, word, alias, field, kind_word, part_word, mark, compare_mark, number, text, note_alias, note_output, note_use}

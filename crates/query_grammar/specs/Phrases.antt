@@ -1,17 +1,17 @@
 -- What a grammar is written in. A phrase says that tokens stand at the front of a list, and what they stand for. It is
 -- given a fact about that value, about the names that were noted, and about the tokens that follow.
 use Rattle.std.specs.Prelude.{ℕ, ◌==◌, ◌⊎◌, List, [], ◌∷◌, ◌++◌, Bool, true, false, Option, Some, None}
-use Rattle.dtmi_name.specs.Grammar.{Identifier}
+use Rattle.dt_base.specs.names.Grammar.{Identifier}
 use Rattle.json_decimal.specs.declared.decimal.Decimal.{Decimal}
 use Rattle.query_terms.specs.declared.operand.Compare.{Compare}
 use Rattle.query_terms.specs.declared.cond.Kind.{Kind}
 use Rattle.query_terms.specs.declared.cond.PartKind.{PartKind}
-use Rattle.query_tokens.specs.declared.token.Word.{Word}
-use Rattle.query_tokens.specs.declared.token.Word.TheVariants as words
-use Rattle.query_tokens.specs.declared.token.Mark.{Mark}
-use Rattle.query_tokens.specs.declared.token.Mark.TheVariants as marks
-use Rattle.query_tokens.specs.declared.token.Token.{Token}
-use Rattle.query_tokens.specs.declared.token.Token.TheVariants as tokens
+use Rattle.query_terms.specs.declared.tokens.token.Word.{Word}
+use Rattle.query_terms.specs.declared.tokens.token.Word.TheVariants as words
+use Rattle.query_terms.specs.declared.tokens.token.Mark.{Mark}
+use Rattle.query_terms.specs.declared.tokens.token.Mark.TheVariants as marks
+use Rattle.query_terms.specs.declared.tokens.token.Token.{Token}
+use Rattle.query_terms.specs.declared.tokens.token.Token.TheVariants as tokens
 use Rattle.query_grammar.specs.declared.names.Notes.{Notes}
 use Rattle.query_grammar.specs.declared.names.Referent.{Referent}
 

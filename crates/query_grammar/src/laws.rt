@@ -2,12 +2,12 @@
 
 ghost use Rattle.std.specs.Prelude.{◌≡◌, ◌↔◌, ℕ, List, [], ◌∷◌, ◌++◌, Some};
 ghost use Rattle.query_terms.specs.Queries.{Asked};
-ghost use Rattle.query_tokens.specs.declared.token.Token.{Token};
+ghost use Rattle.query_terms.specs.declared.tokens.token.Token.{Token};
 ghost use Rattle.query_grammar.specs.Phrases.{Placed};
 ghost use Rattle.query_grammar.specs.Grammar.{IsQuery};
 ghost use Rattle.query_grammar.specs.Machinery.Steps.{end, step};
 ghost use Rattle.query_grammar.specs.Machinery.Remains.{Follows, Remains};
-ghost use Rattle.query_grammar.specs.Machinery.Runs.{asked_by, behind};
+ghost use Rattle.query_grammar.specs.Machinery.Runs.{asked_by, state_behind};
 ghost use Rattle.query_grammar.specs.declared.names.Notes.{Notes};
 ghost use Rattle.query_grammar.specs.declared.state.State.{State};
 ghost use Rattle.query_grammar.specs.declared.state.State.TheVariants as states;
@@ -26,7 +26,7 @@ pub fn query_as_run()
 /// no query goes on is the first that no state takes.
 pub fn begins_as_run()
     ensures { (tokens : List Placed) → ((rest : List Placed) × ((whole : Asked × Notes) × IsQuery (tokens ++ rest) whole))
-        ↔ ((state : State) × (behind states.Start tokens ≡ Some state)) }
+        ↔ ((state : State) × (state_behind states.Start tokens ≡ Some state)) }
 {}
 
 /// Tokens may remain in a state exactly where all but the first of them may in the state behind the first.

@@ -3,8 +3,8 @@
 ghost use Rattle.std.specs.Prelude.{◌≡◌, [], ◌∷◌, ◌++◌, OnOk, OnErr, MatchOption};
 
 use crate::names::{Notes, PlacedName};
+use dt_base::names::Dtmi;
 use dt_base::{List, OutOfMemory, Text};
-use dtmi_name::Dtmi;
 use query_terms::{Compare, Cond, Item, Join, Kind, Literal, Operand, PartKind, Projection};
 use std::alloc::Global;
 use std::marker::Model;

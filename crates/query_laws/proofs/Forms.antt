@@ -1,7 +1,7 @@
 -- When a query is well formed: what holds of each query that the grammar lets tokens ask for.
 use Rattle.std.specs.Prelude.{◌≡◌, ℕ, zero, suc, ◌-◌, ◌≤◌, ◌<◌, ◌^◌, ◌⊎◌, List, [], ◌∷◌, length, Bool, true, false, Option, Some, None, slice_get, nat_lt}
 use Rattle.std.specs.List.{AllByRecursion}
-use Rattle.dtmi_name.specs.Grammar.{Identifier, OwnDtmiText, dtmi_text}
+use Rattle.dt_base.specs.names.Grammar.{Identifier, OwnDtmiText, dtmi_text}
 use Rattle.json_decimal.specs.declared.decimal.Decimal.{Decimal}
 use Rattle.json_decimal.specs.Decimals.{number_of}
 use Rattle.query_terms.specs.declared.operand.Operand.{Operand}
@@ -14,19 +14,19 @@ use Rattle.query_terms.specs.declared.query.Item.{Item}
 use Rattle.query_terms.specs.declared.query.Join.{Join}
 use Rattle.query_terms.specs.Conditions.{Condition, either, both, negated, compared, among, not_among, is_kind, has_part, of_model}
 use Rattle.query_terms.specs.Queries.{Asked}
-use Rattle.query_tokens.specs.Words.{word_of}
-use Rattle.query_tokens.specs.declared.token.Word.TheVariants as words
-use Rattle.query_lexer.specs.Spellings.{IsName, IsModel}
+use Rattle.query_terms.specs.tokens.Words.{word_of}
+use Rattle.query_terms.specs.declared.tokens.token.Word.TheVariants as words
+use Rattle.query_lexer.specs.Spellings.{IsQueryName, IsModel}
 use Rattle.query_grammar.specs.Grammar.{top_size}
 
 -- ---- operands
 -- a name that is no keyword
 abbrev pub IsAlias : List ℕ → Type 0
-IsAlias name = IsName name × (word_of name ≡ words.Alias)
+IsAlias name = IsQueryName name × (word_of name ≡ words.Alias)
 
 abbrev pub IsPath : List (List ℕ) → Type 0
 IsPath [] = ⊥
-IsPath (first ∷ names) = IsAlias first × AllByRecursion IsName names
+IsPath (first ∷ names) = IsAlias first × AllByRecursion IsQueryName names
 
 -- a byte that a text in quotes can have: no control character but a tab, a line feed and a carriage return
 abbrev pub IsWritable : ℕ → Type 0
@@ -111,7 +111,7 @@ IsFormedSelect (projections.Items top items) = IsFormedTop top × AreFormedItems
 pub record IsFormedJoin (j : Join) : Type 0 where
   pub target : IsAlias j.target
   pub from : IsAlias j.from
-  pub name : IsName j.name
+  pub name : IsQueryName j.name
   pub rel : IsFormedAlias j.rel
 
 -- relationships have no joins

@@ -3,20 +3,20 @@ use Rattle.std.proofs.Common.{◌≡◌, ℕ, ◌<◌, ◌≤◌, ◌^◌, inl, 
 use Rattle.std.specs.Prelude.{IsTrue}
 use Rattle.std.specs.List.{AllByRecursion}
 use Rattle.std.proofs.lemmas.Bool.Decides.{nat_tests}
-use Rattle.dtmi_name.specs.Grammar.{Identifier}
+use Rattle.dt_base.specs.names.Grammar.{Identifier}
 use Rattle.json_decimal.specs.declared.decimal.Decimal.{Decimal}
 use Rattle.json_decimal.specs.Decimals.{number_of}
 use Rattle.json_decimal.specs.Literal.{IsLiteralOf}
-use Rattle.query_tokens.specs.Words.{word_of}
-use Rattle.query_tokens.specs.declared.token.Word.{Word}
-use Rattle.query_tokens.specs.declared.token.Token.{Token}
-use Rattle.query_tokens.specs.declared.token.Token.TheVariants as tokens
-use Rattle.query_lexer.specs.Spellings.{is_name_start, is_name_byte, escape, IsName, IsCharacter, AreCharacters, IsModel, IsSpelling, IsLongest}
+use Rattle.query_terms.specs.tokens.Words.{word_of}
+use Rattle.query_terms.specs.declared.tokens.token.Word.{Word}
+use Rattle.query_terms.specs.declared.tokens.token.Token.{Token}
+use Rattle.query_terms.specs.declared.tokens.token.Token.TheVariants as tokens
+use Rattle.query_lexer.specs.Spellings.{is_name_start, is_query_name_byte, escape, IsQueryName, IsQueryCharacter, AreCharacters, IsModel, IsSpelling, IsLongest}
 use Rattle.query_lexer.specs.Machinery.Spans.{is_number_byte}
 use Rattle.query_lexer.proofs.Cuts.{run_longest}
 use Rattle.query_lexer.proofs.FirstBytes.{kind_of, same_kind}
 use Rattle.query_lexer.proofs.NumberSpans.{literal_are}
-use Rattle.query_text.specs.Printed.{escaped_byte, escaped}
+use Rattle.query_text.specs.Printed.{escaped_query_byte, escaped_query}
 use Rattle.query_laws.proofs.Forms.{IsWritable}
 
 -- a token is the longest in front where it is so among those of its kind
@@ -31,22 +31,22 @@ longest_by_kind t bytes next spelled h = record {
 }
 
 -- ---- names
-start_byte : (b : ℕ) → is_name_start b ≡ true → is_name_byte b ≡ true
+start_byte : (b : ℕ) → is_name_start b ≡ true → is_query_name_byte b ≡ true
 start_byte b h = grind (arith, nat_tests)
 
-name_bytes : (name : List ℕ) → IsName name → AllByRecursion (λ b. IsTrue (is_name_byte b)) name
+name_bytes : (name : List ℕ) → IsQueryName name → AllByRecursion (λ b. IsTrue (is_query_name_byte b)) name
 name_bytes [] h = absurd h
 name_bytes (b ∷ bs) h = (start_byte b h.0, h.1)
 
-name_among : (name next : List ℕ) → is_name_byte (get_or next 0 0) ≡ false → (u : Token) (more rest : List ℕ) → kind_of u ≡ 0 → IsSpelling u more
+name_among : (name next : List ℕ) → is_query_name_byte (get_or next 0 0) ≡ false → (u : Token) (more rest : List ℕ) → kind_of u ≡ 0 → IsSpelling u more
     → name ++ next ≡ more ++ rest → length more ≤ length name
 name_among name next stops (tokens.Name w other) more rest k s e =
-    run_longest is_name_byte name more next rest (name_bytes more (subst IsName (sym s.0) s.1)) e stops
+    run_longest is_query_name_byte name more next rest (name_bytes more (subst IsQueryName (sym s.0) s.1)) e stops
 name_among name next stops (tokens.Number d) more rest k s e = absurd cc
 name_among name next stops (tokens.Text c m) more rest k s e = absurd cc
 name_among name next stops (tokens.Mark m) more rest k s e = absurd cc
 
-pub name_in_front : (w : Word) (name next : List ℕ) → IsName name → w ≡ word_of name → is_name_byte (get_or next 0 0) ≡ false
+pub name_in_front : (w : Word) (name next : List ℕ) → IsQueryName name → w ≡ word_of name → is_query_name_byte (get_or next 0 0) ≡ false
     → IsLongest (name ++ next) (tokens.Name w name) next
 name_in_front w name next is word stops = longest_by_kind (tokens.Name w name) name next (refl, is, word) (name_among name next stops)
 
@@ -82,11 +82,11 @@ quote_or_slash : ◌≡◌ {A = ℕ} 39 92 → ⊥
 quote_or_slash e = omega (arith, e)
 
 -- no byte of a content is the quote that ends it
-no_character : (b : ℕ) (from to mid : List ℕ) → from ≡ 39 ∷ to → IsCharacter b from mid → ⊥
+no_character : (b : ℕ) (from to mid : List ℕ) → from ≡ 39 ∷ to → IsQueryCharacter b from mid → ⊥
 no_character b from to mid p (inl plain) = plain.2 (head_same b 39 mid to (sym plain.0 ∙ p))
 no_character b from to mid p (inr escape) = quote_or_slash (head_same 39 92 to (escape.0 ∷ mid) (sym p ∙ escape.1))
 
-same_behind : (b x : ℕ) (from mid way : List ℕ) → IsCharacter b from mid → IsCharacter x from way → mid ≡ way
+same_behind : (b x : ℕ) (from mid way : List ℕ) → IsQueryCharacter b from mid → IsQueryCharacter x from way → mid ≡ way
 same_behind b x from mid way (inl plain) (inl other) = tail_same b x mid way (sym plain.0 ∙ other.0)
 same_behind b x from mid way (inl plain) (inr escape) = absurd (plain.3 (head_same b 92 mid (escape.0 ∷ way) (sym plain.0 ∙ escape.1)))
 same_behind b x from mid way (inr escape) (inl other) = absurd (other.3 (head_same x 92 way (escape.0 ∷ mid) (sym other.0 ∙ escape.1)))
@@ -118,16 +118,16 @@ text_among bytes next c mid is chars (tokens.Number d) more rest k s e = absurd 
 text_among bytes next c mid is chars (tokens.Mark m) more rest k s e = absurd cc
 
 -- a byte of a content, as it is printed
-pub character : (b : ℕ) (to : List ℕ) → IsWritable b → IsCharacter b (escaped_byte b ++ to) to
+pub character : (b : ℕ) (to : List ℕ) → IsWritable b → IsQueryCharacter b (escaped_query_byte b ++ to) to
 character b to h = grind (arith, nat_tests)
 
-pub characters : (w to : List ℕ) → AllByRecursion IsWritable w → AreCharacters w (escaped w ++ 39 ∷ to) to
+pub characters : (w to : List ℕ) → AllByRecursion IsWritable w → AreCharacters w (escaped_query w ++ 39 ∷ to) to
 characters [] to h = refl
 characters (b ∷ w) to h =
-    (escaped w ++ 39 ∷ to, subst (λ (l : List ℕ). IsCharacter b l (escaped w ++ 39 ∷ to)) (sym (append_assoc (escaped_byte b) (escaped w) (39 ∷ to))) (character b (escaped w ++ 39 ∷ to) h.0), characters w to h.1)
+    (escaped_query w ++ 39 ∷ to, subst (λ (l : List ℕ). IsQueryCharacter b l (escaped_query w ++ 39 ∷ to)) (sym (append_assoc (escaped_query_byte b) (escaped_query w) (39 ∷ to))) (character b (escaped_query w ++ 39 ∷ to) h.0), characters w to h.1)
 
 pub text_in_front : (c next : List ℕ) (m : Option Identifier) → AllByRecursion IsWritable c → IsModel c m
-    → IsLongest ((39 ∷ (escaped c ++ 39 ∷ [])) ++ next) (tokens.Text c m) next
+    → IsLongest ((39 ∷ (escaped_query c ++ 39 ∷ [])) ++ next) (tokens.Text c m) next
 text_in_front c next m writable model =
-    longest_by_kind (tokens.Text c m) (39 ∷ (escaped c ++ 39 ∷ [])) next (escaped c ++ 39 ∷ [], refl, characters c [] writable, model)
-    (text_among (39 ∷ (escaped c ++ 39 ∷ [])) next c (escaped c ++ 39 ∷ []) refl (characters c [] writable))
+    longest_by_kind (tokens.Text c m) (39 ∷ (escaped_query c ++ 39 ∷ [])) next (escaped_query c ++ 39 ∷ [], refl, characters c [] writable, model)
+    (text_among (39 ∷ (escaped_query c ++ 39 ∷ [])) next c (escaped_query c ++ 39 ∷ []) refl (characters c [] writable))

@@ -1,11 +1,11 @@
 -- What phrases stand for and which names they note, where every token is spelled.
 use Rattle.std.proofs.Common.{◌≡◌, ℕ, ◌==◌, ◌⊎◌, inl, inr, List, [], ◌∷◌, ◌++◌, map, Bool, true, false, Option, Some, None, refl, sym, ap, ◌∙◌}
 use Rattle.std.specs.List.{AllByRecursion}
-use Rattle.query_tokens.specs.declared.token.Word.{Word}
-use Rattle.query_tokens.specs.declared.token.Word.TheVariants as words
-use Rattle.query_tokens.specs.declared.token.Mark.{Mark}
-use Rattle.query_tokens.specs.declared.token.Token.TheVariants as tokens
-use Rattle.query_lexer.specs.Spellings.{IsName, IsSpelling}
+use Rattle.query_terms.specs.declared.tokens.token.Word.{Word}
+use Rattle.query_terms.specs.declared.tokens.token.Word.TheVariants as words
+use Rattle.query_terms.specs.declared.tokens.token.Mark.{Mark}
+use Rattle.query_terms.specs.declared.tokens.token.Token.TheVariants as tokens
+use Rattle.query_lexer.specs.Spellings.{IsQueryName, IsSpelling}
 use Rattle.query_grammar.specs.declared.names.Notes.{Notes}
 use Rattle.query_grammar.specs.declared.names.Use.{Use}
 use Rattle.query_grammar.specs.declared.names.Referent.{Referent}
@@ -150,7 +150,7 @@ alias_gives m = record { give = alias_given m }
 
 -- a name of any kind, which is told twice
 abbrev pub IsField : List ℕ × PlacedName → Type 0
-IsField p = IsName p.0 × (p.1.1 ≡ p.0)
+IsField p = IsQueryName p.0 × (p.1.1 ≡ p.0)
 
 field_given : (m : Names) (K : List ℕ × PlacedName → Rest) (n : Notes) (ts : List Placed) → names n ≡ m → AllByRecursion IsToken ts → field K n ts
     → Given IsField (λ s. m) K

@@ -2,15 +2,15 @@
 use Rattle.std.proofs.Common.{◌≡◌, ℕ, zero, suc, List, ◌∷◌, Bool, true, false, Option, Some, None, refl, ap, subst}
 use Rattle.std.specs.Prelude.{codes, nat_lt}
 use Rattle.std.specs.List.{AllByRecursion}
-use Rattle.dtmi_name.specs.Grammar.{Identifier, OwnDtmiText}
+use Rattle.dt_base.specs.names.Grammar.{Identifier, OwnDtmiText}
 use Rattle.query_terms.specs.declared.operand.Compare.{Compare}
 use Rattle.query_terms.specs.declared.cond.Kind.{Kind}
 use Rattle.query_terms.specs.declared.cond.PartKind.{PartKind}
 use Rattle.query_terms.specs.Conditions.{Condition, either, both, negated, compared, among, not_among, is_kind, has_part, of_model}
-use Rattle.query_tokens.specs.Words.{same_letters}
-use Rattle.query_tokens.specs.declared.token.Word.TheVariants as words
-use Rattle.query_tokens.specs.declared.token.Mark.TheVariants as marks
-use Rattle.query_tokens.specs.declared.token.Token.TheVariants as tokens
+use Rattle.query_terms.specs.tokens.Words.{same_letters}
+use Rattle.query_terms.specs.declared.tokens.token.Word.TheVariants as words
+use Rattle.query_terms.specs.declared.tokens.token.Mark.TheVariants as marks
+use Rattle.query_terms.specs.declared.tokens.token.Token.TheVariants as tokens
 use Rattle.query_lexer.specs.Spellings.{IsModel}
 use Rattle.query_grammar.specs.declared.names.Notes.{Notes}
 use Rattle.query_grammar.specs.declared.names.Referent.TheVariants as referents

@@ -3,15 +3,15 @@ use Rattle.std.proofs.Common.{◌≡◌, ℕ, zero, suc, ◌-◌, inl, inr, List
 use Rattle.std.specs.Prelude.{slice_get}
 use Rattle.std.specs.List.{AllByRecursion}
 use Rattle.std.proofs.lemmas.Bool.Decides.{nat_tests}
-use Rattle.dtmi_name.specs.Grammar.{Identifier}
+use Rattle.dt_base.specs.names.Grammar.{Identifier}
 use Rattle.json_decimal.specs.declared.decimal.Decimal.{Decimal}
 use Rattle.query_terms.specs.declared.operand.Operand.TheVariants as operands
 use Rattle.query_terms.specs.declared.operand.Literal.{Literal}
 use Rattle.query_terms.specs.declared.operand.Literal.TheVariants as literals
-use Rattle.query_tokens.specs.declared.token.Word.TheVariants as words
-use Rattle.query_tokens.specs.declared.token.Mark.TheVariants as marks
-use Rattle.query_tokens.specs.declared.token.Token.TheVariants as tokens
-use Rattle.query_lexer.specs.Spellings.{escape, IsName, IsCharacter, AreCharacters, IsModel}
+use Rattle.query_terms.specs.declared.tokens.token.Word.TheVariants as words
+use Rattle.query_terms.specs.declared.tokens.token.Mark.TheVariants as marks
+use Rattle.query_terms.specs.declared.tokens.token.Token.TheVariants as tokens
+use Rattle.query_lexer.specs.Spellings.{escape, IsQueryName, IsQueryCharacter, AreCharacters, IsModel}
 use Rattle.query_grammar.specs.declared.names.Notes.{Notes}
 use Rattle.query_grammar.specs.declared.names.Referent.TheVariants as referents
 use Rattle.query_grammar.specs.Phrases.{Placed, PlacedName, Rest, Phrase, ◌>>=◌, ◌>>◌, pure, alias, field, mark, number, text, note_use}
@@ -31,9 +31,9 @@ pub record IsPathTo (p : List (List ℕ) × PlacedName) : Type 0 where
   pub path : IsPath p.0
   pub last : slice_get p.0 (length p.0 - 1) ≡ Some p.1.1
 
-path_more : (p : List (List ℕ)) (name : List ℕ) → IsPath p → IsName name → IsPath (p ++ name ∷ [])
+path_more : (p : List (List ℕ)) (name : List ℕ) → IsPath p → IsQueryName name → IsPath (p ++ name ∷ [])
 path_more [] name h is = absurd h
-path_more (first ∷ names) name h is = (h.0, all_more IsName names name h.1 is)
+path_more (first ∷ names) name h is = (h.0, all_more IsQueryName names name h.1 is)
 
 last_at : (xs : List (List ℕ)) (x : List ℕ) → slice_get (xs ++ x ∷ []) (length xs) ≡ Some x
 last_at [] x = refl
@@ -76,7 +76,7 @@ path_gives m =
 escaped_writable : (c b : ℕ) → escape c ≡ Some b → IsWritable b
 escaped_writable c b e = grind (arith, nat_tests)
 
-character_writable : (b : ℕ) (from to : List ℕ) → IsCharacter b from to → IsWritable b
+character_writable : (b : ℕ) (from to : List ℕ) → IsQueryCharacter b from to → IsWritable b
 character_writable b from to (inl plain) = inl plain.1
 character_writable b from to (inr escaped) = escaped_writable escaped.0 b escaped.2
 

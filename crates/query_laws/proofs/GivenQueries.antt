@@ -9,8 +9,8 @@ use Rattle.query_terms.specs.declared.query.Projection.TheVariants as projection
 use Rattle.query_terms.specs.declared.query.Item.{Item}
 use Rattle.query_terms.specs.declared.query.Join.{Join}
 use Rattle.query_terms.specs.Queries.{Asked}
-use Rattle.query_tokens.specs.declared.token.Word.TheVariants as words
-use Rattle.query_tokens.specs.declared.token.Mark.TheVariants as marks
+use Rattle.query_terms.specs.declared.tokens.token.Word.TheVariants as words
+use Rattle.query_terms.specs.declared.tokens.token.Mark.TheVariants as marks
 use Rattle.query_grammar.specs.declared.names.Notes.{Notes}
 use Rattle.query_grammar.specs.declared.names.Referent.TheVariants as referents
 use Rattle.query_grammar.specs.Phrases.{Placed, PlacedName, Phrase, ◌>>=◌, ◌>>◌, pure, choice, some_number, only_if, only_some, word, alias, field, mark, number, note_alias, note_output, note_use}

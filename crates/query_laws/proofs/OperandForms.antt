@@ -10,17 +10,17 @@ use Rattle.query_terms.specs.declared.operand.Operand.{Operand}
 use Rattle.query_terms.specs.declared.operand.Operand.TheVariants as operands
 use Rattle.query_terms.specs.declared.operand.Literal.{Literal}
 use Rattle.query_terms.specs.declared.operand.Literal.TheVariants as literals
-use Rattle.query_tokens.specs.declared.token.Word.TheVariants as words
-use Rattle.query_tokens.specs.declared.token.Mark.TheVariants as marks
-use Rattle.query_tokens.specs.declared.token.Token.TheVariants as tokens
-use Rattle.query_lexer.specs.Spellings.{is_name_byte, IsName}
+use Rattle.query_terms.specs.declared.tokens.token.Word.TheVariants as words
+use Rattle.query_terms.specs.declared.tokens.token.Mark.TheVariants as marks
+use Rattle.query_terms.specs.declared.tokens.token.Token.TheVariants as tokens
+use Rattle.query_lexer.specs.Spellings.{is_query_name_byte, IsQueryName}
 use Rattle.query_lexer.specs.Machinery.Spans.{is_number_byte}
 use Rattle.query_grammar.specs.declared.names.Notes.{Notes}
 use Rattle.query_grammar.specs.declared.names.Referent.TheVariants as referents
 use Rattle.query_grammar.specs.Phrases.{PlacedName, Phrase, ◌>>=◌, ◌>>◌, pure, choice, some_number, word, alias, field, mark, number, note_use}
 use Rattle.query_grammar.specs.Phrases as phrases
 use Rattle.query_grammar.specs.Grammar.{steps, path, literal, operand, more_literals, literal_list}
-use Rattle.query_text.specs.Printed.{each_behind, path_text, literal_text, operand_text, quoted, list_text}
+use Rattle.query_text.specs.Printed.{each_behind, path_text, literal_text, operand_text, quoted_query, list_text}
 use Rattle.query_laws.proofs.Forms.{IsAlias, IsPath, IsFormedLiteral, AreFormedLiterals, IsFormedOperand}
 use Rattle.query_laws.proofs.Standing.{Reads, weaker, take, done, follow, first_choice, other_choice, numbered, same_from, spaced}
 use Rattle.query_laws.proofs.Fronts.{number_in_front, text_in_front}
@@ -28,7 +28,7 @@ use Rattle.query_laws.proofs.Tokens.{at, differ, no_space, read_alias, read_fiel
 
 -- what follows belongs to no name and no number
 pub record Ends (next : List ℕ) : Type 0 where
-  pub name : is_name_byte (get_or next 0 0) ≡ false
+  pub name : is_query_name_byte (get_or next 0 0) ≡ false
   pub number : is_number_byte (get_or next 0 0) ≡ false
 
 pub same_value : {A : Type 0} (p : Phrase A) (x y : A) (text : List ℕ) (n : Notes) (from to : List ℕ) → x ≡ y → Reads p x text n from to → Reads p y text n from to
@@ -44,7 +44,7 @@ read_comma text n to = read_mark marks.Comma 44 text n (44 ∷ to) to refl refl 
 abbrev pub names_text : List (List ℕ) → List ℕ
 names_text names = each_behind (codes ".") (λ (name : List ℕ). name) names
 
-names_stop : (names : List (List ℕ)) (next : List ℕ) → Ends next → is_name_byte (get_or (names_text names ++ next) 0 0) ≡ false
+names_stop : (names : List (List ℕ)) (next : List ℕ) → Ends next → is_query_name_byte (get_or (names_text names ++ next) 0 0) ≡ false
 names_stop [] next e = e.name
 names_stop (name ∷ names) next e = refl
 
@@ -60,7 +60,7 @@ pub last_name : (text : List ℕ) (last : PlacedName) (names : List (List ℕ)) 
 last_name text last [] next = refl
 last_name text last (name ∷ names) next = last_name text (at text name (names_text names ++ next), name) names next
 
-read_steps : (names before : List (List ℕ)) (last : PlacedName) (text : List ℕ) (n : Notes) (next : List ℕ) → AllByRecursion IsName names → Ends next
+read_steps : (names before : List (List ℕ)) (last : PlacedName) (text : List ℕ) (n : Notes) (next : List ℕ) → AllByRecursion IsQueryName names → Ends next
     → Reads (steps (length names) before last) (before ++ names, last_at text last names next) text n (names_text names ++ next) next
 read_steps [] before last text n next is e =
     same_value (pure (before, last)) (before, last) (before ++ [], last) text n next next (ap (λ (l : List (List ℕ)). (l, last)) (sym (nothing_behind before))) (done (before, last) text n next)
@@ -85,7 +85,7 @@ read_steps (name ∷ names) before last text n next is e =
 noted_use : (s : PlacedName) (text : List ℕ) (n : Notes) (to : List ℕ) → Reads (note_use s referents.Path) tt text n to to
 noted_use s text n to = record { notes = record n { uses = n.uses ++ (record { placed = s; referent = referents.Path }) ∷ [] }; along = λ K h. weaker (note_use s referents.Path K) (K tt) text n (record n { uses = n.uses ++ (record { placed = s; referent = referents.Path }) ∷ [] }) to (λ ts g. g) h }
 
-pub read_path : (first : List ℕ) (names : List (List ℕ)) (text : List ℕ) (n : Notes) (next : List ℕ) → IsAlias first → AllByRecursion IsName names → Ends next
+pub read_path : (first : List ℕ) (names : List (List ℕ)) (text : List ℕ) (n : Notes) (next : List ℕ) → IsAlias first → AllByRecursion IsQueryName names → Ends next
     → Reads path (first ∷ names, last_at text (at text first (names_text names ++ next), first) names next) text n (path_text (first ∷ names) ++ next) next
 read_path first names text n next is others e =
     let rest : List ℕ = names_text names ++ next in
@@ -140,13 +140,13 @@ abbrev number_phrase : Phrase Literal
 number_phrase = number >>= (λ x. pure (literals.Number x))
 
 read_text : (content : List ℕ) (text : List ℕ) (n : Notes) (next : List ℕ) → IsFormedLiteral (literals.Word content)
-    → Reads literal (literals.Word content) text n (quoted content ++ next) next
+    → Reads literal (literals.Word content) text n (quoted_query content ++ next) next
 read_text content text n next is =
-    other_choice number_phrase others_than_numbers (literals.Word content) text n (quoted content ++ next) next
+    other_choice number_phrase others_than_numbers (literals.Word content) text n (quoted_query content ++ next) next
     (first_choice (phrases.text >>= (λ t. pure (literals.Word t.0))) (choice (word words.True >> pure (literals.Truth true)) (word words.False >> pure (literals.Truth false)))
-    (literals.Word content) text n (quoted content ++ next) next
-    (follow phrases.text (λ t. pure (literals.Word t.0)) (content, is.1.0) (literals.Word content) text n (quoted content ++ next) next next
-    (take phrases.text (content, is.1.0) (tokens.Text content is.1.0) text n (quoted content ++ next) (quoted content ++ next) next (no_space _)
+    (literals.Word content) text n (quoted_query content ++ next) next
+    (follow phrases.text (λ t. pure (literals.Word t.0)) (content, is.1.0) (literals.Word content) text n (quoted_query content ++ next) next next
+    (take phrases.text (content, is.1.0) (tokens.Text content is.1.0) text n (quoted_query content ++ next) (quoted_query content ++ next) next (no_space _)
     (text_in_front content next is.1.0 is.0 is.1.1) (λ K ts g. g))
     (λ m. done (literals.Word content) text m next)))
 

@@ -17,10 +17,10 @@ use Rattle.query_terms.specs.declared.query.Item.{Item}
 use Rattle.query_terms.specs.declared.query.Join.{Join}
 use Rattle.query_terms.specs.Conditions.{Condition}
 use Rattle.query_terms.specs.Queries.{Asked}
-use Rattle.query_tokens.specs.declared.token.Word.TheVariants as words
-use Rattle.query_tokens.specs.declared.token.Mark.TheVariants as marks
-use Rattle.query_tokens.specs.declared.token.Token.TheVariants as tokens
-use Rattle.query_lexer.specs.Spellings.{is_name_byte}
+use Rattle.query_terms.specs.declared.tokens.token.Word.TheVariants as words
+use Rattle.query_terms.specs.declared.tokens.token.Mark.TheVariants as marks
+use Rattle.query_terms.specs.declared.tokens.token.Token.TheVariants as tokens
+use Rattle.query_lexer.specs.Spellings.{is_query_name_byte}
 use Rattle.query_grammar.specs.declared.names.Notes.{Notes}
 use Rattle.query_grammar.specs.declared.names.Referent.TheVariants as referents
 use Rattle.query_grammar.specs.Phrases.{PlacedName, Phrase, ◌>>=◌, ◌>>◌, pure, choice, some_number, only_if, only_some, word, alias, field, mark, number, note_alias, note_output, note_use}
@@ -81,7 +81,7 @@ read_last true p out last text n next b e =
 read_last false p out last text n next b e = absurd cc
 
 read_as : (b : Bool) (p : List (List ℕ)) (out : List ℕ) (last : PlacedName) (text : List ℕ) (n : Notes) (next : List ℕ) → b ≡ false → IsAlias out
-    → is_name_byte (get_or next 0 0) ≡ false → Reads (behind_path (p, last)) (record { path = p; out = out }) text n (name_text b out ++ next) next
+    → is_query_name_byte (get_or next 0 0) ≡ false → Reads (behind_path (p, last)) (record { path = p; out = out }) text n (name_text b out ++ next) next
 read_as true p out last text n next b is stops = absurd cc
 read_as false p out last text n next b is stops =
     let rest : List ℕ = out ++ next in
@@ -95,7 +95,7 @@ read_as false p out last text n next b is stops =
     (λ m. read_item_of p here text m next)
 
 out_cases : (b : Bool) (o : Option (List ℕ)) (p : List (List ℕ)) (out : List ℕ) (last : PlacedName) (text : List ℕ) (n : Notes) (next : List ℕ)
-    → b ≡ is_last o out → o ≡ Some last.1 → IsOut o out → is_name_byte (get_or next 0 0) ≡ false
+    → b ≡ is_last o out → o ≡ Some last.1 → IsOut o out → is_query_name_byte (get_or next 0 0) ≡ false
     → Reads (behind_path (p, last)) (record { path = p; out = out }) text n (name_text b out ++ next) next
 out_cases b None p out last text n next test e is stops = absurd is
 out_cases true (Some x) p out last text n next test e is stops =
@@ -323,7 +323,7 @@ read_select (projections.Items (Some size) is) text n next are e =
 abbrev alias_phrase : Phrase (Option (List ℕ))
 alias_phrase = alias >>= (λ (a : PlacedName). note_alias a >> pure (Some a.1))
 
-read_alias_here : (o : Option (List ℕ)) (text : List ℕ) (n : Notes) (next : List ℕ) → IsFormedAlias o → is_name_byte (get_or next 0 0) ≡ false
+read_alias_here : (o : Option (List ℕ)) (text : List ℕ) (n : Notes) (next : List ℕ) → IsFormedAlias o → is_query_name_byte (get_or next 0 0) ≡ false
     → Reads alias_here o text n (alias_text o ++ next) next
 read_alias_here (Some a) text n next is stops =
     let here : PlacedName = (at text a next, a) in
@@ -335,7 +335,7 @@ read_alias_here (Some a) text n next is stops =
 read_alias_here None text n next is stops =
     other_choice alias_phrase (pure None) None text n next next (done None text n next)
 
-alias_ends : (o : Option (List ℕ)) (next : List ℕ) → is_name_byte (get_or next 0 0) ≡ false → is_name_byte (get_or (alias_text o ++ next) 0 0) ≡ false
+alias_ends : (o : Option (List ℕ)) (next : List ℕ) → is_query_name_byte (get_or next 0 0) ≡ false → is_query_name_byte (get_or (alias_text o ++ next) 0 0) ≡ false
 alias_ends (Some a) next stops = refl
 alias_ends None next stops = stops
 
@@ -352,7 +352,7 @@ abbrev behind_target : ℕ → PlacedName → Phrase Join
 behind_target before target = note_alias target >> (word words.Related >> behind_related before target)
 
 read_behind_source : (j : Join) (target source : PlacedName) (text : List ℕ) (n : Notes) (next : List ℕ) → target.1 ≡ j.target → source.1 ≡ j.from → IsFormedJoin j
-    → is_name_byte (get_or next 0 0) ≡ false
+    → is_query_name_byte (get_or next 0 0) ≡ false
     → Reads (behind_source target source) j text n (46 ∷ (j.name ++ (alias_text j.rel ++ next))) next
 read_behind_source j target source text n next t f is stops =
     let rest : List ℕ = alias_text j.rel ++ next in
@@ -374,7 +374,7 @@ join_parts j next =
     ∙ ap (λ (b : List ℕ). j.target ++ (codes " RELATED " ++ b)) (append_assoc j.from (46 ∷ (j.name ++ alias_text j.rel)) next
     ∙ ap (λ (b : List ℕ). j.from ++ 46 ∷ b) (append_assoc j.name (alias_text j.rel) next))
 
-read_join : (before : ℕ) (j : Join) (text : List ℕ) (n : Notes) (next : List ℕ) → IsFormedJoin j → is_name_byte (get_or next 0 0) ≡ false
+read_join : (before : ℕ) (j : Join) (text : List ℕ) (n : Notes) (next : List ℕ) → IsFormedJoin j → is_query_name_byte (get_or next 0 0) ≡ false
     → Reads (join before) j text n (codes " JOIN " ++ (join_text j ++ next)) next
 read_join before j text n next is stops =
     let last : List ℕ = 46 ∷ (j.name ++ (alias_text j.rel ++ next)) in
@@ -400,11 +400,11 @@ read_join before j text n next is stops =
 abbrev joins_text : List Join → List ℕ
 joins_text js = each_behind (codes " JOIN ") join_text js
 
-joins_end : (js : List Join) (next : List ℕ) → is_name_byte (get_or next 0 0) ≡ false → is_name_byte (get_or (joins_text js ++ next) 0 0) ≡ false
+joins_end : (js : List Join) (next : List ℕ) → is_query_name_byte (get_or next 0 0) ≡ false → is_query_name_byte (get_or (joins_text js ++ next) 0 0) ≡ false
 joins_end [] next stops = stops
 joins_end (j ∷ js) next stops = refl
 
-read_more_joins : (js before : List Join) (text : List ℕ) (n : Notes) (next : List ℕ) → AllByRecursion IsFormedJoin js → is_name_byte (get_or next 0 0) ≡ false
+read_more_joins : (js before : List Join) (text : List ℕ) (n : Notes) (next : List ℕ) → AllByRecursion IsFormedJoin js → is_query_name_byte (get_or next 0 0) ≡ false
     → Reads (more_joins (length js) before) (before ++ js) text n (joins_text js ++ next) next
 read_more_joins [] before text n next are stops =
     same_value (pure before) before (before ++ []) text n next next (sym (nothing_behind before)) (done before text n next)
@@ -433,7 +433,7 @@ read_where (Some c) text n fits =
     (λ o. done (Some c) text o [])))
 read_where None text n fits = other_choice where_phrase (pure None) None text n [] [] (done None text n [])
 
-where_ends : (o : Option Condition) → is_name_byte (get_or (where_text o ++ []) 0 0) ≡ false
+where_ends : (o : Option Condition) → is_query_name_byte (get_or (where_text o ++ []) 0 0) ≡ false
 where_ends (Some c) = refl
 where_ends None = refl
 

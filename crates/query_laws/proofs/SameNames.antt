@@ -7,7 +7,7 @@ use Rattle.query_grammar.specs.declared.names.Use.{Use}
 use Rattle.query_grammar.specs.declared.names.Referent.{Referent}
 use Rattle.query_grammar.specs.declared.names.Referent.TheVariants as referents
 use Rattle.query_grammar.specs.Phrases.{PlacedName}
-use Rattle.query_parse.specs.Bindings.{is_among, is_twin, is_bound_as, is_bound, only, repeats_behind, repeats, unbound_uses, unbound}
+use Rattle.query_parse.specs.Bindings.{is_name_among, is_twin, is_bound_as, is_bound, place_if, repeats_behind, repeated_places, unbound_uses, unbound}
 use Rattle.query_laws.proofs.Names.{Names, Used, used, used_in, unplaced, names}
 use Rattle.query_laws.proofs.Given.{map_more}
 
@@ -16,25 +16,25 @@ among : List (List ℕ) → List ℕ → Bool
 among [] name = false
 among (n ∷ ns) name = bytes_eq n name || among ns name
 
-among_unplaced : (ns : List PlacedName) (name : List ℕ) → is_among ns name ≡ among (map unplaced ns) name
+among_unplaced : (ns : List PlacedName) (name : List ℕ) → is_name_among ns name ≡ among (map unplaced ns) name
 unfolding among
 among_unplaced [] name = refl
 among_unplaced (n ∷ ns) name = ap (λ (b : Bool). bytes_eq n.1 name || b) (among_unplaced ns name)
 
-same_among : (ns os : List PlacedName) (n o : PlacedName) → map unplaced ns ≡ map unplaced os → n.1 ≡ o.1 → is_among ns n.1 ≡ is_among os o.1
+same_among : (ns os : List PlacedName) (n o : PlacedName) → map unplaced ns ≡ map unplaced os → n.1 ≡ o.1 → is_name_among ns n.1 ≡ is_name_among os o.1
 same_among ns os n o e same =
     among_unplaced ns n.1 ∙ ap₂ (λ (l : List (List ℕ)) (x : List ℕ). among l x) e same ∙ sym (among_unplaced os o.1)
 
 -- ---- bytes of faults
-no_first : (b : Bool) (at : ℕ) (rest : List ℕ) → only b at ++ rest ≡ [] → b ≡ false
+no_first : (b : Bool) (at : ℕ) (rest : List ℕ) → place_if b at ++ rest ≡ [] → b ≡ false
 no_first true at rest e = absurd cc
 no_first false at rest e = refl
 
-no_rest : (b : Bool) (at : ℕ) (rest : List ℕ) → only b at ++ rest ≡ [] → rest ≡ []
+no_rest : (b : Bool) (at : ℕ) (rest : List ℕ) → place_if b at ++ rest ≡ [] → rest ≡ []
 no_rest true at rest e = absurd cc
 no_rest false at rest e = e
 
-none_added : (b : Bool) (at : ℕ) (rest : List ℕ) → b ≡ false → rest ≡ [] → only b at ++ rest ≡ []
+none_added : (b : Bool) (at : ℕ) (rest : List ℕ) → b ≡ false → rest ≡ [] → place_if b at ++ rest ≡ []
 none_added true at rest e r = absurd cc
 none_added false at rest e r = r
 
@@ -55,9 +55,9 @@ repeats_same bs cs [] (o ∷ os) e f h = absurd cc
 repeats_same bs cs (n ∷ ns) (o ∷ os) e f h =
     let first = head_same n.1 o.1 (map unplaced ns) (map unplaced os) f in
     let others = tail_same n.1 o.1 (map unplaced ns) (map unplaced os) f in
-    let here = no_first (is_among bs n.1) n.0 (repeats_behind (bs ++ n ∷ []) ns) h in
-    let rest = no_rest (is_among bs n.1) n.0 (repeats_behind (bs ++ n ∷ []) ns) h in
-    none_added (is_among cs o.1) o.0 (repeats_behind (cs ++ o ∷ []) os) (sym (same_among bs cs n o e first) ∙ here)
+    let here = no_first (is_name_among bs n.1) n.0 (repeats_behind (bs ++ n ∷ []) ns) h in
+    let rest = no_rest (is_name_among bs n.1) n.0 (repeats_behind (bs ++ n ∷ []) ns) h in
+    none_added (is_name_among cs o.1) o.0 (repeats_behind (cs ++ o ∷ []) os) (sym (same_among bs cs n o e first) ∙ here)
     (repeats_same (bs ++ n ∷ []) (cs ++ o ∷ []) ns os (behind_same bs cs n o e first) others rest)
 
 empty_first : (xs ys : List ℕ) → xs ++ ys ≡ [] → xs ≡ []
@@ -71,7 +71,7 @@ empty_second (x ∷ xs) ys e = absurd cc
 both_empty : (xs ys : List ℕ) → xs ≡ [] → ys ≡ [] → xs ++ ys ≡ []
 both_empty xs ys e f = ap₂ (λ (a b : List ℕ). a ++ b) e f
 
-pub no_repeats : (n o : Notes) → names n ≡ names o → repeats n ≡ [] → repeats o ≡ []
+pub no_repeats : (n o : Notes) → names n ≡ names o → repeated_places n ≡ [] → repeated_places o ≡ []
 no_repeats n o e h =
     let a = repeats_behind [] n.aliases in
     let b = repeats_behind [] n.outputs in

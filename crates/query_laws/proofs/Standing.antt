@@ -1,7 +1,7 @@
 -- Phrases that stand in a text, whatever phrase follows.
 use Rattle.std.proofs.Common.{◌≡◌, ℕ, ◌-◌, List, [], ◌∷◌, length, inl, inr, refl, sym, ap, subst}
-use Rattle.query_tokens.specs.declared.token.Token.{Token}
-use Rattle.query_lexer.specs.Spellings.{IsLongest, IsSpaces}
+use Rattle.query_terms.specs.declared.tokens.token.Token.{Token}
+use Rattle.query_lexer.specs.Spellings.{IsLongest, SkipsSpaces}
 use Rattle.query_grammar.specs.declared.names.Notes.{Notes}
 use Rattle.query_grammar.specs.Phrases.{Placed, Rest, Phrase, choice, pure, some_number}
 use Rattle.query_parse.specs.Texts.{AreTokens}
@@ -11,7 +11,7 @@ pub record Stands (R : Rest) (text : List ℕ) (n : Notes) (from : List ℕ) : T
   pub tokens : List Placed
   pub behind : List ℕ
   pub are : AreTokens text from tokens behind
-  pub spaces : IsSpaces behind []
+  pub spaces : SkipsSpaces behind []
   pub holds : R n tokens
 
 -- the phrase stands from here to there for this value
@@ -24,7 +24,7 @@ pub weaker : (R S : Rest) (text : List ℕ) (n m : Notes) (from : List ℕ) → 
 weaker R S text n m from f h = record { tokens = h.tokens; behind = h.behind; are = h.are; spaces = h.spaces; holds = f h.tokens h.holds }
 
 -- a token
-pub take : {A : Type 0} (p : Phrase A) (x : A) (t : Token) (text : List ℕ) (n : Notes) (from start to : List ℕ) → IsSpaces from start → IsLongest start t to
+pub take : {A : Type 0} (p : Phrase A) (x : A) (t : Token) (text : List ℕ) (n : Notes) (from start to : List ℕ) → SkipsSpaces from start → IsLongest start t to
     → ((K : A → Rest) (ts : List Placed) → K x n ts → p K n ((length text - length start, t) ∷ ts)) → Reads p x text n from to
 take p x t text n from start to s l give = record {
   notes = n;
@@ -78,12 +78,12 @@ same_from p x text n from other to e r = record {
 }
 
 -- ---- white space
-more_space : (from to : List ℕ) → IsSpaces from to → IsSpaces (32 ∷ from) to
+more_space : (from to : List ℕ) → SkipsSpaces from to → SkipsSpaces (32 ∷ from) to
 more_space from to s = (32 ∷ s.0, (refl, s.1), ap (λ (l : List ℕ). 32 ∷ l) s.2)
 
-spaced_tokens : (text from : List ℕ) (ts : List Placed) (behind : List ℕ) → AreTokens text from ts behind → IsSpaces behind []
-    → (b : List ℕ) × AreTokens text (32 ∷ from) ts b × IsSpaces b []
-spaced_tokens text from [] behind e s = (32 ∷ from, refl, more_space from [] (subst (λ (l : List ℕ). IsSpaces l []) (sym e) s))
+spaced_tokens : (text from : List ℕ) (ts : List Placed) (behind : List ℕ) → AreTokens text from ts behind → SkipsSpaces behind []
+    → (b : List ℕ) × AreTokens text (32 ∷ from) ts b × SkipsSpaces b []
+spaced_tokens text from [] behind e s = (32 ∷ from, refl, more_space from [] (subst (λ (l : List ℕ). SkipsSpaces l []) (sym e) s))
 spaced_tokens text from (t ∷ ts) behind are s = (behind, (are.0, (are.1.0, more_space from are.0 are.1.1, are.1.2, are.1.3, are.1.4)), s)
 
 spaced_stands : (R : Rest) (text : List ℕ) (n : Notes) (from : List ℕ) → Stands R text n from → Stands R text n (32 ∷ from)

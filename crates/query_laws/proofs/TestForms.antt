@@ -2,7 +2,7 @@
 use Rattle.std.proofs.Common.{◌≡◌, ℕ, List, [], ◌∷◌, ◌++◌, get_or, Bool, true, false, Option, Some, None, refl, ap, ◌∙◌, append_assoc}
 use Rattle.std.specs.Prelude.{codes}
 use Rattle.std.specs.List.{AllByRecursion}
-use Rattle.dtmi_name.specs.Grammar.{Identifier, OwnDtmiText, dtmi_text}
+use Rattle.dt_base.specs.names.Grammar.{Identifier, OwnDtmiText, dtmi_text}
 use Rattle.json_decimal.specs.Decimals.{number_of}
 use Rattle.json_decimal.specs.Printing.{text_of}
 use Rattle.json_decimal.proofs.ReadsBack.{decimal_reads_back}
@@ -17,12 +17,12 @@ use Rattle.query_terms.specs.declared.cond.Kind.TheVariants as kinds
 use Rattle.query_terms.specs.declared.cond.PartKind.{PartKind}
 use Rattle.query_terms.specs.declared.cond.PartKind.TheVariants as parts
 use Rattle.query_terms.specs.Conditions.{Condition, compared, among, not_among, is_kind, has_part, of_model}
-use Rattle.query_tokens.specs.Words.{same_letters, word_of}
-use Rattle.query_tokens.specs.declared.token.Word.TheVariants as words
-use Rattle.query_tokens.specs.declared.token.Mark.TheVariants as marks
-use Rattle.query_tokens.specs.declared.token.Token.{Token}
-use Rattle.query_tokens.specs.declared.token.Token.TheVariants as tokens
-use Rattle.query_lexer.specs.Spellings.{is_name_start, mark_bytes, IsName, IsSpelling}
+use Rattle.query_terms.specs.tokens.Words.{same_letters, word_of}
+use Rattle.query_terms.specs.declared.tokens.token.Word.TheVariants as words
+use Rattle.query_terms.specs.declared.tokens.token.Mark.TheVariants as marks
+use Rattle.query_terms.specs.declared.tokens.token.Token.{Token}
+use Rattle.query_terms.specs.declared.tokens.token.Token.TheVariants as tokens
+use Rattle.query_lexer.specs.Spellings.{is_name_start, mark_bytes, IsQueryName, IsSpelling}
 use Rattle.query_lexer.proofs.FirstBytes.{kind_of, kind_at, same_kind}
 use Rattle.query_grammar.specs.declared.names.Notes.{Notes}
 use Rattle.query_grammar.specs.Phrases.{PlacedName, Rest, Phrase, ◌>>=◌, ◌>>◌, pure, choice, only_if, only_some, word, alias, mark, compare_mark, kind_word, part_word, note_use}
@@ -30,7 +30,7 @@ use Rattle.query_grammar.specs.Phrases as phrases
 use Rattle.query_grammar.specs.declared.names.Referent.{Referent}
 use Rattle.query_grammar.specs.declared.names.Referent.TheVariants as referents
 use Rattle.query_grammar.specs.Grammar.{operand, path, literal_list, comparison, kind_test, part_test, exact, model_and_exact, model_test}
-use Rattle.query_text.specs.Printed.{path_text, operand_text, quoted, list_text, kind_text, part_text, model_text, twin_text, exact_text, condition_text}
+use Rattle.query_text.specs.Printed.{path_text, operand_text, quoted_query, list_text, kind_text, part_text, model_text, twin_argument, exact_text, condition_text}
 use Rattle.query_laws.proofs.Forms.{IsAlias, IsPath, IsWritable, IsFormedOperand, AreFormedLiterals, IsModelTest}
 use Rattle.query_laws.proofs.Standing.{Reads, weaker, take, done, follow, first_choice, other_choice, same_from}
 use Rattle.query_laws.proofs.Fronts.{name_in_front, text_in_front}
@@ -132,7 +132,7 @@ read_not_among l ls text n next left is =
     (read_operand l text n rest left (record { name = refl; number = refl })) (λ m. read_nin l ls text m next is))
 
 -- ---- functions
-kind_name : (k : Kind) → IsName (kind_text k)
+kind_name : (k : Kind) → IsQueryName (kind_text k)
 kind_name kinds.Defined = (refl, all_by_test (codes "S_DEFINED") refl)
 kind_name kinds.Null = (refl, all_by_test (codes "S_NULL") refl)
 kind_name kinds.Number = (refl, all_by_test (codes "S_NUMBER") refl)
@@ -150,7 +150,7 @@ kind_of_name kinds.Truth = refl
 kind_of_name kinds.Object = refl
 kind_of_name kinds.Primitive = refl
 
-part_name : (k : PartKind) → IsName (part_text k)
+part_name : (k : PartKind) → IsQueryName (part_text k)
 part_name parts.Starts = (refl, all_by_test (codes "TARTSWITH") refl)
 part_name parts.Ends = (refl, all_by_test (codes "NDSWITH") refl)
 part_name parts.Contains = (refl, all_by_test (codes "ONTAINS") refl)
@@ -214,7 +214,7 @@ read_part k w p text n next is are =
     (λ g. done c text g next)))))))
 
 -- ---- tests for a model
-model_quoted : (model : Identifier) → model_text model ≡ quoted (dtmi_text model)
+model_quoted : (model : Identifier) → model_text model ≡ quoted_query (dtmi_text model)
 unfolding model_text
 model_quoted model = refl
 
@@ -244,13 +244,13 @@ behind_id twin model = behind_exact >>= (λ (x : Bool). mark marks.Close >> pure
 
 read_id : (twin : Option (List ℕ)) (model : Identifier) (x : Bool) (text : List ℕ) (n : Notes) (next : List ℕ) → OwnDtmiText (dtmi_text model) model
     → AllByRecursion IsWritable (dtmi_text model)
-    → Reads (model_and_exact twin) (of_model twin model x) text n (quoted (dtmi_text model) ++ (exact_text x ++ 41 ∷ next)) next
+    → Reads (model_and_exact twin) (of_model twin model x) text n (quoted_query (dtmi_text model) ++ (exact_text x ++ 41 ∷ next)) next
 read_id twin model x text n next own writable =
     let c : Condition = of_model twin model x in
     let rest : List ℕ = exact_text x ++ 41 ∷ next in
     let content : List ℕ = dtmi_text model in
-    follow phrases.text (λ (t : List ℕ × Option Identifier). only_some t.1 >>= behind_id twin) (content, Some model) c text n (quoted content ++ rest) rest next
-    (take phrases.text (content, Some model) (tokens.Text content (Some model)) text n (quoted content ++ rest) (quoted content ++ rest) rest (no_space (quoted content ++ rest))
+    follow phrases.text (λ (t : List ℕ × Option Identifier). only_some t.1 >>= behind_id twin) (content, Some model) c text n (quoted_query content ++ rest) rest next
+    (take phrases.text (content, Some model) (tokens.Text content (Some model)) text n (quoted_query content ++ rest) (quoted_query content ++ rest) rest (no_space (quoted_query content ++ rest))
     (text_in_front content rest (Some model) writable own) (λ K ts g. g))
     (λ m. follow (only_some (Some model)) (behind_id twin) model c text m rest rest next (read_there model text m rest)
     (λ o. follow behind_exact (λ (y : Bool). mark marks.Close >> pure (of_model twin model y)) x c text o rest (41 ∷ next) next (read_exact x text o next)
@@ -269,10 +269,10 @@ abbrev without_twin : PlacedName → Phrase Condition
 without_twin name = note_use name referents.Bare >> model_and_exact None
 
 read_twin : (twin : Option (List ℕ)) (name : PlacedName) (model : Identifier) (x : Bool) (text : List ℕ) (n : Notes) (next : List ℕ) → IsModelTest twin model
-    → Reads (choice with_twin (without_twin name)) (of_model twin model x) text n (twin_text twin ++ (quoted (dtmi_text model) ++ (exact_text x ++ 41 ∷ next))) next
+    → Reads (choice with_twin (without_twin name)) (of_model twin model x) text n (twin_argument twin ++ (quoted_query (dtmi_text model) ++ (exact_text x ++ 41 ∷ next))) next
 read_twin (Some a) name model x text n next is =
     let c : Condition = of_model (Some a) model x in
-    let rest : List ℕ = quoted (dtmi_text model) ++ (exact_text x ++ 41 ∷ next) in
+    let rest : List ℕ = quoted_query (dtmi_text model) ++ (exact_text x ++ 41 ∷ next) in
     let here : PlacedName = (at text a (44 ∷ rest), a) in
     first_choice with_twin (without_twin name) c text n ((a ++ 44 ∷ []) ++ rest) next
     (same_from with_twin c text n ((a ++ 44 ∷ []) ++ rest) (a ++ 44 ∷ rest) next (append_assoc a (44 ∷ []) rest)
@@ -284,17 +284,17 @@ read_twin (Some a) name model x text n next is =
     (λ j. read_id (Some a) model x text j next is.1 is.2)))))
 read_twin None name model x text n next is =
     let c : Condition = of_model None model x in
-    let rest : List ℕ = quoted (dtmi_text model) ++ (exact_text x ++ 41 ∷ next) in
+    let rest : List ℕ = quoted_query (dtmi_text model) ++ (exact_text x ++ 41 ∷ next) in
     other_choice with_twin (without_twin name) c text n rest next
     (follow (note_use name referents.Bare) (λ _. model_and_exact None) tt c text n rest rest next (read_use name referents.Bare text n rest)
     (λ m. read_id None model x text m next is.1 is.2))
 
 model_parts : (twin : Option (List ℕ)) (model : Identifier) (x : Bool) (next : List ℕ)
-    → condition_text 0 (of_model twin model x) ++ next ≡ codes "IS_OF_MODEL(" ++ (twin_text twin ++ (quoted (dtmi_text model) ++ (exact_text x ++ 41 ∷ next)))
+    → condition_text 0 (of_model twin model x) ++ next ≡ codes "IS_OF_MODEL(" ++ (twin_argument twin ++ (quoted_query (dtmi_text model) ++ (exact_text x ++ 41 ∷ next)))
 model_parts twin model x next =
     ap (λ (b : List ℕ). codes "IS_OF_MODEL(" ++ b)
-    (append_assoc (twin_text twin) (model_text model ++ (exact_text x ++ 41 ∷ [])) next
-    ∙ ap (λ (b : List ℕ). twin_text twin ++ b) (append_assoc (model_text model) (exact_text x ++ 41 ∷ []) next
+    (append_assoc (twin_argument twin) (model_text model ++ (exact_text x ++ 41 ∷ [])) next
+    ∙ ap (λ (b : List ℕ). twin_argument twin ++ b) (append_assoc (model_text model) (exact_text x ++ 41 ∷ []) next
     ∙ ap (λ (b : List ℕ). model_text model ++ b) (append_assoc (exact_text x) (41 ∷ []) next)
     ∙ ap (λ (b : List ℕ). b ++ (exact_text x ++ 41 ∷ next)) (model_quoted model)))
 
@@ -302,7 +302,7 @@ pub read_model : (twin : Option (List ℕ)) (model : Identifier) (x : Bool) (tex
     → Reads model_test (of_model twin model x) text n (condition_text 0 (of_model twin model x) ++ next) next
 read_model twin model x text n next is =
     let c : Condition = of_model twin model x in
-    let rest : List ℕ = twin_text twin ++ (quoted (dtmi_text model) ++ (exact_text x ++ 41 ∷ next)) in
+    let rest : List ℕ = twin_argument twin ++ (quoted_query (dtmi_text model) ++ (exact_text x ++ 41 ∷ next)) in
     let from : List ℕ = codes "IS_OF_MODEL(" ++ rest in
     let here : PlacedName = (at text (codes "IS_OF_MODEL") (40 ∷ rest), codes "IS_OF_MODEL") in
     same_from model_test c text n (condition_text 0 c ++ next) from next (model_parts twin model x next)

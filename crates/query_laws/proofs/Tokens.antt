@@ -2,15 +2,16 @@
 use Rattle.std.proofs.Common.{◌≡◌, ℕ, ◌-◌, ◌==◌, ◌&&◌, List, [], ◌∷◌, ◌++◌, length, drop, get_or, Bool, true, false, Option, Some, refl, sym, ap, subst, cond, arith}
 use Rattle.std.specs.Prelude.{IsTrue}
 use Rattle.std.specs.List.{AllByRecursion}
+use Rattle.std.proofs.lemmas.Bool.{and_parts}
 use Rattle.query_terms.specs.declared.operand.Compare.{Compare}
 use Rattle.query_terms.specs.declared.operand.Compare.TheVariants as compares
-use Rattle.query_tokens.specs.Words.{word_of}
-use Rattle.query_tokens.specs.declared.token.Word.{Word}
-use Rattle.query_tokens.specs.declared.token.Word.TheVariants as words
-use Rattle.query_tokens.specs.declared.token.Mark.{Mark}
-use Rattle.query_tokens.specs.declared.token.Mark.TheVariants as marks
-use Rattle.query_tokens.specs.declared.token.Token.TheVariants as tokens
-use Rattle.query_lexer.specs.Spellings.{is_name_start, is_name_byte, is_number_start, mark_bytes, IsName, IsLongest, IsSpaces}
+use Rattle.query_terms.specs.tokens.Words.{word_of}
+use Rattle.query_terms.specs.declared.tokens.token.Word.{Word}
+use Rattle.query_terms.specs.declared.tokens.token.Word.TheVariants as words
+use Rattle.query_terms.specs.declared.tokens.token.Mark.{Mark}
+use Rattle.query_terms.specs.declared.tokens.token.Mark.TheVariants as marks
+use Rattle.query_terms.specs.declared.tokens.token.Token.TheVariants as tokens
+use Rattle.query_lexer.specs.Spellings.{is_name_start, is_query_name_byte, is_number_start, mark_bytes, IsQueryName, IsLongest, SkipsSpaces}
 use Rattle.query_lexer.specs.Machinery.Spans.{mark_at, pair_of}
 use Rattle.query_lexer.proofs.MarkSpans.{mark_longest}
 use Rattle.query_grammar.specs.declared.names.Notes.{Notes}
@@ -23,10 +24,10 @@ pub on_true : (b : Bool) (P : Type 0) → b ≡ true → P → On b P
 on_true true P e h = h
 on_true false P e h = absurd cc
 
-pub no_space : (from : List ℕ) → IsSpaces from from
+pub no_space : (from : List ℕ) → SkipsSpaces from from
 no_space from = ([], tt, refl)
 
-pub one_space : (from : List ℕ) → IsSpaces (32 ∷ from) from
+pub one_space : (from : List ℕ) → SkipsSpaces (32 ∷ from) from
 one_space from = (32 ∷ [], (refl, tt), refl)
 
 -- ---- names
@@ -34,13 +35,13 @@ one_space from = (32 ∷ [], (refl, tt), refl)
 abbrev pub at : List ℕ → List ℕ → List ℕ → ℕ
 at text bytes to = length text - length (bytes ++ to)
 
-pub read_alias : (name text : List ℕ) (n : Notes) (from to : List ℕ) → IsAlias name → IsSpaces from (name ++ to) → is_name_byte (get_or to 0 0) ≡ false
+pub read_alias : (name text : List ℕ) (n : Notes) (from to : List ℕ) → IsAlias name → SkipsSpaces from (name ++ to) → is_query_name_byte (get_or to 0 0) ≡ false
     → Reads alias (at text name to, name) text n from to
 read_alias name text n from to is s stops =
     take alias (at text name to, name) (tokens.Name words.Alias name) text n from (name ++ to) to s
     (name_in_front words.Alias name to is.0 (sym is.1) stops) (λ K ts g. g)
 
-pub read_field : (name text : List ℕ) (n : Notes) (from to : List ℕ) → IsName name → IsSpaces from (name ++ to) → is_name_byte (get_or to 0 0) ≡ false
+pub read_field : (name text : List ℕ) (n : Notes) (from to : List ℕ) → IsQueryName name → SkipsSpaces from (name ++ to) → is_query_name_byte (get_or to 0 0) ≡ false
     → Reads field (name, (at text name to, name)) text n from to
 read_field name text n from to is s stops =
     take field (name, (at text name to, name)) (tokens.Name (word_of name) name) text n from (name ++ to) to s
@@ -48,20 +49,15 @@ read_field name text n from to is s stops =
 
 abbrev pub all_in_names : List ℕ → Bool
 all_in_names [] = true
-all_in_names (b ∷ bs) = is_name_byte b && all_in_names bs
+all_in_names (b ∷ bs) = is_query_name_byte b && all_in_names bs
 
-both_true : (a b : Bool) → (a && b) ≡ true → (a ≡ true) × (b ≡ true)
-both_true true true e = (refl, refl)
-both_true true false e = absurd cc
-both_true false b e = absurd cc
-
-pub all_by_test : (bs : List ℕ) → all_in_names bs ≡ true → AllByRecursion (λ c. IsTrue (is_name_byte c)) bs
+pub all_by_test : (bs : List ℕ) → all_in_names bs ≡ true → AllByRecursion (λ c. IsTrue (is_query_name_byte c)) bs
 all_by_test [] e = tt
-all_by_test (b ∷ bs) e = let h = both_true (is_name_byte b) (all_in_names bs) e in (h.0, all_by_test bs h.1)
+all_by_test (b ∷ bs) e = let h = and_parts (is_query_name_byte b) (all_in_names bs) e in (h.0, all_by_test bs h.1)
 
 -- a keyword
 pub read_word : (w : Word) (b : ℕ) (bs text : List ℕ) (n : Notes) (from to : List ℕ) → is_name_start b ≡ true → all_in_names bs ≡ true
-    → w ≡ word_of (b ∷ bs) → (word_number w == word_number w) ≡ true → IsSpaces from (b ∷ (bs ++ to)) → is_name_byte (get_or to 0 0) ≡ false
+    → w ≡ word_of (b ∷ bs) → (word_number w == word_number w) ≡ true → SkipsSpaces from (b ∷ (bs ++ to)) → is_query_name_byte (get_or to 0 0) ≡ false
     → Reads (word w) (at text (b ∷ bs) to, b ∷ bs) text n from to
 read_word w b bs text n from to first others is same s stops =
     take (word w) (at text (b ∷ bs) to, b ∷ bs) (tokens.Name w (b ∷ bs)) text n from (b ∷ (bs ++ to)) to s
@@ -78,7 +74,7 @@ differ a b other e =
 
 -- a mark of one byte
 pub read_mark : (m : Mark) (b : ℕ) (text : List ℕ) (n : Notes) (from to : List ℕ) → is_name_start b ≡ false → is_number_start b ≡ false → (b ≡ 39 → ⊥)
-    → mark_at b (get_or to 0 0) ≡ Some m → drop (length (mark_bytes m)) (b ∷ to) ≡ to → (mark_number m == mark_number m) ≡ true → IsSpaces from (b ∷ to)
+    → mark_at b (get_or to 0 0) ≡ Some m → drop (length (mark_bytes m)) (b ∷ to) ≡ to → (mark_number m == mark_number m) ≡ true → SkipsSpaces from (b ∷ to)
     → Reads (mark m) tt text n from to
 read_mark m b text n from to name number quote is rest same s =
     take (mark m) tt (tokens.Mark m) text n from (b ∷ to) to s

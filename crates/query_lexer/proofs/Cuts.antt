@@ -6,7 +6,7 @@ use Rattle.std.specs.Str.{IsUtf8, IsCharBoundary}
 use Rattle.std.proofs.lemmas.Str.{IsCharBoundary-start, IsCharBoundary-after_ascii}
 use Rattle.std.proofs.lemmas.List.{take-append-drop}
 use Rattle.std.proofs.lemmas.Bool.Decides.{nat_tests}
-use Rattle.query_lexer.specs.Spellings.{is_space, is_name_byte, IsSpaces}
+use Rattle.query_lexer.specs.Spellings.{is_space, is_query_name_byte, SkipsSpaces}
 use Rattle.query_lexer.specs.Machinery.Spans.{is_number_byte}
 
 -- behind bytes that are all below 128
@@ -19,7 +19,7 @@ behind_ascii bs (suc n) u h low =
 pub space_low : (b : ℕ) → is_space b ≡ true → b < 128
 space_low b h = grind (arith, nat_tests)
 
-pub name_low : (b : ℕ) → is_name_byte b ≡ true → b < 128
+pub name_low : (b : ℕ) → is_query_name_byte b ≡ true → b < 128
 name_low b h = grind (arith, nat_tests)
 
 pub number_low : (b : ℕ) → is_number_byte b ≡ true → b < 128
@@ -46,7 +46,7 @@ first_behind xs zero = refl
 first_behind [] (suc n) = refl
 first_behind (x ∷ xs) (suc n) = first_behind xs n
 
-pub spaces_in_front : (text : List ℕ) (n : ℕ) → n ≤ length text → ((k : ℕ) → k < n → is_space (get_or text k 0) ≡ true) → IsSpaces text (drop n text)
+pub spaces_in_front : (text : List ℕ) (n : ℕ) → n ≤ length text → ((k : ℕ) → k < n → is_space (get_or text k 0) ≡ true) → SkipsSpaces text (drop n text)
 spaces_in_front text n h all = (take n text, all_front (λ (b : ℕ). IsTrue (is_space b)) text n h all, sym (take-append-drop n text))
 
 -- no more bytes that pass a test stand in front than up to the first that does not
@@ -64,7 +64,7 @@ run_longest p (b ∷ bytes) (m ∷ more) to rest all e stops =
     omega (arith, h)
 
 -- where a byte of a name stands, the bytes have not ended
-pub name_within : (bs : List ℕ) (k : ℕ) → is_name_byte (get_or bs k 0) ≡ true → k < length bs
+pub name_within : (bs : List ℕ) (k : ℕ) → is_query_name_byte (get_or bs k 0) ≡ true → k < length bs
 name_within [] zero e = absurd cc
 name_within [] (suc k) e = absurd cc
 name_within (x ∷ xs) zero e = omega arith

@@ -3,11 +3,11 @@ use Rattle.std.proofs.Common.{◌≡◌, ℕ, ◌≤◌, List, [], ◌∷◌, �
 use Rattle.std.proofs.lemmas.Bool.Decides.{nat_tests}
 use Rattle.json_decimal.specs.Literal.{Literal, IsLiteral, IsDigit, IsInteger, minus_bytes, fraction_bytes, exponent_bytes}
 use Rattle.query_terms.specs.declared.operand.Compare.TheVariants as compares
-use Rattle.query_tokens.specs.declared.token.Mark.{Mark}
-use Rattle.query_tokens.specs.declared.token.Mark.TheVariants as marks
-use Rattle.query_tokens.specs.declared.token.Token.{Token}
-use Rattle.query_tokens.specs.declared.token.Token.TheVariants as tokens
-use Rattle.query_lexer.specs.Spellings.{is_name_start, is_number_start, IsName, IsSpelling, mark_bytes}
+use Rattle.query_terms.specs.declared.tokens.token.Mark.{Mark}
+use Rattle.query_terms.specs.declared.tokens.token.Mark.TheVariants as marks
+use Rattle.query_terms.specs.declared.tokens.token.Token.{Token}
+use Rattle.query_terms.specs.declared.tokens.token.Token.TheVariants as tokens
+use Rattle.query_lexer.specs.Spellings.{is_name_start, is_number_start, IsQueryName, IsSpelling, mark_bytes}
 
 abbrev pub kind_of : Token → ℕ
 kind_of (tokens.Name w name) = 0
@@ -65,7 +65,7 @@ mark_kind (marks.Compare compares.Greater) b bs e = let f : b ≡ 62 = cc in ap 
 mark_kind (marks.Compare compares.LessOrSame) b bs e = let f : b ≡ 60 = cc in ap kind_at f
 mark_kind (marks.Compare compares.GreaterOrSame) b bs e = let f : b ≡ 62 = cc in ap kind_at f
 
-name_kind : (name : List ℕ) (b : ℕ) (bs : List ℕ) → IsName name → b ∷ bs ≡ name → kind_at b ≡ 0
+name_kind : (name : List ℕ) (b : ℕ) (bs : List ℕ) → IsQueryName name → b ∷ bs ≡ name → kind_at b ≡ 0
 name_kind [] b bs i e = absurd i
 name_kind (c ∷ cs) b bs i e = let same : c ≡ b = cc in start_kind b (subst (λ (x : ℕ). is_name_start x ≡ true) same i.0)
 
@@ -100,7 +100,7 @@ no_mark (marks.Compare compares.GreaterOrSame) e = cc
 
 -- each token has a byte
 pub spelled_some : (t : Token) → IsSpelling t [] → ⊥
-spelled_some (tokens.Name w name) h = subst IsName (sym h.0) h.1
+spelled_some (tokens.Name w name) h = subst IsQueryName (sym h.0) h.1
 spelled_some (tokens.Number d) h = no_literal h.0.literal.negative h.0.literal h.0.is h.0.spelled
 spelled_some (tokens.Text t m) h = let e = h.1 in cc
 spelled_some (tokens.Mark m) h = no_mark m h

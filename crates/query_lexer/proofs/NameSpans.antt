@@ -4,18 +4,18 @@ use Rattle.std.specs.Prelude.{IsTrue}
 use Rattle.std.specs.List.{AllByRecursion}
 use Rattle.std.proofs.lemmas.List.{take-append-drop}
 use Rattle.std.proofs.lemmas.Bool.Decides.{nat_tests}
-use Rattle.query_tokens.specs.declared.token.Token.{Token}
-use Rattle.query_tokens.specs.declared.token.Token.TheVariants as tokens
-use Rattle.query_tokens.specs.declared.token.Word.{Word}
-use Rattle.query_tokens.specs.Words.{word_of}
-use Rattle.query_lexer.specs.Spellings.{is_name_start, is_name_byte, IsName, IsSpelling, IsLongest}
+use Rattle.query_terms.specs.declared.tokens.token.Token.{Token}
+use Rattle.query_terms.specs.declared.tokens.token.Token.TheVariants as tokens
+use Rattle.query_terms.specs.declared.tokens.token.Word.{Word}
+use Rattle.query_terms.specs.tokens.Words.{word_of}
+use Rattle.query_lexer.specs.Spellings.{is_name_start, is_query_name_byte, IsQueryName, IsSpelling, IsLongest}
 use Rattle.query_lexer.proofs.Cuts.{all_front, run_longest, first_behind}
 use Rattle.query_lexer.proofs.FirstBytes.{kind_at, start_kind, same_kind}
 
-start_byte : (b : ℕ) → is_name_start b ≡ true → is_name_byte b ≡ true
+start_byte : (b : ℕ) → is_name_start b ≡ true → is_query_name_byte b ≡ true
 start_byte b h = grind (arith, nat_tests)
 
-name_bytes : (name : List ℕ) → IsName name → AllByRecursion (λ b. IsTrue (is_name_byte b)) name
+name_bytes : (name : List ℕ) → IsQueryName name → AllByRecursion (λ b. IsTrue (is_query_name_byte b)) name
 name_bytes [] h = absurd h
 name_bytes (b ∷ bs) h = (start_byte b h.0, h.1)
 
@@ -23,21 +23,21 @@ name_bytes (b ∷ bs) h = (start_byte b h.0, h.1)
 pub record IsNameRun (text : List ℕ) (n : ℕ) : Type 0 where
   pub start : is_name_start (get_or text 0 0) ≡ true
   pub within : n ≤ length text
-  pub all : (k : ℕ) → k < n → is_name_byte (get_or text k 0) ≡ true
-  pub next : is_name_byte (get_or text n 0) ≡ false
+  pub all : (k : ℕ) → k < n → is_query_name_byte (get_or text k 0) ≡ true
+  pub next : is_query_name_byte (get_or text n 0) ≡ false
 
-is_name : (text : List ℕ) (n : ℕ) → IsNameRun text n → IsName (take n text)
+is_name : (text : List ℕ) (n : ℕ) → IsNameRun text n → IsQueryName (take n text)
 is_name [] n run = let s = run.start in cc
 is_name (x ∷ xs) zero run = let s = start_byte x run.start in let t = run.next in absurd cc
 is_name (x ∷ xs) (suc n) run =
     let within = run.within in
-    (run.start, all_front (λ (b : ℕ). IsTrue (is_name_byte b)) xs n (omega (arith, within)) (λ k lt. run.all (suc k) (omega (arith, lt))))
+    (run.start, all_front (λ (b : ℕ). IsTrue (is_query_name_byte b)) xs n (omega (arith, within)) (λ k lt. run.all (suc k) (omega (arith, lt))))
 
 longest_name : (text : List ℕ) (n : ℕ) → IsNameRun text n → (u : Token) (more rest : List ℕ) → IsSpelling u more → text ≡ more ++ rest
     → kind_at (get_or text 0 0) ≡ 0 → length more ≤ length (take n text)
 longest_name text n run (tokens.Name w name) more rest s e k =
-    run_longest is_name_byte (take n text) more (drop n text) rest (name_bytes more (subst IsName (sym s.0) s.1)) (take-append-drop n text ∙ e)
-    (ap is_name_byte (first_behind text n) ∙ run.next)
+    run_longest is_query_name_byte (take n text) more (drop n text) rest (name_bytes more (subst IsQueryName (sym s.0) s.1)) (take-append-drop n text ∙ e)
+    (ap is_query_name_byte (first_behind text n) ∙ run.next)
 longest_name text n run (tokens.Number d) more rest s e k = let o = same_kind (tokens.Number d) text more rest s e in absurd cc
 longest_name text n run (tokens.Text t m) more rest s e k = let o = same_kind (tokens.Text t m) text more rest s e in absurd cc
 longest_name text n run (tokens.Mark m) more rest s e k = let o = same_kind (tokens.Mark m) text more rest s e in absurd cc

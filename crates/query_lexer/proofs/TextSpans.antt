@@ -2,28 +2,28 @@
 use Rattle.std.proofs.Common.{◌≡◌, ℕ, zero, suc, ◌<◌, ◌≤◌, ◌≢◌, ◌⊎◌, inl, inr, List, [], ◌∷◌, ◌++◌, length, take, drop, get_or, Bool, true, false, cond, ◌==◌, nat_le, Option, Some, None, refl, sym, ap, ◌∙◌, subst, arith, append_assoc, length-append}
 use Rattle.std.specs.Str.{IsUtf8, IsCharBoundary}
 use Rattle.std.proofs.lemmas.Bool.Decides.{nat_tests}
-use Rattle.dtmi_name.specs.Grammar.{Identifier}
-use Rattle.query_tokens.specs.declared.token.Token.{Token}
-use Rattle.query_tokens.specs.declared.token.Token.TheVariants as tokens
+use Rattle.dt_base.specs.names.Grammar.{Identifier}
+use Rattle.query_terms.specs.declared.tokens.token.Token.{Token}
+use Rattle.query_terms.specs.declared.tokens.token.Token.TheVariants as tokens
 use Rattle.query_lexer.specs.Spellings.{escape, AreCharacters, IsModel, IsSpelling, IsLongest, BeginsNone}
-use Rattle.query_lexer.specs.Machinery.Spans.{is_plain, prepend, with_escape, content_in, content_at}
+use Rattle.query_lexer.specs.Machinery.Spans.{is_plain, prepend, with_escape, content_in, quoted_content}
 use Rattle.query_lexer.proofs.Cuts.{behind_ascii}
 use Rattle.query_lexer.proofs.FirstBytes.{same_kind}
 
 -- ---- what stands in front decides
-at_quote : (bs : List ℕ) → content_at (39 ∷ bs) ≡ Some ([], bs)
+at_quote : (bs : List ℕ) → quoted_content (39 ∷ bs) ≡ Some ([], bs)
 unfolding content_in
 at_quote bs = refl
 
-at_escape : (c : ℕ) (cs : List ℕ) → content_at (92 ∷ c ∷ cs) ≡ with_escape (escape c) (content_at cs)
+at_escape : (c : ℕ) (cs : List ℕ) → quoted_content (92 ∷ c ∷ cs) ≡ with_escape (escape c) (quoted_content cs)
 unfolding content_in
 at_escape c cs = refl
 
-at_backslash : content_at (92 ∷ []) ≡ None
+at_backslash : quoted_content (92 ∷ []) ≡ None
 unfolding content_in
 at_backslash = refl
 
-at_nothing : content_at [] ≡ None
+at_nothing : quoted_content [] ≡ None
 unfolding content_in
 at_nothing = refl
 
@@ -36,7 +36,7 @@ no_backslash b h = grind (arith, nat_tests)
 no_control : (b : ℕ) → is_plain b ≡ true → nat_le 32 b ≡ true
 no_control b h = grind (arith, nat_tests)
 
-at_plain : (b : ℕ) (bs : List ℕ) → is_plain b ≡ true → content_at (b ∷ bs) ≡ prepend (b ∷ []) (content_at bs)
+at_plain : (b : ℕ) (bs : List ℕ) → is_plain b ≡ true → quoted_content (b ∷ bs) ≡ prepend (b ∷ []) (quoted_content bs)
 unfolding content_in
 at_plain b bs h =
     ap (λ (x : Bool). cond x (Some ([], bs)) (cond (b == 92) (content_in true bs) (cond (nat_le 32 b) (prepend (b ∷ []) (content_in false bs)) None))) (no_quote b h)
@@ -52,7 +52,7 @@ other_backslash b h = grind (arith, nat_tests)
 other_control : (b : ℕ) → is_plain b ≡ false → (b ≡ 39 → ⊥) → (b ≡ 92 → ⊥) → nat_le 32 b ≡ false
 other_control b h q s = grind (arith, nat_tests)
 
-at_other : (b : ℕ) (bs : List ℕ) → is_plain b ≡ false → (b ≡ 39 → ⊥) → (b ≡ 92 → ⊥) → content_at (b ∷ bs) ≡ None
+at_other : (b : ℕ) (bs : List ℕ) → is_plain b ≡ false → (b ≡ 39 → ⊥) → (b ≡ 92 → ⊥) → quoted_content (b ∷ bs) ≡ None
 unfolding content_in
 at_other b bs h q s =
     ap (λ (x : Bool). cond x (Some ([], bs)) (cond (b == 92) (content_in true bs) (cond (nat_le 32 b) (prepend (b ∷ []) (content_in false bs)) None))) (other_quote b q)
@@ -69,13 +69,13 @@ prepend_both xs ys None = refl
 prepend_both xs ys (Some p) = ap (λ (l : List ℕ). Some (l, p.1)) (sym (append_assoc xs ys p.0))
 
 pub plain_front : (text : List ℕ) (n : ℕ) → n ≤ length text → ((k : ℕ) → k < n → is_plain (get_or text k 0) ≡ true)
-    → content_at text ≡ prepend (take n text) (content_at (drop n text))
-plain_front text zero h f = sym (prepend_none (content_at text))
+    → quoted_content text ≡ prepend (take n text) (quoted_content (drop n text))
+plain_front text zero h f = sym (prepend_none (quoted_content text))
 plain_front [] (suc n) h f = absurd (omega (arith, h))
 plain_front (x ∷ xs) (suc n) h f =
     at_plain x xs (f 0 (omega arith))
     ∙ ap (λ (o : Option (List ℕ × List ℕ)). prepend (x ∷ []) o) (plain_front xs n (omega (arith, h)) (λ k lt. f (suc k) (omega (arith, lt))))
-    ∙ prepend_both (x ∷ []) (take n xs) (content_at (drop n xs))
+    ∙ prepend_both (x ∷ []) (take n xs) (quoted_content (drop n xs))
 
 escape_low : (c b : ℕ) → escape c ≡ Some b → c < 128
 escape_low c b e = grind (arith, nat_tests)
@@ -95,26 +95,26 @@ escape_cut text b u first e =
     low (suc (suc k)) h = absurd (omega (arith, h))
 
 pub escape_front : (text : List ℕ) (b : ℕ) → get_or text 0 0 ≡ 92 → escape (get_or text 1 0) ≡ Some b
-    → content_at text ≡ prepend (b ∷ []) (content_at (drop 2 text))
+    → quoted_content text ≡ prepend (b ∷ []) (quoted_content (drop 2 text))
 escape_front [] b first e = absurd cc
 escape_front (x ∷ []) b first e = absurd cc
 escape_front (x ∷ y ∷ zs) b first e =
-    ap (λ (n : ℕ). content_at (n ∷ y ∷ zs)) first ∙ at_escape y zs ∙ ap (λ (o : Option ℕ). with_escape o (content_at zs)) e
+    ap (λ (n : ℕ). quoted_content (n ∷ y ∷ zs)) first ∙ at_escape y zs ∙ ap (λ (o : Option ℕ). with_escape o (quoted_content zs)) e
 
-pub escape_none : (text : List ℕ) → get_or text 0 0 ≡ 92 → escape (get_or text 1 0) ≡ None → content_at text ≡ None
+pub escape_none : (text : List ℕ) → get_or text 0 0 ≡ 92 → escape (get_or text 1 0) ≡ None → quoted_content text ≡ None
 escape_none [] first e = absurd cc
-escape_none (x ∷ []) first e = ap (λ (n : ℕ). content_at (n ∷ [])) first ∙ at_backslash
+escape_none (x ∷ []) first e = ap (λ (n : ℕ). quoted_content (n ∷ [])) first ∙ at_backslash
 escape_none (x ∷ y ∷ zs) first e =
-    ap (λ (n : ℕ). content_at (n ∷ y ∷ zs)) first ∙ at_escape y zs ∙ ap (λ (o : Option ℕ). with_escape o (content_at zs)) e
+    ap (λ (n : ℕ). quoted_content (n ∷ y ∷ zs)) first ∙ at_escape y zs ∙ ap (λ (o : Option ℕ). with_escape o (quoted_content zs)) e
 
-pub content_step : (text rest behind after content run new : List ℕ) (b : ℕ) → content_at text ≡ prepend content (content_at rest)
-    → content_at rest ≡ prepend (b ∷ []) (content_at behind) → content_at behind ≡ prepend run (content_at after)
-    → new ≡ (content ++ b ∷ []) ++ run → content_at text ≡ prepend new (content_at after)
+pub content_step : (text rest behind after content run new : List ℕ) (b : ℕ) → quoted_content text ≡ prepend content (quoted_content rest)
+    → quoted_content rest ≡ prepend (b ∷ []) (quoted_content behind) → quoted_content behind ≡ prepend run (quoted_content after)
+    → new ≡ (content ++ b ∷ []) ++ run → quoted_content text ≡ prepend new (quoted_content after)
 content_step text rest behind after content run new b p q r e =
     p ∙ ap (λ (o : Option (List ℕ × List ℕ)). prepend content o) (q ∙ ap (λ (o : Option (List ℕ × List ℕ)). prepend (b ∷ []) o) r)
-    ∙ prepend_both content (b ∷ []) (prepend run (content_at after))
-    ∙ prepend_both (content ++ b ∷ []) run (content_at after)
-    ∙ ap (λ (l : List ℕ). prepend l (content_at after)) (sym e)
+    ∙ prepend_both content (b ∷ []) (prepend run (quoted_content after))
+    ∙ prepend_both (content ++ b ∷ []) run (quoted_content after)
+    ∙ ap (λ (l : List ℕ). prepend l (quoted_content after)) (sym e)
 
 without_end : (xs : List ℕ) → xs ++ [] ≡ xs
 without_end [] = refl
@@ -124,31 +124,31 @@ quote_first : (rest : List ℕ) → get_or rest 0 0 ≡ 39 → rest ≡ 39 ∷ d
 quote_first [] e = absurd cc
 quote_first (x ∷ xs) e = ap (λ (n : ℕ). n ∷ xs) e
 
-pub content_ends : (text rest content : List ℕ) → content_at text ≡ prepend content (content_at rest) → get_or rest 0 0 ≡ 39
-    → content_at text ≡ Some (content, drop 1 rest)
+pub content_ends : (text rest content : List ℕ) → quoted_content text ≡ prepend content (quoted_content rest) → get_or rest 0 0 ≡ 39
+    → quoted_content text ≡ Some (content, drop 1 rest)
 content_ends text rest content p e =
-    p ∙ ap (λ (o : Option (List ℕ × List ℕ)). prepend content o) (ap content_at (quote_first rest e) ∙ at_quote (drop 1 rest))
+    p ∙ ap (λ (o : Option (List ℕ × List ℕ)). prepend content o) (ap quoted_content (quote_first rest e) ∙ at_quote (drop 1 rest))
     ∙ ap (λ (l : List ℕ). Some (l, drop 1 rest)) (without_end content)
 
-none_in_front : (rest : List ℕ) → is_plain (get_or rest 0 0) ≡ false → (get_or rest 0 0 ≡ 39 → ⊥) → (get_or rest 0 0 ≡ 92 → ⊥) → content_at rest ≡ None
+none_in_front : (rest : List ℕ) → is_plain (get_or rest 0 0) ≡ false → (get_or rest 0 0 ≡ 39 → ⊥) → (get_or rest 0 0 ≡ 92 → ⊥) → quoted_content rest ≡ None
 none_in_front [] h q s = at_nothing
 none_in_front (x ∷ xs) h q s = at_other x xs h q s
 
-pub content_stops : (text rest content : List ℕ) → content_at text ≡ prepend content (content_at rest) → is_plain (get_or rest 0 0) ≡ false
-    → (get_or rest 0 0 ≡ 39 → ⊥) → (get_or rest 0 0 ≡ 92 → ⊥) → content_at text ≡ None
+pub content_stops : (text rest content : List ℕ) → quoted_content text ≡ prepend content (quoted_content rest) → is_plain (get_or rest 0 0) ≡ false
+    → (get_or rest 0 0 ≡ 39 → ⊥) → (get_or rest 0 0 ≡ 92 → ⊥) → quoted_content text ≡ None
 content_stops text rest content p h q s = p ∙ ap (λ (o : Option (List ℕ × List ℕ)). prepend content o) (none_in_front rest h q s)
 
 -- ---- the content that is read is the content that is spelled
 plain_byte : (b : ℕ) → 32 ≤ b → b ≢ 39 → b ≢ 92 → is_plain b ≡ true
 plain_byte b low q s = grind (arith, nat_tests)
 
-complete : (c from to : List ℕ) → AreCharacters c from to → content_at from ≡ Some (c, to)
-complete [] from to e = ap content_at e ∙ at_quote to
+complete : (c from to : List ℕ) → AreCharacters c from to → quoted_content from ≡ Some (c, to)
+complete [] from to e = ap quoted_content e ∙ at_quote to
 complete (b ∷ c) from to (mid, inl plain, more) =
-    ap content_at plain.0 ∙ at_plain b mid (plain_byte b plain.1 plain.2 plain.3)
+    ap quoted_content plain.0 ∙ at_plain b mid (plain_byte b plain.1 plain.2 plain.3)
     ∙ ap (λ (o : Option (List ℕ × List ℕ)). prepend (b ∷ []) o) (complete c mid to more)
 complete (b ∷ c) from to (mid, inr escaped, more) =
-    ap content_at escaped.1 ∙ at_escape escaped.0 mid ∙ ap (λ (o : Option ℕ). with_escape o (content_at mid)) escaped.2
+    ap quoted_content escaped.1 ∙ at_escape escaped.0 mid ∙ ap (λ (o : Option ℕ). with_escape o (quoted_content mid)) escaped.2
     ∙ ap (λ (o : Option (List ℕ × List ℕ)). prepend (b ∷ []) o) (complete c mid to more)
 
 abbrev Same : Option (List ℕ × List ℕ) → List ℕ → Type 0
@@ -180,30 +180,30 @@ sound_escaped c cs None o is s = tt
 sound_escaped c cs (Some b) None is s = tt
 sound_escaped c cs (Some b) (Some p) is s = (cs, inr (c, refl, is), s)
 
-same_along : (from : List ℕ) (o : Option (List ℕ × List ℕ)) → content_at from ≡ o → Same o from → Same (content_at from) from
+same_along : (from : List ℕ) (o : Option (List ℕ × List ℕ)) → quoted_content from ≡ o → Same o from → Same (quoted_content from) from
 same_along from o e s = subst (λ (x : Option (List ℕ × List ℕ)). Same x from) (sym e) s
 
-sound : (from : List ℕ) → Same (content_at from) from
+sound : (from : List ℕ) → Same (quoted_content from) from
 sound [] = same_along [] None at_nothing tt
 sound (b ∷ []) =
     elim (one_of (is_plain b)) [
-      | inl plain ↦ same_along (b ∷ []) (prepend (b ∷ []) (content_at [])) (at_plain b [] plain) (sound_plain b [] (content_at []) plain (sound []))
+      | inl plain ↦ same_along (b ∷ []) (prepend (b ∷ []) (quoted_content [])) (at_plain b [] plain) (sound_plain b [] (quoted_content []) plain (sound []))
       | inr other ↦ elim (same_number b 39) [
-        | inl quote ↦ same_along (b ∷ []) (Some ([], [])) (ap (λ (n : ℕ). content_at (n ∷ [])) quote ∙ at_quote []) (ap (λ (n : ℕ). n ∷ []) quote)
+        | inl quote ↦ same_along (b ∷ []) (Some ([], [])) (ap (λ (n : ℕ). quoted_content (n ∷ [])) quote ∙ at_quote []) (ap (λ (n : ℕ). n ∷ []) quote)
         | inr unquoted ↦ elim (same_number b 92) [
-          | inl slash ↦ same_along (b ∷ []) None (ap (λ (n : ℕ). content_at (n ∷ [])) slash ∙ at_backslash) tt
+          | inl slash ↦ same_along (b ∷ []) None (ap (λ (n : ℕ). quoted_content (n ∷ [])) slash ∙ at_backslash) tt
           | inr unescaped ↦ same_along (b ∷ []) None (at_other b [] other unquoted unescaped) tt
         ]
       ]
     ]
 sound (b ∷ c ∷ cs) =
     elim (one_of (is_plain b)) [
-      | inl plain ↦ same_along (b ∷ c ∷ cs) (prepend (b ∷ []) (content_at (c ∷ cs))) (at_plain b (c ∷ cs) plain) (sound_plain b (c ∷ cs) (content_at (c ∷ cs)) plain (sound (c ∷ cs)))
+      | inl plain ↦ same_along (b ∷ c ∷ cs) (prepend (b ∷ []) (quoted_content (c ∷ cs))) (at_plain b (c ∷ cs) plain) (sound_plain b (c ∷ cs) (quoted_content (c ∷ cs)) plain (sound (c ∷ cs)))
       | inr other ↦ elim (same_number b 39) [
-        | inl quote ↦ same_along (b ∷ c ∷ cs) (Some ([], c ∷ cs)) (ap (λ (n : ℕ). content_at (n ∷ c ∷ cs)) quote ∙ at_quote (c ∷ cs)) (ap (λ (n : ℕ). n ∷ c ∷ cs) quote)
+        | inl quote ↦ same_along (b ∷ c ∷ cs) (Some ([], c ∷ cs)) (ap (λ (n : ℕ). quoted_content (n ∷ c ∷ cs)) quote ∙ at_quote (c ∷ cs)) (ap (λ (n : ℕ). n ∷ c ∷ cs) quote)
         | inr unquoted ↦ elim (same_number b 92) [
-          | inl slash ↦ subst (λ (n : ℕ). Same (content_at (n ∷ c ∷ cs)) (n ∷ c ∷ cs)) (sym slash)
-              (same_along (92 ∷ c ∷ cs) (with_escape (escape c) (content_at cs)) (at_escape c cs) (sound_escaped c cs (escape c) (content_at cs) refl (sound cs)))
+          | inl slash ↦ subst (λ (n : ℕ). Same (quoted_content (n ∷ c ∷ cs)) (n ∷ c ∷ cs)) (sym slash)
+              (same_along (92 ∷ c ∷ cs) (with_escape (escape c) (quoted_content cs)) (at_escape c cs) (sound_escaped c cs (escape c) (quoted_content cs) refl (sound cs)))
           | inr unescaped ↦ same_along (b ∷ c ∷ cs) None (at_other b (c ∷ cs) other unquoted unescaped) tt
         ]
       ]
@@ -230,7 +230,7 @@ extended (b ∷ c) from to more (mid, inr escaped, rest) =
 
 -- a spelled text in front is that which is read
 spelled_content : (mid : List ℕ) (c : List ℕ) (m : Option Identifier) (bytes rest : List ℕ) → IsSpelling (tokens.Text c m) bytes → 39 ∷ mid ≡ bytes ++ rest
-    → content_at mid ≡ Some (c, rest)
+    → quoted_content mid ≡ Some (c, rest)
 spelled_content mid c m bytes rest s e =
     let first = s.1 in
     let behind : mid ≡ s.0 ++ rest = (let whole : 39 ∷ mid ≡ (39 ∷ s.0) ++ rest = e ∙ ap (λ (l : List ℕ). l ++ rest) first in cc) in
@@ -248,10 +248,10 @@ same_rest : (c d to rest : List ℕ) (o : Option (List ℕ × List ℕ)) → o �
 unfolding rest_of_pair
 same_rest c d to rest o p q = ap rest_of_pair (sym p ∙ q)
 
-longest_text : (mid c to bytes : List ℕ) → content_at mid ≡ Some (c, to) → 39 ∷ mid ≡ bytes ++ to → (u : Token) (more rest : List ℕ) → IsSpelling u more
+longest_text : (mid c to bytes : List ℕ) → quoted_content mid ≡ Some (c, to) → 39 ∷ mid ≡ bytes ++ to → (u : Token) (more rest : List ℕ) → IsSpelling u more
     → 39 ∷ mid ≡ more ++ rest → length more ≤ length bytes
 longest_text mid c to bytes read parts (tokens.Text d m) more rest s e =
-    let same = same_rest c d to rest (content_at mid) read (spelled_content mid d m more rest s e) in
+    let same = same_rest c d to rest (quoted_content mid) read (spelled_content mid d m more rest s e) in
     let ours = length-append bytes to in
     let others = length-append more rest in
     let both = ap length (sym parts ∙ e) in
@@ -261,7 +261,7 @@ longest_text mid c to bytes read parts (tokens.Name w name) more rest s e = let 
 longest_text mid c to bytes read parts (tokens.Number d) more rest s e = let o = same_kind (tokens.Number d) (39 ∷ mid) more rest s e in absurd cc
 longest_text mid c to bytes read parts (tokens.Mark m) more rest s e = let o = same_kind (tokens.Mark m) (39 ∷ mid) more rest s e in absurd cc
 
-whole_text : (mid c to : List ℕ) (m : Option Identifier) → content_at mid ≡ Some (c, to) → IsModel c m → IsLongest (39 ∷ mid) (tokens.Text c m) to
+whole_text : (mid c to : List ℕ) (m : Option Identifier) → quoted_content mid ≡ Some (c, to) → IsModel c m → IsLongest (39 ∷ mid) (tokens.Text c m) to
 whole_text mid c to m read model =
     let chars : AreCharacters c mid to = subst (λ (o : Option (List ℕ × List ℕ)). Same o mid) read (sound mid) in
     let p = parts c mid to chars in
@@ -273,18 +273,18 @@ whole_text mid c to m read model =
       longest = λ u more rest s e. longest_text mid c to (39 ∷ p.0) read front u more rest s e;
     }
 
-pub text_longest : (text c to : List ℕ) (m : Option Identifier) → get_or text 0 0 ≡ 39 → content_at (drop 1 text) ≡ Some (c, to) → IsModel c m
+pub text_longest : (text c to : List ℕ) (m : Option Identifier) → get_or text 0 0 ≡ 39 → quoted_content (drop 1 text) ≡ Some (c, to) → IsModel c m
     → IsLongest text (tokens.Text c m) to
 text_longest text c to m first read model =
     subst (λ (l : List ℕ). IsLongest l (tokens.Text c m) to) (sym (quote_first text first)) (whole_text (drop 1 text) c to m read model)
 
-none_whole : (mid : List ℕ) → content_at mid ≡ None → BeginsNone (39 ∷ mid)
+none_whole : (mid : List ℕ) → quoted_content mid ≡ None → BeginsNone (39 ∷ mid)
 none_whole mid read (tokens.Text c m) bytes rest s e = let some = spelled_content mid c m bytes rest s e in absurd cc
 none_whole mid read (tokens.Name w name) bytes rest s e = let o = same_kind (tokens.Name w name) (39 ∷ mid) bytes rest s e in absurd cc
 none_whole mid read (tokens.Number d) bytes rest s e = let o = same_kind (tokens.Number d) (39 ∷ mid) bytes rest s e in absurd cc
 none_whole mid read (tokens.Mark m) bytes rest s e = let o = same_kind (tokens.Mark m) (39 ∷ mid) bytes rest s e in absurd cc
 
-pub text_none : (text : List ℕ) → get_or text 0 0 ≡ 39 → content_at (drop 1 text) ≡ None → BeginsNone text
+pub text_none : (text : List ℕ) → get_or text 0 0 ≡ 39 → quoted_content (drop 1 text) ≡ None → BeginsNone text
 text_none text first read = subst (λ (l : List ℕ). BeginsNone l) (sym (quote_first text first)) (none_whole (drop 1 text) read)
 
 -- bytes are one content

@@ -4,49 +4,49 @@ use Rattle.std.specs.Prelude.{ℤ, pos, neg_ℤ, ◌≤ℤ◌, IsTrue}
 use Rattle.std.specs.List.{AllByRecursion}
 use Rattle.std.proofs.lemmas.Bool.Decides.{nat_tests}
 use denote.Struct.Props.{props}
-use Rattle.dtmi_name.specs.Grammar.{Identifier}
-use Rattle.dtmi_name.proofs.Cuts.{HasDtmiForm-unique}
+use Rattle.dt_base.specs.names.Grammar.{Identifier}
+use Rattle.dt_base.proofs.names.Cuts.{HasDtmiForm-unique}
 use Rattle.json_decimal.specs.declared.decimal.Decimal.{Decimal}
-use Rattle.json_decimal.specs.Halves.{joined}
+use Rattle.json_decimal.specs.Halves.{joined_halves}
 use Rattle.json_decimal.specs.Number.{Number}
 use Rattle.json_decimal.specs.Decimals.{number_of}
 use Rattle.json_decimal.proofs.Unique.{one_number_of}
 use Rattle.query_terms.specs.declared.operand.Compare.TheVariants as compares
-use Rattle.query_tokens.specs.declared.token.Mark.{Mark}
-use Rattle.query_tokens.specs.declared.token.Mark.TheVariants as marks
-use Rattle.query_tokens.specs.declared.token.Token.{Token}
-use Rattle.query_tokens.specs.declared.token.Token.TheVariants as tokens
-use Rattle.query_tokens.specs.Words.{word_of}
-use Rattle.query_lexer.specs.Spellings.{is_space, mark_bytes, AreCharacters, IsModel, IsSpelling, IsLongest, IsSpaces}
+use Rattle.query_terms.specs.declared.tokens.token.Mark.{Mark}
+use Rattle.query_terms.specs.declared.tokens.token.Mark.TheVariants as marks
+use Rattle.query_terms.specs.declared.tokens.token.Token.{Token}
+use Rattle.query_terms.specs.declared.tokens.token.Token.TheVariants as tokens
+use Rattle.query_terms.specs.tokens.Words.{word_of}
+use Rattle.query_lexer.specs.Spellings.{is_space, mark_bytes, AreCharacters, IsModel, IsSpelling, IsLongest, SkipsSpaces}
 use Rattle.query_lexer.specs.Machinery.Spans.{mark_at}
 use Rattle.query_lexer.proofs.FirstBytes.{kind_of, kind_at, same_kind}
 use Rattle.query_lexer.proofs.TextSpans.{one_content}
 
 -- ---- decimals
-same_halves : (a b c d : ℕ) → b < 2 ^ 64 → d < 2 ^ 64 → joined a b ≡ joined c d → (a ≡ c) × (b ≡ d)
+same_halves : (a b c d : ℕ) → b < 2 ^ 64 → d < 2 ^ 64 → joined_halves a b ≡ joined_halves c d → (a ≡ c) × (b ≡ d)
 same_halves a b c d p q e = (omega (arith, p, q, e), omega (arith, p, q, e))
 
-make : (h l : ℕ) (x : ℤ) (n : Bool) → joined h l < 10 ^ 38 → (joined h l % 10 ≡ 0 → joined h l ≡ 0) → neg_ℤ (pos 900) ≤ℤ x → x ≤ℤ pos 900
-    → (joined h l ≡ 0 → (n ≡ false) × (x ≡ pos 0)) → Decimal
+make : (h l : ℕ) (x : ℤ) (n : Bool) → joined_halves h l < 10 ^ 38 → (joined_halves h l % 10 ≡ 0 → joined_halves h l ≡ 0) → neg_ℤ (pos 900) ≤ℤ x → x ≤ℤ pos 900
+    → (joined_halves h l ≡ 0 → (n ≡ false) × (x ≡ pos 0)) → Decimal
 make h l x n b t lo mo z = record { high = h; low = l; exponent = x; negative = n; bounded = b; trimmed = t; least = lo; most = mo; zero = z }
 
 abbrev Same : Decimal → ℕ → ℕ → ℤ → Bool → Type 0
-Same d h l x n = (b : joined h l < 10 ^ 38) (t : joined h l % 10 ≡ 0 → joined h l ≡ 0) (lo : neg_ℤ (pos 900) ≤ℤ x) (mo : x ≤ℤ pos 900)
-    (z : joined h l ≡ 0 → (n ≡ false) × (x ≡ pos 0)) → d ≡ make h l x n b t lo mo z
+Same d h l x n = (b : joined_halves h l < 10 ^ 38) (t : joined_halves h l % 10 ≡ 0 → joined_halves h l ≡ 0) (lo : neg_ℤ (pos 900) ≤ℤ x) (mo : x ≤ℤ pos 900)
+    (z : joined_halves h l ≡ 0 → (n ≡ false) × (x ≡ pos 0)) → d ≡ make h l x n b t lo mo z
 
 itself : (d : Decimal) → Same d d.high d.low d.exponent d.negative
 unfolding make
 itself d b t lo mo z =
-    let bounded : IsProp (joined d.high d.low < 10 ^ 38) = hlevel props in
-    let trimmed : IsProp (joined d.high d.low % 10 ≡ 0 → joined d.high d.low ≡ 0) = hlevel props in
+    let bounded : IsProp (joined_halves d.high d.low < 10 ^ 38) = hlevel props in
+    let trimmed : IsProp (joined_halves d.high d.low % 10 ≡ 0 → joined_halves d.high d.low ≡ 0) = hlevel props in
     let least : IsProp (neg_ℤ (pos 900) ≤ℤ d.exponent) = hlevel props in
     let most : IsProp (d.exponent ≤ℤ pos 900) = hlevel props in
-    let zero : IsProp (joined d.high d.low ≡ 0 → (d.negative ≡ false) × (d.exponent ≡ pos 0)) = hlevel props in
-    ap (λ (v : joined d.high d.low < 10 ^ 38). make d.high d.low d.exponent d.negative v d.trimmed d.least d.most d.zero) (bounded d.bounded b)
-    ∙ ap (λ (v : joined d.high d.low % 10 ≡ 0 → joined d.high d.low ≡ 0). make d.high d.low d.exponent d.negative b v d.least d.most d.zero) (trimmed d.trimmed t)
+    let zero : IsProp (joined_halves d.high d.low ≡ 0 → (d.negative ≡ false) × (d.exponent ≡ pos 0)) = hlevel props in
+    ap (λ (v : joined_halves d.high d.low < 10 ^ 38). make d.high d.low d.exponent d.negative v d.trimmed d.least d.most d.zero) (bounded d.bounded b)
+    ∙ ap (λ (v : joined_halves d.high d.low % 10 ≡ 0 → joined_halves d.high d.low ≡ 0). make d.high d.low d.exponent d.negative b v d.least d.most d.zero) (trimmed d.trimmed t)
     ∙ ap (λ (v : neg_ℤ (pos 900) ≤ℤ d.exponent). make d.high d.low d.exponent d.negative b t v d.most d.zero) (least d.least lo)
     ∙ ap (λ (v : d.exponent ≤ℤ pos 900). make d.high d.low d.exponent d.negative b t lo v d.zero) (most d.most mo)
-    ∙ ap (λ (v : joined d.high d.low ≡ 0 → (d.negative ≡ false) × (d.exponent ≡ pos 0)). make d.high d.low d.exponent d.negative b t lo mo v) (zero d.zero z)
+    ∙ ap (λ (v : joined_halves d.high d.low ≡ 0 → (d.negative ≡ false) × (d.exponent ≡ pos 0)). make d.high d.low d.exponent d.negative b t lo mo v) (zero d.zero z)
 
 same_decimal : (d e : Decimal) → d.low < 2 ^ 64 → e.low < 2 ^ 64 → number_of d ≡ number_of e → d ≡ e
 unfolding make
@@ -183,5 +183,5 @@ behind_both (x ∷ xs) [] a b p q e s t =
     absurd cc
 behind_both (x ∷ xs) (y ∷ ys) a b p q e s t = let tails : xs ++ a ≡ ys ++ b = cc in behind_both xs ys a b p.1 q.1 tails s t
 
-pub same_spaces : (from a b : List ℕ) → IsSpaces from a → IsSpaces from b → is_space (get_or a 0 0) ≡ false → is_space (get_or b 0 0) ≡ false → a ≡ b
+pub same_spaces : (from a b : List ℕ) → SkipsSpaces from a → SkipsSpaces from b → is_space (get_or a 0 0) ≡ false → is_space (get_or b 0 0) ≡ false → a ≡ b
 same_spaces from a b p q s t = behind_both p.0 q.0 a b p.1 q.1 (sym p.2 ∙ q.2) s t

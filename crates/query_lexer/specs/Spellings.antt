@@ -2,22 +2,22 @@
 use Rattle.std.specs.Prelude.{◌≡◌, ◌≢◌, ℕ, ◌<◌, ◌≤◌, ◌^◌, ◌⊎◌, List, [], ◌∷◌, ◌++◌, length, Bool, ◌||◌, ◌&&◌, ◌==◌, nat_le, Option, Some, None, IsTrue, if◌then◌else◌}
 use Rattle.std.specs.List.{AllByRecursion}
 use Rattle.std.specs.Char.{is_ascii_alphabetic, is_ascii_alphanumeric}
-use Rattle.dtmi_name.specs.Grammar.{Identifier, OwnDtmiText}
+use Rattle.dt_base.specs.names.Grammar.{Identifier, OwnDtmiText}
 use Rattle.json_decimal.specs.Decimals.{number_of}
 use Rattle.json_decimal.specs.Literal.{IsLiteralOf}
 use Rattle.query_terms.specs.declared.operand.Compare.TheVariants as compares
-use Rattle.query_tokens.specs.declared.token.Mark.{Mark}
-use Rattle.query_tokens.specs.declared.token.Mark.TheVariants as marks
-use Rattle.query_tokens.specs.declared.token.Token.{Token}
-use Rattle.query_tokens.specs.declared.token.Token.TheVariants as tokens
-use Rattle.query_tokens.specs.Words.{word_of}
+use Rattle.query_terms.specs.declared.tokens.token.Mark.{Mark}
+use Rattle.query_terms.specs.declared.tokens.token.Mark.TheVariants as marks
+use Rattle.query_terms.specs.declared.tokens.token.Token.{Token}
+use Rattle.query_terms.specs.declared.tokens.token.Token.TheVariants as tokens
+use Rattle.query_terms.specs.tokens.Words.{word_of}
 
 -- A letter, `_` or `$`; behind it digits too.
 abbrev pub is_name_start : ℕ → Bool
 is_name_start b = (is_ascii_alphabetic b || (b == 95)) || (b == 36)
 
-abbrev pub is_name_byte : ℕ → Bool
-is_name_byte b = (is_ascii_alphanumeric b || (b == 95)) || (b == 36)
+abbrev pub is_query_name_byte : ℕ → Bool
+is_query_name_byte b = (is_ascii_alphanumeric b || (b == 95)) || (b == 36)
 
 -- A digit or a minus, with which literals begin.
 abbrev pub is_number_start : ℕ → Bool
@@ -27,9 +27,9 @@ is_number_start b = (b == 45) || (nat_le 48 b && nat_le b 57)
 abbrev pub is_space : ℕ → Bool
 is_space b = (((b == 32) || (b == 9)) || (b == 10)) || (b == 13)
 
-abbrev pub IsName : List ℕ → Type 0
-IsName [] = ⊥
-IsName (b ∷ bs) = IsTrue (is_name_start b) × AllByRecursion (λ c. IsTrue (is_name_byte c)) bs
+abbrev pub IsQueryName : List ℕ → Type 0
+IsQueryName [] = ⊥
+IsQueryName (b ∷ bs) = IsTrue (is_name_start b) × AllByRecursion (λ c. IsTrue (is_query_name_byte c)) bs
 
 abbrev pub mark_bytes : Mark → List ℕ
 mark_bytes marks.Star = 42 ∷ []
@@ -59,15 +59,15 @@ escape character =
     None
 
 -- This byte of a text's content stands at the front of `from`, by itself or behind a backslash, and `to` follows.
-abbrev pub IsCharacter : ℕ → List ℕ → List ℕ → Type 0
-IsCharacter byte from to =
+abbrev pub IsQueryCharacter : ℕ → List ℕ → List ℕ → Type 0
+IsQueryCharacter byte from to =
     ((from ≡ byte ∷ to) × (32 ≤ byte) × (byte ≢ 39) × (byte ≢ 92))
     ⊎ ((character : ℕ) × (from ≡ 92 ∷ character ∷ to) × (escape character ≡ Some byte))
 
 -- The content and then the quote that ends it.
 abbrev pub AreCharacters : List ℕ → List ℕ → List ℕ → Type 0
 AreCharacters [] from to = from ≡ 39 ∷ to
-AreCharacters (byte ∷ content) from to = (mid : List ℕ) × IsCharacter byte from mid × AreCharacters content mid to
+AreCharacters (byte ∷ content) from to = (mid : List ℕ) × IsQueryCharacter byte from mid × AreCharacters content mid to
 
 -- The identifier of a model that is not reserved, where the text is one, and none where it is none.
 abbrev pub IsModel : List ℕ → Option Identifier → Type 0
@@ -76,7 +76,7 @@ IsModel content None = (id : Identifier) → OwnDtmiText content id → ⊥
 
 -- The bytes are a spelling of the token. A number is the decimal of a literal, in two halves of which the lower has 64 bits.
 abbrev pub IsSpelling : Token → List ℕ → Type 0
-IsSpelling (tokens.Name word name) bytes = (bytes ≡ name) × IsName name × (word ≡ word_of name)
+IsSpelling (tokens.Name word name) bytes = (bytes ≡ name) × IsQueryName name × (word ≡ word_of name)
 IsSpelling (tokens.Number d) bytes = IsLiteralOf bytes (number_of d) × (d.low < 2 ^ 64)
 IsSpelling (tokens.Text content model) bytes = (mid : List ℕ) × (bytes ≡ 39 ∷ mid) × AreCharacters content mid [] × IsModel content model
 IsSpelling (tokens.Mark m) bytes = bytes ≡ mark_bytes m
@@ -93,5 +93,5 @@ abbrev pub BeginsNone : List ℕ → Type 0
 BeginsNone from = (t : Token) (bytes rest : List ℕ) → IsSpelling t bytes → from ≡ bytes ++ rest → ⊥
 
 -- White space and then what follows.
-abbrev pub IsSpaces : List ℕ → List ℕ → Type 0
-IsSpaces from to = (spaces : List ℕ) × AllByRecursion (λ b. IsTrue (is_space b)) spaces × (from ≡ spaces ++ to)
+abbrev pub SkipsSpaces : List ℕ → List ℕ → Type 0
+SkipsSpaces from to = (spaces : List ℕ) × AllByRecursion (λ b. IsTrue (is_space b)) spaces × (from ≡ spaces ++ to)

@@ -1,7 +1,7 @@
 //! Bytes of one kind that stand one after another.
 
 ghost use Rattle.std.specs.Prelude.{◌≡◌, ◌<◌, ◌≤◌, ℕ, length, slice_index, true, false};
-ghost use Rattle.query_lexer.specs.Spellings.{is_space, is_name_start, is_name_byte, is_number_start};
+ghost use Rattle.query_lexer.specs.Spellings.{is_space, is_name_start, is_query_name_byte, is_number_start};
 ghost use Rattle.query_lexer.specs.Machinery.Spans.{is_number_byte, is_plain};
 
 /// The byte at a position, and 0, which no token has, behind the end.
@@ -24,7 +24,7 @@ pub(crate) fn is_name_start(byte: u8) -> bool
 }
 
 fn is_name_byte(byte: u8) -> bool
-    ensures { result ≡ is_name_byte byte }
+    ensures { result ≡ is_query_name_byte byte }
 {
     byte.is_ascii_alphanumeric() || byte == b'_' || byte == b'$'
 }
@@ -66,8 +66,8 @@ pub(crate) fn space_len(bytes: &[u8]) -> usize
 /// How many bytes of a name stand in front.
 pub(crate) fn name_len(bytes: &[u8]) -> usize
     ensures within { result ≤ length bytes.now }
-    ensures all { (k : ℕ) → k < result → is_name_byte (slice_index bytes.now k) ≡ true }
-    ensures next { is_name_byte (slice_index bytes.now result) ≡ false }
+    ensures all { (k : ℕ) → k < result → is_query_name_byte (slice_index bytes.now k) ≡ true }
+    ensures next { is_query_name_byte (slice_index bytes.now result) ≡ false }
 {
     let mut end = 0;
     'bytes: while is_name_byte(byte_at(bytes, end)) {

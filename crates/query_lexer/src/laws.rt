@@ -1,7 +1,7 @@
 //! What spellings say of tokens. Each function does nothing, and its contract is the law.
 
 ghost use Rattle.std.specs.Prelude.{◌≡◌, ℕ, List};
-ghost use Rattle.query_tokens.specs.declared.token.Token.{Token};
+ghost use Rattle.query_terms.specs.declared.tokens.token.Token.{Token};
 ghost use Rattle.query_lexer.specs.Spellings.{IsLongest, IsSpelling};
 
 /// Bytes spell at most one token.

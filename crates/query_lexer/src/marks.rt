@@ -5,7 +5,7 @@ ghost use Rattle.query_lexer.specs.Spellings.{mark_bytes};
 ghost use Rattle.query_lexer.specs.Machinery.Spans.{pair_of, single_mark, mark_at};
 
 use query_terms::Compare;
-use query_tokens::Mark;
+use query_terms::tokens::Mark;
 
 /// The comparison of the second kind where `=` follows, or else of the first kind.
 fn pair_of(first: Compare, other: Compare, second: u8) -> Mark

@@ -8,7 +8,7 @@ ghost use Rattle.query_lexer.specs.Machinery.Spans.{IsBound, NoneLonger};
 
 use crate::bytes::number_len;
 use json_decimal::Decimal;
-use query_tokens::Token;
+use query_terms::tokens::Token;
 
 /// The most bytes of a literal: a minus, 38 digits, a point, and an exponent with a sign and 3 digits.
 const LONGEST_LITERAL: usize = 45;

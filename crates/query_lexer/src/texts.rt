@@ -2,12 +2,12 @@
 
 ghost use Rattle.std.specs.Prelude.{◌≡◌, ◌<◌, ◌≤◌, ◌++◌, ◌∷◌, [], length, slice_index, false, None, Some, IfOk, IfSome, MatchOption};
 ghost use Rattle.query_lexer.specs.Spellings.{IsLongest, BeginsNone, IsModel, escape};
-ghost use Rattle.query_lexer.specs.Machinery.Spans.{is_plain, content_at, prepend};
+ghost use Rattle.query_lexer.specs.Machinery.Spans.{is_plain, quoted_content, prepend};
 
 use crate::bytes::{byte_at, plain_len};
+use dt_base::names::{Dtmi, NameFault};
 use dt_base::{OutOfMemory, Text};
-use dtmi_name::{Dtmi, NameFault};
-use query_tokens::Token;
+use query_terms::tokens::Token;
 use std::alloc::Global;
 
 /// What a character behind a backslash stands for.
@@ -37,7 +37,7 @@ fn escape_of(character: u8) -> Option<char>
 
 /// The bytes in front that stand for themselves, and what follows them.
 fn plain_run(text: &str) -> (&str, &str)
-    ensures same { content_at text.now ≡ prepend result.0.now (content_at result.1.now) }
+    ensures same { quoted_content text.now ≡ prepend result.0.now (quoted_content result.1.now) }
     ensures stops { is_plain (slice_index result.1.now 0) ≡ false }
     ensures shorter { length result.1.now ≤ length text.now }
 {
@@ -47,7 +47,7 @@ fn plain_run(text: &str) -> (&str, &str)
 /// What the escape in front stands for, and what follows it.
 fn escaped(text: &str) -> Option<(char, &str)>
     requires { slice_index text.now 0 ≡ 92 }
-    ensures same { MatchOption result (content_at text.now ≡ None) (λ p. content_at text.now ≡ prepend (p.0 ∷ []) (content_at p.1.now)) }
+    ensures same { MatchOption result (quoted_content text.now ≡ None) (λ p. quoted_content text.now ≡ prepend (p.0 ∷ []) (quoted_content p.1.now)) }
     ensures ascii { IfSome result (λ p. p.0 < 128) }
     ensures shorter { IfSome result (λ p. length p.1.now < length text.now) }
 {
@@ -62,7 +62,7 @@ fn escaped(text: &str) -> Option<(char, &str)>
 
 /// The content of a text behind its opening quote, and what follows the closing one.
 fn content_of<'a>(alloc: Global, text: &'a str) -> Result<Option<(Text, &'a str)>, OutOfMemory>
-    ensures { IfOk result (λ o. MatchOption o (content_at text.now ≡ None) (λ p. content_at text.now ≡ Some (p.0, p.1.now))) }
+    ensures { IfOk result (λ o. MatchOption o (quoted_content text.now ≡ None) (λ p. quoted_content text.now ≡ Some (p.0, p.1.now))) }
 {
     let mut content = String::new(alloc);
     let (run, mut rest) = plain_run(text);

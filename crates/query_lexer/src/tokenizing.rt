@@ -1,7 +1,7 @@
 //! The longest token at a place.
 
 ghost use Rattle.std.specs.Prelude.{◌≡◌, ◌≢◌, true, false, None, slice_index, IfOk, MatchOption};
-ghost use Rattle.query_lexer.specs.Spellings.{is_space, is_name_start, is_number_start, IsSpaces, IsLongest, BeginsNone};
+ghost use Rattle.query_lexer.specs.Spellings.{is_space, is_name_start, is_number_start, SkipsSpaces, IsLongest, BeginsNone};
 ghost use Rattle.query_lexer.specs.Machinery.Spans.{mark_at};
 
 use crate::bytes::{byte_at, is_name_start, is_number_start, name_len, space_len};
@@ -9,12 +9,12 @@ use crate::marks::{mark_at, mark_len};
 use crate::numbers::number_of;
 use crate::texts::text_of;
 use dt_base::{OutOfMemory, Text};
-use query_tokens::{Token, word_of};
+use query_terms::tokens::{Token, word_of};
 use std::alloc::Global;
 
 /// The text behind white space.
 pub fn behind_spaces(text: &str) -> &str
-    ensures spaces { IsSpaces text.now result.now }
+    ensures spaces { SkipsSpaces text.now result.now }
     ensures stops { is_space (slice_index result.now 0) ≡ false }
 {
     let (_, rest) = text.split_at(space_len(text.as_bytes()));

@@ -4,19 +4,19 @@ use Rattle.query_terms.specs.Queries.{Asked}
 use Rattle.query_grammar.specs.declared.names.Notes.{Notes}
 use Rattle.query_parse.specs.declared.fault.QueryFault.{QueryFault}
 use Rattle.query_parse.specs.declared.fault.QueryFault.TheVariants as faults
-use Rattle.query_parse.specs.Bindings.{repeats, unbound, IsLeast}
-use Rattle.query_parse.specs.Faults.{IsStarWithJoin, Reads, Refuses, Spells}
+use Rattle.query_parse.specs.Bindings.{repeated_places, unbound, IsLeastPlace}
+use Rattle.query_parse.specs.Faults.{IsStarWithJoin, ReadsQuery, RefusesQuery, SpellsQuery}
 use Rattle.query_parse.proofs.Unique.{one_text, byte_no_query, one_byte}
 
-both : (text : List ℕ) (P Q : Asked → Notes → Type 0) → Reads text P → Reads text Q → (q : Asked) × ((n : Notes) × P q n × Q q n)
+both : (text : List ℕ) (P Q : Asked → Notes → Type 0) → ReadsQuery text P → ReadsQuery text Q → (q : Asked) × ((n : Notes) × P q n × Q q n)
 both text P Q p r =
     let same : (p.1.0, p.1.1.0) ≡ (r.1.0, r.1.1.0) = one_text text (p.1.0, p.1.1.0) (r.1.0, r.1.1.0) p.1.1.1 r.1.1.1 in
     (r.1.0, (r.1.1.0, subst (λ (w : Asked × Notes). P w.0 w.1) same p.1.1.2, r.1.1.2))
 
-no_least : (xs : List ℕ) (at : ℕ) → xs ≡ [] → IsLeast xs at → ⊥
-no_least xs at e h = let one = (subst (λ (l : List ℕ). IsLeast l at) e h).one in let lt = one.1 in omega (arith, lt)
+no_least : (xs : List ℕ) (at : ℕ) → xs ≡ [] → IsLeastPlace xs at → ⊥
+no_least xs at e h = let one = (subst (λ (l : List ℕ). IsLeastPlace l at) e h).one in let lt = one.1 in omega (arith, lt)
 
-same_least : (xs : List ℕ) (a b : ℕ) → IsLeast xs a → IsLeast xs b → a ≡ b
+same_least : (xs : List ℕ) (a b : ℕ) → IsLeastPlace xs a → IsLeastPlace xs b → a ≡ b
 same_least xs a b p q = let up = p.least b q.one in let down = q.least a p.one in omega (arith, up, down)
 
 -- what each fault says of a query
@@ -25,14 +25,14 @@ Says faults.TooLong q n = ⊥
 Says (faults.Byte at) q n = ⊥
 Says faults.TooManyJoins q n = 5 < length q.joins
 Says faults.StarWithJoin q n = (length q.joins ≤ 5) × IsStarWithJoin q
-Says (faults.TwiceAlias at) q n = (length q.joins ≤ 5) × (IsStarWithJoin q → ⊥) × IsLeast (repeats n) at
-Says (faults.UnknownAlias at) q n = (length q.joins ≤ 5) × (IsStarWithJoin q → ⊥) × (repeats n ≡ []) × IsLeast (unbound q n) at
+Says (faults.TwiceAlias at) q n = (length q.joins ≤ 5) × (IsStarWithJoin q → ⊥) × IsLeastPlace (repeated_places n) at
+Says (faults.UnknownAlias at) q n = (length q.joins ≤ 5) × (IsStarWithJoin q → ⊥) × (repeated_places n ≡ []) × IsLeastPlace (unbound q n) at
 Says faults.OutOfMemory q n = ⊥
 
 abbrev IsAsked : Asked → Asked → Notes → Type 0
-IsAsked asked q n = (length q.joins ≤ 5) × (IsStarWithJoin q → ⊥) × (repeats n ≡ []) × (unbound q n ≡ []) × (q ≡ asked)
+IsAsked asked q n = (length q.joins ≤ 5) × (IsStarWithJoin q → ⊥) × (repeated_places n ≡ []) × (unbound q n ≡ []) × (q ≡ asked)
 
-pub one_asked : (text : List ℕ) (a b : Asked) → Spells text a → Spells text b → a ≡ b
+pub one_asked : (text : List ℕ) (a b : Asked) → SpellsQuery text a → SpellsQuery text b → a ≡ b
 one_asked text a b p r = let h = both text (IsAsked a) (IsAsked b) p r in sym h.1.1.4 ∙ h.1.2.4
 
 no_fault : (f : QueryFault) (asked q : Asked) (n : Notes) → IsAsked asked q n → Says f q n → ⊥
@@ -40,14 +40,14 @@ no_fault faults.TooLong asked q n a h = h
 no_fault (faults.Byte at) asked q n a h = h
 no_fault faults.TooManyJoins asked q n a h = let few = a.0 in omega (arith, few, h)
 no_fault faults.StarWithJoin asked q n a h = a.1 h.1
-no_fault (faults.TwiceAlias at) asked q n a h = no_least (repeats n) at a.2 h.2
+no_fault (faults.TwiceAlias at) asked q n a h = no_least (repeated_places n) at a.2 h.2
 no_fault (faults.UnknownAlias at) asked q n a h = no_least (unbound q n) at a.3 h.3
 no_fault faults.OutOfMemory asked q n a h = h
 
-no_both : (text : List ℕ) (asked : Asked) (f : QueryFault) → Spells text asked → Reads text (Says f) → ⊥
+no_both : (text : List ℕ) (asked : Asked) (f : QueryFault) → SpellsQuery text asked → ReadsQuery text (Says f) → ⊥
 no_both text asked f p r = let h = both text (IsAsked asked) (Says f) p r in no_fault f asked h.0 h.1.0 h.1.1 h.1.2
 
-pub refused_for_memory : (text : List ℕ) (asked : Asked) (f : QueryFault) → Spells text asked → Refuses text f → f ≡ faults.OutOfMemory
+pub refused_for_memory : (text : List ℕ) (asked : Asked) (f : QueryFault) → SpellsQuery text asked → RefusesQuery text f → f ≡ faults.OutOfMemory
 refused_for_memory text asked faults.TooLong p r = let short = p.0 in absurd (omega (arith, short, r))
 refused_for_memory text asked (faults.Byte at) p r = absurd (byte_no_query text at (p.1.0, p.1.1.0) r.1 p.1.1.1)
 refused_for_memory text asked faults.TooManyJoins p r = absurd (no_both text asked faults.TooManyJoins p r)
@@ -67,11 +67,11 @@ same_says faults.StarWithJoin (faults.TwiceAlias by) q n h k = absurd (k.1 h.1)
 same_says faults.StarWithJoin (faults.UnknownAlias by) q n h k = absurd (k.1 h.1)
 same_says (faults.TwiceAlias at) faults.TooManyJoins q n h k = let few = h.0 in absurd (omega (arith, few, k))
 same_says (faults.TwiceAlias at) faults.StarWithJoin q n h k = absurd (h.1 k.1)
-same_says (faults.TwiceAlias at) (faults.TwiceAlias by) q n h k = ap (λ (x : ℕ). faults.TwiceAlias x) (same_least (repeats n) at by h.2 k.2)
-same_says (faults.TwiceAlias at) (faults.UnknownAlias by) q n h k = absurd (no_least (repeats n) at k.2 h.2)
+same_says (faults.TwiceAlias at) (faults.TwiceAlias by) q n h k = ap (λ (x : ℕ). faults.TwiceAlias x) (same_least (repeated_places n) at by h.2 k.2)
+same_says (faults.TwiceAlias at) (faults.UnknownAlias by) q n h k = absurd (no_least (repeated_places n) at k.2 h.2)
 same_says (faults.UnknownAlias at) faults.TooManyJoins q n h k = let few = h.0 in absurd (omega (arith, few, k))
 same_says (faults.UnknownAlias at) faults.StarWithJoin q n h k = absurd (h.1 k.1)
-same_says (faults.UnknownAlias at) (faults.TwiceAlias by) q n h k = absurd (no_least (repeats n) by h.2 k.2)
+same_says (faults.UnknownAlias at) (faults.TwiceAlias by) q n h k = absurd (no_least (repeated_places n) by h.2 k.2)
 same_says (faults.UnknownAlias at) (faults.UnknownAlias by) q n h k = ap (λ (x : ℕ). faults.UnknownAlias x) (same_least (unbound q n) at by h.3 k.3)
 same_says faults.TooLong g q n h k = absurd h
 same_says (faults.Byte at) g q n h k = absurd h
@@ -92,10 +92,10 @@ same_says (faults.UnknownAlias at) faults.OutOfMemory q n h k = absurd k
 abbrev OneFault : QueryFault → QueryFault → Type 0
 OneFault f g = (f ≡ g) ⊎ ((f ≡ faults.OutOfMemory) ⊎ (g ≡ faults.OutOfMemory))
 
-same_read : (text : List ℕ) (f g : QueryFault) → Reads text (Says f) → Reads text (Says g) → OneFault f g
+same_read : (text : List ℕ) (f g : QueryFault) → ReadsQuery text (Says f) → ReadsQuery text (Says g) → OneFault f g
 same_read text f g p r = let h = both text (Says f) (Says g) p r in inl (same_says f g h.0 h.1.0 h.1.1 h.1.2)
 
-pub one_refusal : (text : List ℕ) (f g : QueryFault) → Refuses text f → Refuses text g → OneFault f g
+pub one_refusal : (text : List ℕ) (f g : QueryFault) → RefusesQuery text f → RefusesQuery text g → OneFault f g
 one_refusal text faults.OutOfMemory g p r = inr (inl refl)
 one_refusal text faults.TooLong faults.TooLong p r = inl refl
 one_refusal text faults.TooLong (faults.Byte by) p r = let short = r.0 in absurd (omega (arith, short, p))

@@ -6,7 +6,7 @@ use Rattle.std.proofs.lemmas.Bool.Decides.{nat_tests}
 use Rattle.query_terms.specs.declared.query.Query.{Query}
 use Rattle.query_terms.specs.Queries.{Asked, asked}
 use Rattle.query_grammar.specs.declared.names.Notes.{Notes}
-use Rattle.query_tokens.specs.declared.token.Token.{Token}
+use Rattle.query_terms.specs.declared.tokens.token.Token.{Token}
 use Rattle.query_lexer.specs.Spellings.{IsLongest, BeginsNone}
 use Rattle.query_grammar.specs.declared.state.State.{State}
 use Rattle.query_grammar.specs.Machinery.Steps.{step}

@@ -3,7 +3,7 @@ use Rattle.std.proofs.Common.{lit<, lit≤, ◌≡◌, ◌≢◌, ℕ, ◌≤◌
 use Rattle.std.specs.Prelude.{codes, pos}
 use Rattle.std.specs.List.{AllByRecursion, join_with_byte}
 use Rattle.std.proofs.lemmas.Fmt.{decimal_digit}
-use Rattle.dtmi_name.specs.Grammar.{is_name_byte, dtmi_text, IsSegment, OwnDtmiText}
+use Rattle.dt_base.specs.names.Grammar.{is_name_byte, dtmi_text, IsSegment, OwnDtmiText}
 use Rattle.json_decimal.specs.Number.{IsNormalForm}
 use Rattle.json_decimal.specs.Literal.{IsLiteral}
 use Rattle.json_decimal.specs.Decimals.{number_of}

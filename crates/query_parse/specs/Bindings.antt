@@ -16,8 +16,8 @@ use Rattle.query_grammar.specs.declared.names.Referent.TheVariants as referents
 use Rattle.query_grammar.specs.Phrases.{PlacedName}
 
 -- Names are told apart letter by letter, capitals too.
-abbrev pub is_among : List PlacedName → List ℕ → Bool
-is_among names name = list_any (λ (n : PlacedName). bytes_eq n.1 name) names
+abbrev pub is_name_among : List PlacedName → List ℕ → Bool
+is_name_among names name = list_any (λ (n : PlacedName). bytes_eq n.1 name) names
 
 abbrev pub is_target : List Join → List ℕ → Bool
 is_target joins name = list_any (λ (j : Join). bytes_eq j.target name) joins
@@ -32,7 +32,7 @@ abbrev pub is_twin : Asked → ℕ → List ℕ → Bool
 is_twin q joins name = not q.relationships && (is_source_alias q.alias name || is_target (take joins q.joins) name)
 
 abbrev pub is_bound_as : Asked → List PlacedName → Referent → List ℕ → Bool
-is_bound_as q aliases referents.Path name = is_none q.alias || is_among aliases name
+is_bound_as q aliases referents.Path name = is_none q.alias || is_name_among aliases name
 is_bound_as q aliases (referents.Source before) name = is_some q.alias && is_twin q before name
 is_bound_as q aliases referents.Model name = is_twin q (length q.joins) name
 is_bound_as q aliases referents.Bare name = not q.relationships
@@ -41,26 +41,26 @@ abbrev pub is_bound : Asked → List PlacedName → Use → Bool
 is_bound q aliases u = is_bound_as q aliases u.referent u.placed.1
 
 -- ---- the bytes of faults
-abbrev pub only : Bool → ℕ → List ℕ
-only holds at = if holds then at ∷ [] else []
+abbrev pub place_if : Bool → ℕ → List ℕ
+place_if holds at = if holds then at ∷ [] else []
 
 -- The bytes of these names that stand among those before them, where `before` are earlier still.
 abbrev pub repeats_behind : List PlacedName → List PlacedName → List ℕ
 repeats_behind before [] = []
-repeats_behind before (n ∷ names) = only (is_among before n.1) n.0 ++ repeats_behind (before ++ n ∷ []) names
+repeats_behind before (n ∷ names) = place_if (is_name_among before n.1) n.0 ++ repeats_behind (before ++ n ∷ []) names
 
 -- The bytes of aliases that are those of an earlier FROM or JOIN, and of the names of items that are those of earlier ones.
-abbrev pub repeats : Notes → List ℕ
-repeats n = repeats_behind [] n.aliases ++ repeats_behind [] n.outputs
+abbrev pub repeated_places : Notes → List ℕ
+repeated_places n = repeats_behind [] n.aliases ++ repeats_behind [] n.outputs
 
 -- The bytes of uses that are not bound.
 abbrev pub unbound_uses : Asked → List PlacedName → List Use → List ℕ
 unbound_uses q aliases [] = []
-unbound_uses q aliases (u ∷ us) = only (not (is_bound q aliases u)) u.placed.0 ++ unbound_uses q aliases us
+unbound_uses q aliases (u ∷ us) = place_if (not (is_bound q aliases u)) u.placed.0 ++ unbound_uses q aliases us
 
 abbrev pub unbound : Asked → Notes → List ℕ
 unbound q n = unbound_uses q n.aliases n.uses
 
-pub record IsLeast (bytes : List ℕ) (at : ℕ) : Type 0 where
+pub record IsLeastPlace (bytes : List ℕ) (at : ℕ) : Type 0 where
   pub one : Contains bytes at
   pub least : (b : ℕ) → Contains bytes b → at ≤ b

@@ -6,8 +6,8 @@ use Rattle.query_terms.specs.declared.query.Projection.TheVariants as projection
 use Rattle.query_grammar.specs.declared.names.Notes.{Notes}
 use Rattle.query_parse.specs.declared.fault.QueryFault.{QueryFault}
 use Rattle.query_parse.specs.declared.fault.QueryFault.TheVariants as faults
-use Rattle.query_parse.specs.Texts.{IsQueryText, IsFirstWrong}
-use Rattle.query_parse.specs.Bindings.{repeats, unbound, IsLeast}
+use Rattle.query_parse.specs.Texts.{IsQueryText, IsFirstWrongToken}
+use Rattle.query_parse.specs.Bindings.{repeated_places, unbound, IsLeastPlace}
 
 abbrev pub is_star : Projection → Bool
 is_star (projections.Star top) = true
@@ -18,21 +18,21 @@ abbrev pub IsStarWithJoin : Asked → Type 0
 IsStarWithJoin q = IsTrue (is_star q.select) × (0 < length q.joins)
 
 -- The text is short enough and a query by the grammar, of which this holds.
-abbrev pub Reads : List ℕ → (Asked → Notes → Type 0) → Type 0
-Reads text P = (length text ≤ 8192) × ((q : Asked) × ((n : Notes) × IsQueryText text (q, n) × P q n))
+abbrev pub ReadsQuery : List ℕ → (Asked → Notes → Type 0) → Type 0
+ReadsQuery text P = (length text ≤ 8192) × ((q : Asked) × ((n : Notes) × IsQueryText text (q, n) × P q n))
 
 -- The text is refused for this. Want of memory may come at any text.
-abbrev pub Refuses : List ℕ → QueryFault → Type 0
-Refuses text faults.TooLong = 8192 < length text
-Refuses text (faults.Byte at) = (length text ≤ 8192) × IsFirstWrong text at
-Refuses text faults.TooManyJoins = Reads text (λ q n. 5 < length q.joins)
-Refuses text faults.StarWithJoin = Reads text (λ q n. (length q.joins ≤ 5) × IsStarWithJoin q)
-Refuses text (faults.TwiceAlias at) = Reads text (λ q n. (length q.joins ≤ 5) × (IsStarWithJoin q → ⊥) × IsLeast (repeats n) at)
-Refuses text (faults.UnknownAlias at) =
-    Reads text (λ q n. (length q.joins ≤ 5) × (IsStarWithJoin q → ⊥) × (repeats n ≡ []) × IsLeast (unbound q n) at)
-Refuses text faults.OutOfMemory = Unit {0}
+abbrev pub RefusesQuery : List ℕ → QueryFault → Type 0
+RefusesQuery text faults.TooLong = 8192 < length text
+RefusesQuery text (faults.Byte at) = (length text ≤ 8192) × IsFirstWrongToken text at
+RefusesQuery text faults.TooManyJoins = ReadsQuery text (λ q n. 5 < length q.joins)
+RefusesQuery text faults.StarWithJoin = ReadsQuery text (λ q n. (length q.joins ≤ 5) × IsStarWithJoin q)
+RefusesQuery text (faults.TwiceAlias at) = ReadsQuery text (λ q n. (length q.joins ≤ 5) × (IsStarWithJoin q → ⊥) × IsLeastPlace (repeated_places n) at)
+RefusesQuery text (faults.UnknownAlias at) =
+    ReadsQuery text (λ q n. (length q.joins ≤ 5) × (IsStarWithJoin q → ⊥) × (repeated_places n ≡ []) × IsLeastPlace (unbound q n) at)
+RefusesQuery text faults.OutOfMemory = Unit {0}
 
 -- The text is a query that asks for this, and is refused for nothing.
-abbrev pub Spells : List ℕ → Asked → Type 0
-Spells text asked =
-    Reads text (λ q n. (length q.joins ≤ 5) × (IsStarWithJoin q → ⊥) × (repeats n ≡ []) × (unbound q n ≡ []) × (q ≡ asked))
+abbrev pub SpellsQuery : List ℕ → Asked → Type 0
+SpellsQuery text asked =
+    ReadsQuery text (λ q n. (length q.joins ≤ 5) × (IsStarWithJoin q → ⊥) × (repeated_places n ≡ []) × (unbound q n ≡ []) × (q ≡ asked))

@@ -2,7 +2,7 @@
 
 ghost use Rattle.std.specs.Prelude.{◌≡◌, ℕ, min, List, ◌++◌, []};
 ghost use Rattle.query_terms.specs.Queries.{asked};
-ghost use Rattle.query_parse.specs.Bindings.{is_among, is_target, is_source_alias, is_twin, is_bound, only, repeats_behind, repeats, unbound};
+ghost use Rattle.query_parse.specs.Bindings.{is_name_among, is_target, is_source_alias, is_twin, is_bound, place_if, repeats_behind, repeated_places, unbound};
 ghost use Rattle.query_parse.specs.Machinery.Reached.{LeastOf};
 
 use dt_base::Text;
@@ -28,14 +28,14 @@ fn least(one: Option<u32>, other: Option<u32>) -> Option<u32>
 }
 
 fn is_among(names: &[PlacedName], name: &Text) -> bool
-    ensures { result ≡ is_among names.now name.now }
+    ensures { result ≡ is_name_among names.now name.now }
 {
     names.iter().any(|placed| placed.name == *name)
 }
 
 /// The byte, where the test holds.
 fn only(holds: bool, at: u32) -> Option<u32>
-    ensures { LeastOf (only holds at) result }
+    ensures { LeastOf (place_if holds at) result }
 {
     if holds { Some(at) } else { None }
 }
@@ -54,7 +54,7 @@ fn first_repeat(names: &[PlacedName]) -> Option<u32>
 
 /// The least byte of an alias or of an item's name that stands twice.
 pub(crate) fn twice(notes: &Notes) -> Option<u32>
-    ensures { LeastOf (repeats notes.now) result }
+    ensures { LeastOf (repeated_places notes.now) result }
 {
     least(
         first_repeat(notes.aliases.as_slice()),

@@ -2,22 +2,22 @@
 
 ghost use Rattle.std.specs.Prelude.{◌≡◌, ◌⊎◌, ℕ, List};
 ghost use Rattle.query_terms.specs.Queries.{Asked};
-ghost use Rattle.query_parse.specs.Faults.{Refuses, Spells};
+ghost use Rattle.query_parse.specs.Faults.{RefusesQuery, SpellsQuery};
 ghost use Rattle.query_parse.specs.declared.fault.QueryFault.{QueryFault};
 ghost use Rattle.query_parse.specs.declared.fault.QueryFault.TheVariants as faults;
 
 /// A text is at most one query.
 pub fn one_query()
-    ensures { (text : List ℕ) (one other : Asked) → Spells text one → Spells text other → one ≡ other }
+    ensures { (text : List ℕ) (one other : Asked) → SpellsQuery text one → SpellsQuery text other → one ≡ other }
 {}
 
 /// A text that is a query is refused for want of memory alone.
 pub fn query_or_fault()
-    ensures { (text : List ℕ) (query : Asked) (fault : QueryFault) → Spells text query → Refuses text fault → fault ≡ faults.OutOfMemory }
+    ensures { (text : List ℕ) (query : Asked) (fault : QueryFault) → SpellsQuery text query → RefusesQuery text fault → fault ≡ faults.OutOfMemory }
 {}
 
 /// A text is refused for one fault at one byte, or for want of memory.
 pub fn one_fault()
-    ensures { (text : List ℕ) (one other : QueryFault) → Refuses text one → Refuses text other
+    ensures { (text : List ℕ) (one other : QueryFault) → RefusesQuery text one → RefusesQuery text other
         → (one ≡ other) ⊎ ((one ≡ faults.OutOfMemory) ⊎ (other ≡ faults.OutOfMemory)) }
 {}

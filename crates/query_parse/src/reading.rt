@@ -3,7 +3,7 @@
 ghost use Rattle.std.specs.Prelude.{◌≡◌, ◌≤◌, length, IsTrue, IsFalse, IfOk, MatchOption, MatchResult};
 ghost use Rattle.query_terms.specs.Queries.{asked};
 ghost use Rattle.query_parse.specs.Texts.{IsQueryText};
-ghost use Rattle.query_parse.specs.Faults.{Refuses, Spells, is_star, IsStarWithJoin};
+ghost use Rattle.query_parse.specs.Faults.{RefusesQuery, SpellsQuery, is_star, IsStarWithJoin};
 ghost use Rattle.query_parse.specs.Machinery.Reached.{Takes, TakesNone, RefusesByte};
 
 use crate::aliases::{twice, unknown};
@@ -74,7 +74,7 @@ fn is_star_with_join(query: &Query) -> bool
 /// The query that a text of the query language is (this project's own; its words are those of the query language of
 /// Azure Digital Twins). It fails by the first fault of the text, or where there is no memory.
 pub fn read(alloc: Global, text: &str) -> Result<Query, QueryFault>
-    ensures { MatchResult result (λ q. Spells text.now (asked q)) (Refuses text.now) }
+    ensures { MatchResult result (λ q. SpellsQuery text.now (asked q)) (RefusesQuery text.now) }
 {
     if text.len() > MOST_BYTES {
         return Err(QueryFault::TooLong);

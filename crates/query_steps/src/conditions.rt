@@ -2,17 +2,17 @@
 
 ghost use Rattle.std.specs.Prelude.{◌≡◌, IfOk};
 ghost use Rattle.query_terms.specs.declared.operand.Operand.TheVariants as operands;
-ghost use Rattle.query_tokens.specs.declared.token.Mark.TheVariants as marks;
+ghost use Rattle.query_terms.specs.declared.tokens.token.Mark.TheVariants as marks;
 ghost use Rattle.query_grammar.specs.declared.state.State.TheVariants as states;
 ghost use Rattle.query_grammar.specs.declared.state.Goal.TheVariants as goals;
-ghost use Rattle.query_grammar.specs.Machinery.Steps.{closed, closed_step, is_mark, when, negating, inside, with_room, path_begun, factor_step, literal_step, takes_literal, operand_step, behind_factor_step, behind_left_step, behind_step, path_of, path_step, field_step};
+ghost use Rattle.query_grammar.specs.Machinery.Steps.{closed, closed_step, is_mark, when, negating, inside, with_room, path_begun, factor_step, literal_step, takes_literal, operand_step, behind_factor_step, behind_left_step, behind_step, operand_path, path_step, field_step};
 
 use crate::building::{closed, left_chain, negated, with_both, with_either};
 use crate::tests_of_tokens::{is_dot, is_mark, when};
 use dt_base::{List, OutOfMemory, Text};
 use query_grammar::{Around, Built, Chain, Chains, Goal, Head, Notes, PlacedName, Referent, State};
+use query_terms::tokens::{Mark, Token, Word};
 use query_terms::{Cond, Literal, Operand};
-use query_tokens::{Mark, Token, Word};
 use std::alloc::Global;
 
 /// The state behind NOT, where one more may be open.
@@ -291,7 +291,7 @@ fn behind_closed(
 
 /// The path of an operand, and none for a literal.
 fn path_of(alloc: Global, operand: Operand) -> List<Text>
-    ensures { result ≡ path_of operand }
+    ensures { result ≡ operand_path operand }
 {
     match operand {
         Operand::Path(path) => path,

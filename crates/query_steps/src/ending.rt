@@ -4,7 +4,7 @@ ghost use Rattle.std.specs.Prelude.{◌≡◌, None, IfOk};
 ghost use Rattle.std.specs.Option.{option_map};
 ghost use Rattle.query_terms.specs.Queries.{asked};
 ghost use Rattle.query_grammar.specs.declared.state.State.TheVariants as states;
-ghost use Rattle.query_grammar.specs.Machinery.Steps.{asked_of, end, end_of_chain, end_closed, end_behind, joined, head_of};
+ghost use Rattle.query_grammar.specs.Machinery.Steps.{asked_of, end, end_of_chain, end_closed, end_behind, with_join, head_of};
 
 use crate::building::{negated, with_both, with_either};
 use crate::sourcing::{head_of, joined};

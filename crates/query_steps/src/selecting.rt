@@ -9,8 +9,8 @@ use crate::tests_of_tokens::{is_as, is_dot};
 use dt_base::{List, OutOfMemory, Text};
 use json_decimal::Decimal;
 use query_grammar::{Notes, PlacedName, Referent, State};
+use query_terms::tokens::{Mark, Token, Word};
 use query_terms::{Item, Projection};
-use query_tokens::{Mark, Token, Word};
 use std::alloc::Global;
 
 /// The most items.

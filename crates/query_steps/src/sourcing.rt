@@ -1,12 +1,12 @@
 //! The states of reading where rows come from.
 
 ghost use Rattle.std.specs.Prelude.{◌≡◌, IfOk};
-ghost use Rattle.query_grammar.specs.Machinery.Steps.{source_step, condition_begun, head_of, relationships_alias_step, behind_relationships_step, twins_alias_step, behind_twins_step, join_target_step, join_source_step, join_name_step, joined, join_alias_step};
+ghost use Rattle.query_grammar.specs.Machinery.Steps.{source_step, condition_begun, head_of, relationships_alias_step, behind_relationships_step, twins_alias_step, behind_twins_step, join_target_step, join_source_step, join_name_step, with_join, join_alias_step};
 
 use dt_base::{List, OutOfMemory, Text};
 use query_grammar::{Around, Chain, Chains, Head, Notes, PlacedName, Referent, State};
+use query_terms::tokens::{Token, Word};
 use query_terms::{Join, Projection};
-use query_tokens::{Token, Word};
 use std::alloc::Global;
 
 /// How many parentheses and NOTs may be open at a place.
@@ -197,7 +197,7 @@ pub(crate) fn joined(
     name: Text,
     rel: Option<Text>,
 ) -> Result<Head, OutOfMemory>
-    ensures { IfOk result (λ h. h ≡ joined head target from name rel) }
+    ensures { IfOk result (λ h. h ≡ with_join head target from name rel) }
 {
     let Head {
         select,

@@ -18,8 +18,8 @@ use crate::testing::{behind_list_item, behind_model, exact, list_item, model_sta
 use crate::tests_of_tokens::{is_mark, is_word, when};
 use dt_base::{List, OutOfMemory};
 use query_grammar::{Built, Notes, State};
+use query_terms::tokens::{Mark, Token, Word};
 use query_terms::{Cond, Projection};
-use query_tokens::{Mark, Token, Word};
 use std::alloc::Global;
 
 /// The state behind one token more of what is selected, up to the first item.

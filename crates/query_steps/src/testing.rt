@@ -7,11 +7,11 @@ ghost use Rattle.query_grammar.specs.Machinery.Steps.{noting_use, one_literal_mo
 
 use crate::building::{closed, membership};
 use crate::tests_of_tokens::when;
+use dt_base::names::Dtmi;
 use dt_base::{List, OutOfMemory, Text};
-use dtmi_name::Dtmi;
 use query_grammar::{Around, Built, Notes, PlacedName, Referent, State};
+use query_terms::tokens::{Mark, Token, Word, same_letters};
 use query_terms::{Cond, Literal, Operand};
-use query_tokens::{Mark, Token, Word, same_letters};
 use std::alloc::Global;
 
 /// The state behind one literal more.

@@ -5,7 +5,7 @@ ghost use Rattle.query_grammar.specs.Phrases.{word_number, mark_number};
 ghost use Rattle.query_grammar.specs.Machinery.Steps.{is_mark, is_word, is_dot, is_as, when};
 
 use query_grammar::State;
-use query_tokens::{Mark, Token, Word};
+use query_terms::tokens::{Mark, Token, Word};
 
 fn word_number(word: Word) -> u8
     ensures { result ≡ word_number word }

@@ -4,7 +4,7 @@ use Rattle.std.specs.Prelude.{reverse}
 use Rattle.std.proofs.lemmas.List.{map_push, reverse-append}
 use Rattle.query_terms.specs.declared.cond.Cond.{Cond}
 use Rattle.query_terms.specs.Conditions.{Condition, condition}
-use Rattle.query_terms.specs.Machinery.Weights.{weight, total}
+use Rattle.query_terms.specs.Machinery.Weights.{weight, total_weight}
 use Rattle.query_terms.specs.Machinery.Parts.{placed, rebuilt, stacked}
 use Rattle.query_terms.proofs.Weights.{total_push}
 
@@ -25,5 +25,5 @@ rebuilt_more parts c cs = ap (λ xs. rebuilt xs cs) (map_push now parts c) ∙ r
 pub stacked_more : (cs : List (Bor Cond)) (c : Bor Cond) → stacked (map now (cs ++ c ∷ [])) ≡ condition c.now ∷ stacked (map now cs)
 stacked_more cs c = ap stacked (map_push now cs c) ∙ stacked_push (map now cs) c.now
 
-pub total_more : (cs : List (Bor Cond)) (c : Bor Cond) → total (map now (cs ++ c ∷ [])) ≡ total (map now cs) + weight c.now
-total_more cs c = ap total (map_push now cs c) ∙ total_push (map now cs) c.now
+pub total_more : (cs : List (Bor Cond)) (c : Bor Cond) → total_weight (map now (cs ++ c ∷ [])) ≡ total_weight (map now cs) + weight c.now
+total_more cs c = ap total_weight (map_push now cs c) ∙ total_push (map now cs) c.now

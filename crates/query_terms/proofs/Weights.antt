@@ -2,7 +2,7 @@
 use Rattle.std.proofs.Common.{◌≡◌, ◌+◌, ◌<◌, List, [], ◌∷◌, ◌++◌, arith}
 use Rattle.query_terms.specs.declared.cond.Cond as conds
 use Rattle.query_terms.specs.declared.cond.Cond.{Cond}
-use Rattle.query_terms.specs.Machinery.Weights.{weight, total}
+use Rattle.query_terms.specs.Machinery.Weights.{weight, total_weight}
 
 pub positive : (c : Cond) → 0 < weight c
 positive (conds.Or' p l q r) = let left = positive l in omega (arith, left)
@@ -15,6 +15,6 @@ positive (conds.Is kind path) = omega arith
 positive (conds.Part kind whole part) = omega arith
 positive (conds.OfModel twin model exact) = omega arith
 
-pub total_push : (cs : List Cond) (c : Cond) → total (cs ++ c ∷ []) ≡ total cs + weight c
+pub total_push : (cs : List Cond) (c : Cond) → total_weight (cs ++ c ∷ []) ≡ total_weight cs + weight c
 total_push [] c = omega arith
 total_push (d ∷ cs) c = let rest = total_push cs c in omega (arith, rest)

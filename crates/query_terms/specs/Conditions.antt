@@ -1,6 +1,6 @@
 -- Conditions, without where they lie in memory.
 use Rattle.std.specs.Prelude.{ℕ, List, Bool, Option}
-use Rattle.dtmi_name.specs.Grammar.{Identifier}
+use Rattle.dt_base.specs.names.Grammar.{Identifier}
 use Rattle.query_terms.specs.declared.operand.Operand.{Operand}
 use Rattle.query_terms.specs.declared.operand.Literal.{Literal}
 use Rattle.query_terms.specs.declared.operand.Compare.{Compare}

@@ -6,8 +6,8 @@ ghost use Rattle.query_terms.specs.Machinery.Weights.{has_parts, weight};
 
 use crate::copying::{copy_part, parts_of};
 use crate::operand::{Compare, Literal, Operand};
+use dt_base::names::Dtmi;
 use dt_base::{List, OutOfMemory, Text};
-use dtmi_name::Dtmi;
 use std::alloc::Global;
 use std::mem;
 

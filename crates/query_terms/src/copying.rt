@@ -2,19 +2,20 @@
 
 ghost use Rattle.std.specs.Prelude.{◌≡◌, ◌<◌, ◌+◌, ◌∷◌, [], map, IfOk, OnOk};
 ghost use Rattle.query_terms.specs.Conditions.{condition};
-ghost use Rattle.query_terms.specs.Machinery.Weights.{weight, total};
+ghost use Rattle.query_terms.specs.Machinery.Weights.{weight, total_weight};
 ghost use Rattle.query_terms.specs.Machinery.Parts.{placed, rebuilt, stacked};
 
-use crate::cond::Cond;
+use crate::cond::{Cond, PartKind};
 use crate::copies::{copy_literals, copy_text, copy_texts};
-use dt_base::{OutOfMemory, Text};
-use dtmi_name::Dtmi;
+use crate::operand::{Compare, Literal, Operand};
+use dt_base::names::Dtmi;
+use dt_base::{List, OutOfMemory, Text};
 use std::alloc::Global;
 
 /// Puts the conditions of which one consists on those that wait, the first one on top.
 fn wait_for_parts<'a>(waiting: &mut Vec<&'a Cond>, cond: &'a Cond) -> Result<(), OutOfMemory>
     ensures parts { OnOk result (placed cond.now (stacked (map (λ c. c.now) waiting.new.items)) ≡ condition cond.now ∷ stacked (map (λ c. c.now) waiting.old.items)) }
-    ensures lighter { OnOk result (total (map (λ c. c.now) waiting.new.items) < total (map (λ c. c.now) waiting.old.items) + weight cond.now) }
+    ensures lighter { OnOk result (total_weight (map (λ c. c.now) waiting.new.items) < total_weight (map (λ c. c.now) waiting.old.items) + weight cond.now) }
 {
     match cond {
         Cond::Or(left, right) => {
@@ -70,39 +71,77 @@ pub(crate) fn copy_part(
 {
     match part {
         Cond::Or(_, _) => {
-            let first = top(alloc, copies)?;
-            let second = top(alloc, copies)?;
+            let (first, second) = top_two(alloc, copies)?;
             Ok(Cond::Or(first, second))
         }
         Cond::And(_, _) => {
-            let first = top(alloc, copies)?;
-            let second = top(alloc, copies)?;
+            let (first, second) = top_two(alloc, copies)?;
             Ok(Cond::And(first, second))
         }
         Cond::Not(_) => Ok(Cond::Not(top(alloc, copies)?)),
-        Cond::Compare(left, compare, right) => {
-            let left = left.copy(alloc)?;
-            let right = right.copy(alloc)?;
-            Ok(Cond::Compare(left, *compare, right))
-        }
+        Cond::Compare(left, compare, right) => copy_compare(alloc, left, *compare, right),
         Cond::Among(operand, literals) => {
-            let operand = operand.copy(alloc)?;
-            let literals = copy_literals(alloc, literals.as_slice())?;
+            let (operand, literals) = copy_choice(alloc, operand, literals)?;
             Ok(Cond::Among(operand, literals))
         }
         Cond::NotAmong(operand, literals) => {
-            let operand = operand.copy(alloc)?;
-            let literals = copy_literals(alloc, literals.as_slice())?;
+            let (operand, literals) = copy_choice(alloc, operand, literals)?;
             Ok(Cond::NotAmong(operand, literals))
         }
         Cond::Is(kind, path) => Ok(Cond::Is(*kind, copy_texts(alloc, path.as_slice())?)),
-        Cond::Part(kind, whole, part) => {
-            let whole = whole.copy(alloc)?;
-            let part = part.copy(alloc)?;
-            Ok(Cond::Part(*kind, whole, part))
-        }
+        Cond::Part(kind, whole, part) => copy_part_of_text(alloc, *kind, whole, part),
         Cond::OfModel { twin, model, exact } => copy_of_model(alloc, twin, model, *exact),
     }
+}
+
+/// The two copies on top, the uppermost one first, which then are there no more.
+fn top_two(alloc: Global, copies: &mut Vec<Cond>) -> Result<(Box<Cond>, Box<Cond>), OutOfMemory>
+    ensures { IfOk result (λ two. stacked copies.old.items ≡ condition two.0.value ∷ condition two.1.value ∷ stacked copies.new.items) }
+{
+    let first = top(alloc, copies)?;
+    let second = top(alloc, copies)?;
+    Ok((first, second))
+}
+
+/// A comparison with equal parts.
+fn copy_compare(
+    alloc: Global,
+    left: &Operand,
+    compare: Compare,
+    right: &Operand,
+) -> Result<Cond, OutOfMemory>
+    ensures { IfOk result (λ copy. copy ≡ Cond.Compare left.now compare right.now) }
+{
+    let left = left.copy(alloc)?;
+    let right = right.copy(alloc)?;
+    Ok(Cond::Compare(left, compare, right))
+}
+
+/// An equal operand and equal literals.
+fn copy_choice(
+    alloc: Global,
+    operand: &Operand,
+    literals: &List<Literal>,
+) -> Result<(Operand, List<Literal>), OutOfMemory>
+    ensures { IfOk result (λ copies. copies ≡ (operand.now, literals.now)) }
+{
+    let operand = operand.copy(alloc)?;
+    let literals = copy_literals(alloc, literals.as_slice())?;
+    Ok((operand, literals))
+}
+
+/// A condition on a part of a text with equal parts.
+fn copy_part_of_text(
+    alloc: Global,
+    kind: PartKind,
+    whole: &Operand,
+    part: &Operand,
+) -> Result<Cond, OutOfMemory>
+    ensures { IfOk result (λ copy. copy ≡ Cond.Part kind whole.now part.now) }
+{
+    let whole = whole.copy(alloc)?;
+    let part = part.copy(alloc)?;
+    Ok(Cond::Part(kind, whole, part))
 }
 
 /// A condition on a twin's model with equal parts.

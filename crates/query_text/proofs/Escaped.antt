@@ -3,24 +3,24 @@ use Rattle.std.proofs.Common.{◌≡◌, ℕ, zero, suc, ◌+◌, ◌-◌, ◌<�
 use Rattle.std.specs.List.{slice_range, AllByRecursion}
 use Rattle.std.proofs.Math.Seq.{take-suc}
 use Rattle.std.proofs.lemmas.List.{append-nil, get_or-drop, length-drop}
-use Rattle.query_text.specs.Printed.{escaped_byte, escaped}
-use Rattle.query_text.specs.Machinery.Parts.{IsPlain, IsEscaped}
+use Rattle.query_text.specs.Printed.{escaped_query_byte, escaped_query}
+use Rattle.query_text.specs.Machinery.Parts.{IsPlainInQuery, IsEscapedInQuery}
 
 -- a byte that is escaped is ASCII
-pub escaped_ascii : (b : ℕ) → IsEscaped b → b < 128
+pub escaped_ascii : (b : ℕ) → IsEscapedInQuery b → b < 128
 escaped_ascii b (inl h) = omega (arith, h)
 escaped_ascii b (inr (inl h)) = omega (arith, h)
 escaped_ascii b (inr (inr (inl h))) = omega (arith, h)
 escaped_ascii b (inr (inr (inr (inl h)))) = omega (arith, h)
 escaped_ascii b (inr (inr (inr (inr h)))) = omega (arith, h)
 
-pub escaped_append : (xs ys : List ℕ) → escaped (xs ++ ys) ≡ escaped xs ++ escaped ys
+pub escaped_append : (xs ys : List ℕ) → escaped_query (xs ++ ys) ≡ escaped_query xs ++ escaped_query ys
 escaped_append [] ys = refl
-escaped_append (x ∷ xs) ys = ap (λ e. escaped_byte x ++ e) (escaped_append xs ys) ∙ sym (append_assoc (escaped_byte x) (escaped xs) (escaped ys))
+escaped_append (x ∷ xs) ys = ap (λ e. escaped_query_byte x ++ e) (escaped_append xs ys) ∙ sym (append_assoc (escaped_query_byte x) (escaped_query xs) (escaped_query ys))
 
-pub escaped_plain : (xs : List ℕ) → AllByRecursion IsPlain xs → escaped xs ≡ xs
+pub escaped_plain : (xs : List ℕ) → AllByRecursion IsPlainInQuery xs → escaped_query xs ≡ xs
 escaped_plain [] h = refl
-escaped_plain (x ∷ xs) h = ap (λ e. e ++ escaped xs) h.0 ∙ ap (λ e. x ∷ e) (escaped_plain xs h.1)
+escaped_plain (x ∷ xs) h = ap (λ e. e ++ escaped_query xs) h.0 ∙ ap (λ e. x ∷ e) (escaped_plain xs h.1)
 
 all_more : (P : ℕ → Type 0) (xs : List ℕ) (x : ℕ) → AllByRecursion P xs → P x → AllByRecursion P (xs ++ x ∷ [])
 all_more P [] x h p = (p, tt)
@@ -53,16 +53,16 @@ take_split (x ∷ xs) (suc i) (suc j) low le =
     rw n (ap (λ (e : List ℕ). x ∷ e) (take_split xs i j (omega (arith, low)) (omega (arith, le))))
 
 -- what was printed, with a run behind it
-pub run_printed : (out before xs : List ℕ) (i j : ℕ) → i ≤ j → j ≤ length xs → AllByRecursion IsPlain (slice_range xs i j)
-    → out ≡ before ++ escaped (take i xs) → out ++ slice_range xs i j ≡ before ++ escaped (take j xs)
+pub run_printed : (out before xs : List ℕ) (i j : ℕ) → i ≤ j → j ≤ length xs → AllByRecursion IsPlainInQuery (slice_range xs i j)
+    → out ≡ before ++ escaped_query (take i xs) → out ++ slice_range xs i j ≡ before ++ escaped_query (take j xs)
 run_printed out before xs i j low le plain h =
     let run = escaped_plain (slice_range xs i j) plain in
-    rw (take_split xs i j low le, escaped_append (take i xs) (slice_range xs i j), run, h) (append_assoc before (escaped (take i xs)) (slice_range xs i j))
+    rw (take_split xs i j low le, escaped_append (take i xs) (slice_range xs i j), run, h) (append_assoc before (escaped_query (take i xs)) (slice_range xs i j))
 
 -- and with a byte that is escaped
 pub byte_printed : (out before xs : List ℕ) (i : ℕ) → i < length xs
-    → out ≡ before ++ escaped (take i xs) → out ++ escaped_byte (get_or xs i 0) ≡ before ++ escaped (take (i + 1) xs)
+    → out ≡ before ++ escaped_query (take i xs) → out ++ escaped_query_byte (get_or xs i 0) ≡ before ++ escaped_query (take (i + 1) xs)
 byte_printed out before xs i lt h =
     let more : take (i + 1) xs ≡ take i xs ++ get_or xs i 0 ∷ [] = let n : i + 1 ≡ suc i = omega arith in rw n (take-suc xs i 0 lt) in
-    let one : escaped (get_or xs i 0 ∷ []) ≡ escaped_byte (get_or xs i 0) = append-nil (escaped_byte (get_or xs i 0)) in
-    rw (more, escaped_append (take i xs) (get_or xs i 0 ∷ []), one, h) (append_assoc before (escaped (take i xs)) (escaped_byte (get_or xs i 0)))
+    let one : escaped_query (get_or xs i 0 ∷ []) ≡ escaped_query_byte (get_or xs i 0) = append-nil (escaped_query_byte (get_or xs i 0)) in
+    rw (more, escaped_append (take i xs) (get_or xs i 0 ∷ []), one, h) (append_assoc before (escaped_query (take i xs)) (escaped_query_byte (get_or xs i 0)))

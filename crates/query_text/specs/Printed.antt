@@ -1,7 +1,7 @@
 -- The printed form of a query, a function of what it asks for. Keywords stand in capitals. One space stands around words, and
 -- none around marks; parentheses stand only where the grouping needs them.
 use Rattle.std.specs.Prelude.{ℕ, ◌-◌, ◌==◌, nat_lt, length, slice_get, List, [], ◌∷◌, ◌++◌, Bool, true, false, bytes_eq, Option, Some, None, decimal, if◌then◌else◌, codes}
-use Rattle.dtmi_name.specs.Grammar.{Identifier, dtmi_text}
+use Rattle.dt_base.specs.names.Grammar.{Identifier, dtmi_text}
 use Rattle.json_decimal.specs.Decimals.{number_of}
 use Rattle.json_decimal.specs.Printing.{text_of}
 use Rattle.query_terms.specs.declared.operand.Operand.{Operand}
@@ -18,7 +18,7 @@ use Rattle.query_terms.specs.declared.query.Item.{Item}
 use Rattle.query_terms.specs.declared.query.Join.{Join}
 use Rattle.query_terms.specs.Conditions.{Condition, either, both, negated, compared, among, not_among, is_kind, has_part, of_model}
 use Rattle.query_terms.specs.Queries.{Asked}
-use Rattle.query_tokens.specs.declared.token.Mark.TheVariants as marks
+use Rattle.query_terms.specs.declared.tokens.token.Mark.TheVariants as marks
 use Rattle.query_lexer.specs.Spellings.{mark_bytes}
 
 -- ---- lists
@@ -38,8 +38,8 @@ path_text path = separated (codes ".") (λ (name : List ℕ). name) path
 
 -- A byte of a text: `\` and `'` behind a backslash, a line feed, a carriage return and a tab as `\n`, `\r` and `\t`, and every
 -- other byte as it is.
-abbrev pub escaped_byte : ℕ → List ℕ
-escaped_byte b =
+abbrev pub escaped_query_byte : ℕ → List ℕ
+escaped_query_byte b =
     if b == 92 then codes "\\\\" else
     if b == 39 then codes "\\'" else
     if b == 10 then codes "\\n" else
@@ -47,13 +47,13 @@ escaped_byte b =
     if b == 9 then codes "\\t" else
     b ∷ []
 
-abbrev pub escaped : List ℕ → List ℕ
-escaped [] = []
-escaped (b ∷ bytes) = escaped_byte b ++ escaped bytes
+abbrev pub escaped_query : List ℕ → List ℕ
+escaped_query [] = []
+escaped_query (b ∷ bytes) = escaped_query_byte b ++ escaped_query bytes
 
 -- A text between quotes.
-abbrev pub quoted : List ℕ → List ℕ
-quoted bytes = 39 ∷ (escaped bytes ++ 39 ∷ [])
+abbrev pub quoted_query : List ℕ → List ℕ
+quoted_query bytes = 39 ∷ (escaped_query bytes ++ 39 ∷ [])
 
 abbrev pub truth_text : Bool → List ℕ
 truth_text true = codes "TRUE"
@@ -61,7 +61,7 @@ truth_text false = codes "FALSE"
 
 abbrev pub literal_text : Literal → List ℕ
 literal_text (literals.Number d) = text_of (number_of d)
-literal_text (literals.Word word) = quoted word
+literal_text (literals.Word word) = quoted_query word
 literal_text (literals.Truth truth) = truth_text truth
 
 abbrev pub operand_text : Operand → List ℕ
@@ -87,11 +87,11 @@ abbrev pub list_text : List Literal → List ℕ
 list_text literals = 91 ∷ (separated (codes ",") literal_text literals ++ 93 ∷ [])
 
 unfoldable pub model_text : Identifier → List ℕ
-model_text model = quoted (dtmi_text model)
+model_text model = quoted_query (dtmi_text model)
 
-abbrev pub twin_text : Option (List ℕ) → List ℕ
-twin_text (Some alias) = alias ++ 44 ∷ []
-twin_text None = []
+abbrev pub twin_argument : Option (List ℕ) → List ℕ
+twin_argument (Some alias) = alias ++ 44 ∷ []
+twin_argument None = []
 
 abbrev pub exact_text : Bool → List ℕ
 exact_text true = codes ",exact"
@@ -113,7 +113,7 @@ condition_text least (not_among operand literals) = operand_text operand ++ (cod
 condition_text least (is_kind kind path) = kind_text kind ++ 40 ∷ (path_text path ++ 41 ∷ [])
 condition_text least (has_part kind whole part) = part_text kind ++ 40 ∷ (operand_text whole ++ 44 ∷ (operand_text part ++ 41 ∷ []))
 condition_text least (of_model twin model exact) =
-    codes "IS_OF_MODEL(" ++ (twin_text twin ++ (model_text model ++ (exact_text exact ++ 41 ∷ [])))
+    codes "IS_OF_MODEL(" ++ (twin_argument twin ++ (model_text model ++ (exact_text exact ++ 41 ∷ [])))
 
 -- ---- queries
 abbrev pub is_last : Option (List ℕ) → List ℕ → Bool

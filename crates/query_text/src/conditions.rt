@@ -2,17 +2,17 @@
 
 ghost use Rattle.std.specs.Prelude.{◌≡◌, ℕ, ◌+◌, ◌<◌, ◌++◌, ◌∷◌, [], false, string_bytes, codes, OnOk};
 ghost use Rattle.query_terms.specs.Conditions.{condition, of_model};
-ghost use Rattle.query_tokens.specs.declared.token.Mark.TheVariants as marks;
+ghost use Rattle.query_terms.specs.declared.tokens.token.Mark.TheVariants as marks;
 ghost use Rattle.query_terms.specs.Machinery.Weights.{has_parts};
 ghost use Rattle.query_lexer.specs.Spellings.{mark_bytes};
-ghost use Rattle.query_text.specs.Printed.{model_text, kind_text, part_text, twin_text, exact_text, condition_text};
+ghost use Rattle.query_text.specs.Printed.{model_text, kind_text, part_text, twin_argument, exact_text, condition_text};
 ghost use Rattle.query_text.specs.Machinery.Pieces.{piece_text, piece_load, pending, load};
 
 use crate::escapes::push_quoted;
 use crate::operands::{push_list, push_operand, push_path};
 use crate::pieces::{Piece, put_cond, put_parts};
 use dt_base::Text;
-use dtmi_name::Dtmi;
+use dt_base::names::Dtmi;
 use query_terms::{Compare, Cond, Kind, PartKind};
 use std::alloc::{AllocError, Global};
 
@@ -57,7 +57,7 @@ fn part_text(kind: PartKind) -> &'static str
 }
 
 fn push_twin(out: &mut String, twin: &Option<Text>) -> Result<(), AllocError>
-    ensures { OnOk result (string_bytes out.new ≡ string_bytes out.old ++ twin_text twin.now) }
+    ensures { OnOk result (string_bytes out.new ≡ string_bytes out.old ++ twin_argument twin.now) }
 {
     match twin {
         Some(alias) => {

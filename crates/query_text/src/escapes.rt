@@ -2,15 +2,15 @@
 
 ghost use Rattle.std.specs.Prelude.{◌≡◌, ◌<◌, ◌≤◌, ◌++◌, string_bytes, length, get_or, IsTrue, IsFalse, OnOk};
 ghost use Rattle.std.specs.List.{slice_range, AllByRecursion};
-ghost use Rattle.query_text.specs.Printed.{escaped_byte, escaped, quoted};
-ghost use Rattle.query_text.specs.Machinery.Parts.{IsPlain, IsEscaped};
+ghost use Rattle.query_text.specs.Printed.{escaped_query_byte, escaped_query, quoted_query};
+ghost use Rattle.query_text.specs.Machinery.Parts.{IsPlainInQuery, IsEscapedInQuery};
 
 use std::alloc::AllocError;
 
 /// A byte that is printed as it is.
 fn is_plain(byte: u8) -> bool
-    ensures plain { IsTrue result → IsPlain byte }
-    ensures other { IsFalse result → IsEscaped byte }
+    ensures plain { IsTrue result → IsPlainInQuery byte }
+    ensures other { IsFalse result → IsEscapedInQuery byte }
 {
     byte != b'\\' && byte != b'\'' && byte != b'\n' && byte != b'\r' && byte != b'\t'
 }
@@ -20,8 +20,8 @@ fn plain_end(bytes: &[u8], at: usize) -> usize
     requires { at ≤ length bytes.now }
     ensures forward { at ≤ result }
     ensures within { result ≤ length bytes.now }
-    ensures plain { AllByRecursion IsPlain (slice_range bytes.now at result) }
-    ensures next { result < length bytes.now → IsEscaped (get_or bytes.now result 0) }
+    ensures plain { AllByRecursion IsPlainInQuery (slice_range bytes.now at result) }
+    ensures next { result < length bytes.now → IsEscapedInQuery (get_or bytes.now result 0) }
 {
     let mut end = at;
     'plain: while end < bytes.len() && is_plain(bytes[end]) {
@@ -32,8 +32,8 @@ fn plain_end(bytes: &[u8], at: usize) -> usize
 
 /// Appends a byte that is not printed as it is.
 fn push_escape(out: &mut String, byte: u8) -> Result<(), AllocError>
-    requires { IsEscaped byte }
-    ensures { OnOk result (string_bytes out.new ≡ string_bytes out.old ++ escaped_byte byte) }
+    requires { IsEscapedInQuery byte }
+    ensures { OnOk result (string_bytes out.new ≡ string_bytes out.old ++ escaped_query_byte byte) }
 {
     match byte {
         b'\\' => out.push_str("\\\\"),
@@ -46,7 +46,7 @@ fn push_escape(out: &mut String, byte: u8) -> Result<(), AllocError>
 
 /// Appends the characters of a text.
 fn push_escaped(out: &mut String, text: &str) -> Result<(), AllocError>
-    ensures { OnOk result (string_bytes out.new ≡ string_bytes out.old ++ escaped text.now) }
+    ensures { OnOk result (string_bytes out.new ≡ string_bytes out.old ++ escaped_query text.now) }
 {
     let bytes = text.as_bytes();
     let mut at = 0;
@@ -64,7 +64,7 @@ fn push_escaped(out: &mut String, text: &str) -> Result<(), AllocError>
 
 /// Appends a text in quotes.
 pub(crate) fn push_quoted(out: &mut String, text: &str) -> Result<(), AllocError>
-    ensures { OnOk result (string_bytes out.new ≡ string_bytes out.old ++ quoted text.now) }
+    ensures { OnOk result (string_bytes out.new ≡ string_bytes out.old ++ quoted_query text.now) }
 {
     out.push('\'')?;
     push_escaped(out, text)?;

@@ -13,7 +13,7 @@ use Rattle.ordered_table.specs.Rows.{row_at, row_of}
 use Rattle.ordered_table.proofs.Flat.{C}
 use Rattle.ordered_table.proofs.Kept.{same_by_lookups, lookup-row, sorted-row, sorted-filter}
 use Rattle.rel_graph.specs.declared.edge.Edge.{Edge}
-use Rattle.rel_graph.specs.Edges.{key_cmp, key, InOrder, is_into, out_of, into_of, out_past, into_past}
+use Rattle.rel_graph.specs.Edges.{key_cmp, key, EdgesInOrder, is_into, out_of, into_of, out_past, into_past}
 use Rattle.rel_graph.specs.Slots.{link_cmp, edges_at, HasKey, leads_to, slot_to, IsKept}
 use Rattle.rel_graph.proofs.Tallies.{keys_total, exact_keys}
 use Rattle.rel_graph.proofs.Joined.{AllStand, keys-keyed}
@@ -121,5 +121,5 @@ module _ {P : Type 0} (at : ℕ → Option (Edge P)) where
         past key (λ x. is_lt (key_cmp k x)) (row_of target links) (subst (AllKeyed key) (sym (row_leads target s)) (leading_key target))
         ∙ ap (filter (λ e. is_lt (key_cmp k (key e)))) (listed-into target s)
 
-    pub in_order : InOrder (edges_at at (values_of order))
+    pub in_order : EdgesInOrder (edges_at at (values_of order))
     in_order = subst (IsStrictlySortedBy key_cmp) (keys-keyed (edges_at at (values_of order))) (sorted-keyed at order kept.sorted (stand kept))

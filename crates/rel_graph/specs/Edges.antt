@@ -23,8 +23,8 @@ module _ {P : Type 0} where
   keyed es = map (λ e. (key e, e)) es
 
   -- the keys ascend, so that no two edges have one key
-  abbrev pub InOrder : List (Edge P) → Type 0
-  InOrder es = IsStrictlySortedBy key_cmp (map key es)
+  abbrev pub EdgesInOrder : List (Edge P) → Type 0
+  EdgesInOrder es = IsStrictlySortedBy key_cmp (map key es)
 
   -- the edge with this key
   abbrev pub edge_at : List ℕ → List ℕ → List (Edge P) → Option (Edge P)

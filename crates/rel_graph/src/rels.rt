@@ -2,7 +2,7 @@
 
 ghost use Rattle.std.specs.Prelude.{◌≡◌, [], length, IfOk, IfErr, OnErr, OnOk};
 ghost use Rattle.std.specs.Option.{option_copied};
-ghost use Rattle.rel_graph.specs.Edges.{edge_at, with_edge, without_edge, out_of, into_of, out_past, into_past, named, InOrder};
+ghost use Rattle.rel_graph.specs.Edges.{edge_at, with_edge, without_edge, out_of, into_of, out_past, into_past, named, EdgesInOrder};
 
 use crate::counts::count_at;
 use crate::edge::{Edge, PutEnd};
@@ -56,7 +56,7 @@ impl<P: Drop> Rels<P> {
     /// How many edges there are. Takes no memory.
     pub fn len(&self) -> u64
         ensures len { result ≡ length self.now }
-        ensures ordered { InOrder self.now }
+        ensures ordered { EdgesInOrder self.now }
     {
         self.len
     }

@@ -9,14 +9,14 @@ use Rattle.std.specs.BTreeMap.{is_at, insert_entry}
 use Rattle.std.proofs.lemmas.Map.{none_passes_from_lookup}
 use Rattle.std.proofs.lemmas.Map.Lookups.{exact_bytes}
 use Rattle.std.proofs.lemmas.Slice.Eq.{bytes_eq-Decides}
-use Rattle.dtmi_name.specs.Grammar.{Identifier, dtmi_text, id_cmp, id_eq}
+use Rattle.dt_base.specs.names.Grammar.{Identifier, dtmi_text, id_cmp, id_eq}
 use Rattle.dtdl_terms.specs.Sets.{interface_at}
 use Rattle.dtdl_terms.specs.declared.interface.Interface.{Interface}
 use Rattle.dtdl_terms.specs.declared.resolved.Resolved.{Resolved}
-use Rattle.model_resolve.specs.Resolving.{IsResolved, EntryOf, entry_at}
-use Rattle.resolved_table.specs.Machinery.Without.{is_of, without}
-use Rattle.model_resolve.proofs.ByKey.{C, same_spelling, alike, lookup-insert}
-use Rattle.model_resolve.proofs.Changes.{all_map}
+use Rattle.model_life.specs.resolution.Resolving.{IsResolved, EntryOf, entry_at}
+use Rattle.resolved_table.specs.Machinery.Without.{is_removed, without}
+use Rattle.model_life.proofs.resolution.ByKey.{C, same_spelling, alike, lookup-insert}
+use Rattle.model_life.proofs.resolution.Changes.{all_map}
 
 abbrev Entries : Type 0
 Entries = List (Identifier × Resolved)
@@ -68,40 +68,40 @@ without_one id ids [] sorted = refl
 without_one id ids (e ∷ es) sorted =
     let rest : Entries = without (id ∷ ids) es in
     let later : is_eq (id_cmp id e.0) ≡ true → rest ≡ without ids es =
-    λ h. same_filter (λ f. not (is_of (id ∷ ids) f.0)) (λ f. not (is_of ids f.0)) es
+    λ h. same_filter (λ f. not (is_removed (id ∷ ids) f.0)) (λ f. not (is_removed ids f.0)) es
     (apart_later id e.0 (same_spelling (dtmi_text id) (dtmi_text e.0) h) ids es sorted.0) in
-    filter_cond (λ f. not (is_of ids f.0)) (is_eq (id_cmp id e.0)) es e (remove_entry (is_at (id_cmp id)) es)
-    ∙ sym (step_head (is_eq (id_cmp id e.0)) (is_of ids e.0) e rest (without ids (remove_entry (is_at (id_cmp id)) es)) (without ids es) later (λ _. sym (without_one id ids es sorted.1)))
+    filter_cond (λ f. not (is_removed ids f.0)) (is_eq (id_cmp id e.0)) es e (remove_entry (is_at (id_cmp id)) es)
+    ∙ sym (step_head (is_eq (id_cmp id e.0)) (is_removed ids e.0) e rest (without ids (remove_entry (is_at (id_cmp id)) es)) (without ids es) later (λ _. sym (without_one id ids es sorted.1)))
   where
     apart_later : (id key : Identifier) → dtmi_text id ≡ dtmi_text key → (ids : List Identifier) (es : Entries) → AllByRecursion (λ k. id_cmp key k ≡ Less) (keys_of es)
-        → AllByRecursion (λ f. not (is_of (id ∷ ids) f.0) ≡ not (is_of ids f.0)) es
+        → AllByRecursion (λ f. not (is_removed (id ∷ ids) f.0) ≡ not (is_removed ids f.0)) es
     apart_later id key same ids [] all = tt
     apart_later id key same ids (f ∷ fs) all = (
-      ap (λ b. not (b || is_of ids f.0)) (ap is_eq (ap (λ t. C t (dtmi_text f.0)) same ∙ all.0)),
+      ap (λ b. not (b || is_removed ids f.0)) (ap is_eq (ap (λ t. C t (dtmi_text f.0)) same ∙ all.0)),
       apart_later id key same ids fs all.1,
     )
 
 -- what is put under one of the identifiers does not show
-pub without_put : (ids : List Identifier) (id : Identifier) (r : Resolved) → is_of ids id ≡ true → (es : Entries) → without ids (insert_entry id_cmp es id r) ≡ without ids es
+pub without_put : (ids : List Identifier) (id : Identifier) (r : Resolved) → is_removed ids id ≡ true → (es : Entries) → without ids (insert_entry id_cmp es id r) ≡ without ids es
 without_put ids id r h [] = ap (λ b. cond (not b) ((id, r) ∷ []) []) h
 without_put ids id r h (e ∷ es) =
     elim (id_cmp id e.0) as (λ o. id_cmp id e.0 ≡ o → without ids (match_ordering o ((id, r) ∷ e ∷ es) ((e.0, r) ∷ es) (e ∷ insert_entry id_cmp es id r)) ≡ without ids (e ∷ es)) [
       | Less ↦ λ _. ap (λ b. cond (not b) ((id, r) ∷ without ids (e ∷ es)) (without ids (e ∷ es))) h
       | Equal ↦ λ o.
-          let same : is_of ids e.0 ≡ true = sym (ap (λ t. list_any (λ (j : Identifier). is_eq (C (dtmi_text j) t)) ids) (exact_bytes (dtmi_text id) (dtmi_text e.0) o)) ∙ h in
+          let same : is_removed ids e.0 ≡ true = sym (ap (λ t. list_any (λ (j : Identifier). is_eq (C (dtmi_text j) t)) ids) (exact_bytes (dtmi_text id) (dtmi_text e.0) o)) ∙ h in
           ap (λ b. cond (not b) ((e.0, r) ∷ without ids es) (without ids es)) same ∙ sym (ap (λ b. cond (not b) (e ∷ without ids es) (without ids es)) same)
-      | Greater ↦ λ _. ap (λ xs. cond (not (is_of ids e.0)) (e ∷ xs) xs) (without_put ids id r h es)
+      | Greater ↦ λ _. ap (λ xs. cond (not (is_removed ids e.0)) (e ∷ xs) xs) (without_put ids id r h es)
     ] refl
 
 -- nothing goes where nothing is there
 pub without_absent : (ids : List Identifier) (es : Entries) → AllByRecursion (λ id. entry_at id es ≡ None) ids → without ids es ≡ es
 without_absent [] es all = without_none es
 without_absent (id ∷ ids) es all =
-    same_filter (λ e. not (is_of (id ∷ ids) e.0)) (λ e. not (is_of ids e.0)) es
-    (all_map (λ e. is_eq (id_cmp id e.0) ≡ false) (λ e. not (is_of (id ∷ ids) e.0) ≡ not (is_of ids e.0)) es (λ e h. ap (λ b. not (b || is_of ids e.0)) h) (none_passes_from_lookup (is_at (id_cmp id)) es all.0))
+    same_filter (λ e. not (is_removed (id ∷ ids) e.0)) (λ e. not (is_removed ids e.0)) es
+    (all_map (λ e. is_eq (id_cmp id e.0) ≡ false) (λ e. not (is_removed (id ∷ ids) e.0) ≡ not (is_removed ids e.0)) es (λ e h. ap (λ b. not (b || is_removed ids e.0)) h) (none_passes_from_lookup (is_at (id_cmp id)) es all.0))
     ∙ without_absent ids es all.1
 
-pub is_of_at : (ids : List Identifier) (id : Identifier) (k : ℕ) → k < length ids → id ≡ slice_index_or ids k id → is_of ids id ≡ true
+pub is_of_at : (ids : List Identifier) (id : Identifier) (k : ℕ) → k < length ids → id ≡ slice_index_or ids k id → is_removed ids id ≡ true
 is_of_at ids id k low is = any_at (λ j. is_eq (id_cmp j id)) ids id k low is (ap is_eq (alike (dtmi_text id)))
 
 -- ---- one more entry

@@ -6,14 +6,14 @@ use Rattle.std.specs.List.Sorted.{IsStrictlySortedBy}
 use Rattle.std.specs.Map.{keys_of, remove_entry}
 use Rattle.std.specs.BTreeMap.{is_at}
 use Rattle.std.proofs.lemmas.Option.{same_Some, none-some}
-use Rattle.dtmi_name.specs.Grammar.{Identifier, id_cmp, id_eq}
+use Rattle.dt_base.specs.names.Grammar.{Identifier, id_cmp, id_eq}
 use Rattle.dtdl_terms.specs.Sets.{InOrder, interface_at, without_interface}
 use Rattle.dtdl_terms.specs.declared.interface.Interface.{Interface}
 use Rattle.dtdl_terms.specs.declared.resolved.Resolved.{Resolved}
 use Rattle.extend_resolve.specs.Breaches.{BreaksNoRule}
-use Rattle.model_resolve.specs.Resolving.{IsResolved, EntryOf, entry_at, HoldsRight, IsWithin, IsFree}
-use Rattle.model_resolve.proofs.Changes.{same_resolved, lacks_none, all_map, taken_out, left, held_with_less}
-use Rattle.model_resolve.proofs.Families.{stands}
+use Rattle.model_life.specs.resolution.Resolving.{IsResolved, EntryOf, entry_at, HoldsRight, IsWithin, IsFree}
+use Rattle.model_life.proofs.resolution.Changes.{same_resolved, lacks_none, all_map, taken_out, left, held_with_less}
+use Rattle.model_life.proofs.resolution.Families.{stands}
 use Rattle.resolved_table.specs.Tables.{ResolvesAll, ResolvesOthers}
 
 changes : (s t : List Interface) (o : Option Interface) (e : Option Resolved) → ((i : Interface) (r : Resolved) → o ≡ Some i → e ≡ Some r → IsResolved s i r → IsResolved t i r) → EntryOf s o e → EntryOf t o e

@@ -1,11 +1,11 @@
 -- Tables of what the interfaces of a set have with all that they inherit.
 use Rattle.std.specs.Prelude.{◌≡◌, List, None, false, IsSome}
 use Rattle.std.specs.List.{AllByRecursion, list_any}
-use Rattle.dtmi_name.specs.Grammar.{Identifier, id_eq}
+use Rattle.dt_base.specs.names.Grammar.{Identifier, id_eq}
 use Rattle.dtdl_terms.specs.Sets.{interface_at}
 use Rattle.dtdl_terms.specs.declared.interface.Interface.{Interface}
 use Rattle.dtdl_terms.specs.declared.resolved.Resolved.{Resolved}
-use Rattle.model_resolve.specs.Resolving.{EntryOf, entry_at}
+use Rattle.model_life.specs.resolution.Resolving.{EntryOf, entry_at}
 
 -- The table has an entry of each interface of the set and no other, each with what the interface has.
 abbrev pub ResolvesAll : List Interface → List (Identifier × Resolved) → Type 0

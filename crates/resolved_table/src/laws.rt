@@ -5,12 +5,12 @@ ghost use Rattle.std.specs.List.{AllByRecursion, list_any};
 ghost use Rattle.std.specs.List.Sorted.{IsStrictlySortedBy};
 ghost use Rattle.std.specs.Map.{keys_of, remove_entry};
 ghost use Rattle.std.specs.BTreeMap.{is_at};
-ghost use Rattle.dtmi_name.specs.Grammar.{Identifier, id_cmp, id_eq};
+ghost use Rattle.dt_base.specs.names.Grammar.{Identifier, id_cmp, id_eq};
 ghost use Rattle.dtdl_terms.specs.Sets.{InOrder, interface_at, without_interface};
 ghost use Rattle.dtdl_terms.specs.declared.interface.Interface.{Interface};
 ghost use Rattle.dtdl_terms.specs.declared.resolved.Resolved.{Resolved};
 ghost use Rattle.extend_resolve.specs.Breaches.{BreaksNoRule};
-ghost use Rattle.model_resolve.specs.Resolving.{IsWithin, IsFree};
+ghost use Rattle.model_life.specs.resolution.Resolving.{IsWithin, IsFree};
 ghost use Rattle.resolved_table.specs.Tables.{ResolvesAll, ResolvesOthers};
 
 /// Where interfaces come into a set that breaks no rule, the entries of the others stay.

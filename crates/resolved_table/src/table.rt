@@ -6,20 +6,20 @@ ghost use Rattle.std.specs.List.{AllByRecursion};
 ghost use Rattle.std.specs.List.Sorted.{IsStrictlySortedBy};
 ghost use Rattle.std.specs.Map.{remove_entry, keys_of};
 ghost use Rattle.std.specs.BTreeMap.{is_at, insert_entry};
-ghost use Rattle.dtmi_name.specs.Grammar.{id_cmp};
+ghost use Rattle.dt_base.specs.names.Grammar.{id_cmp};
 ghost use Rattle.dtdl_terms.specs.Distinct.{HasDeclaration};
 ghost use Rattle.dtdl_terms.specs.Sets.{interface_at};
 ghost use Rattle.dtdl_terms.specs.declared.interface.Interface.{Interface};
 ghost use Rattle.dtdl_terms.specs.declared.resolved.Resolved.{Resolved};
 ghost use Rattle.extend_resolve.specs.Breaches.{BreaksNoRule};
-ghost use Rattle.model_resolve.specs.Resolving.{IsResolved, entry_at};
+ghost use Rattle.model_life.specs.resolution.Resolving.{IsResolved, entry_at};
 ghost use Rattle.resolved_table.specs.Tables.{ResolvesAll, ResolvesOthers};
 ghost use Rattle.resolved_table.specs.Machinery.Without.{without};
 
 use dt_base::OutOfMemory;
+use dt_base::names::Dtmi;
 use dtdl_terms::{ModelSet, Resolved};
-use dtmi_name::Dtmi;
-use model_resolve::resolve;
+use model_life::resolution::resolve;
 use std::alloc::Global;
 use std::collections::BTreeMap;
 use std::marker::Model;
@@ -36,7 +36,7 @@ impl Model for Table {
     ghost use Rattle.std.specs.Prelude.{List};
     ghost use Rattle.std.specs.Coded.{coded_list, coded×};
     ghost use Rattle.std.specs.BTreeMap.{IsOrdered};
-    ghost use Rattle.dtmi_name.specs.Grammar.{Identifier, identifier_code, id_cmp};
+    ghost use Rattle.dt_base.specs.names.Grammar.{Identifier, identifier_code, id_cmp};
     ghost use Rattle.dtdl_terms.specs.declared.resolved.Resolved.{Resolved};
     ghost use Rattle.dtdl_terms.specs.contracts.resolved.Resolved as resolved;
 

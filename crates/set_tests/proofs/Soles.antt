@@ -6,7 +6,7 @@ use Rattle.std.specs.List.{AllByRecursion}
 use Rattle.std.specs.Ordering.{is_eq}
 use Rattle.std.proofs.lemmas.Option.{same_Some, none-some}
 use Rattle.std.proofs.lemmas.Slice.Eq.{bytes_eq-Decides}
-use Rattle.dtmi_name.specs.Grammar.{Identifier, dtmi_text, id_eq}
+use Rattle.dt_base.specs.names.Grammar.{Identifier, dtmi_text, id_eq}
 use Rattle.dtdl_terms.specs.Distinct.{AreDistinct, ContentIsDistinct, SchemaIsDistinct, schema_id, HasDeclaration}
 use Rattle.dtdl_terms.specs.TermViews.{schema_term, content_term}
 use Rattle.dtdl_terms.specs.declared.common.Entry.{Entry}
@@ -20,11 +20,11 @@ use Rattle.extend_resolve.specs.declared.rule.SetRule.{SetRule}
 use Rattle.extend_resolve.specs.declared.rule.SetRule.TheVariants as rules
 use Rattle.extend_resolve.specs.Chains.{IsParent, IsChain, chain_end}
 use Rattle.extend_resolve.specs.SetRules.{NamesParent, HasTooManyContents}
-use Rattle.extend_resolve.specs.Breaches.{Breaks, BreaksNoRule}
-use Rattle.model_resolve.specs.Resolving.{EntryOf}
+use Rattle.extend_resolve.specs.Breaches.{BreaksSetRule, BreaksNoRule}
+use Rattle.model_life.specs.resolution.Resolving.{EntryOf}
 use Rattle.resolved_table.specs.Tables.{ResolvesOthers}
 use Rattle.set_tests.specs.Lone.{IsLone}
-use Rattle.model_resolve.proofs.ByKey.{C, same_spelling, alike}
+use Rattle.model_life.proofs.resolution.ByKey.{C, same_spelling, alike}
 
 module _ (i : Interface) (parentless : i.parents ≡ []) (empty : i.contents ≡ []) where
   no_parent : (k : ℕ) (p : Identifier) → NamesParent i k p → ⊥
@@ -49,7 +49,7 @@ module _ (i : Interface) (parentless : i.parents ≡ []) (empty : i.contents ≡
       let none : 3000 < sum (0 ∷ []) = subst (λ (cs : List Content). 3000 < sum (length cs ∷ [])) empty many in omega (arith, none)
   not_many set (a ∷ others, ((js, chain, is), all), (apart, rest), many) = apart.0 (ap (λ (x : Interface). dtmi_text x.id) (itself set a js chain is))
 
-  never : (rule : SetRule) (spot : Spot) → Breaks (i ∷ []) [] i rule spot → ⊥
+  never : (rule : SetRule) (spot : Spot) → BreaksSetRule (i ∷ []) [] i rule spot → ⊥
   never rules.RepeatedId spots.Whole h = h
   never rules.RepeatedId spots.Id (e, (k, low, is), same) = omega (arith, low)
   never rules.RepeatedId spots.Parents h = h
@@ -87,7 +87,7 @@ module _ (i : Interface) (parentless : i.parents ≡ []) (empty : i.contents ≡
   never rules.TooManyResolved (spots.ContentSchema k) h = h
 
   pub lone_sound : BreaksNoRule (i ∷ [])
-  lone_sound zero j rule spot is h = never rule spot (subst (λ x. Breaks (i ∷ []) [] x rule spot) (sym (same_Some i j is)) h)
+  lone_sound zero j rule spot is h = never rule spot (subst (λ x. BreaksSetRule (i ∷ []) [] x rule spot) (sym (same_Some i j is)) h)
   lone_sound (suc k) j rule spot is h = none-some j is
 
 pub lone_declared : (i : Interface) → i.description.entries ≡ [] → i.display_name.entries ≡ [] → i.parents ≡ [] → i.contents ≡ [] → i.schemas ≡ [] → HasDeclaration i

@@ -1,4 +1,4 @@
-//! The calls of `extend_resolve`, `model_resolve` and `resolved_table` on a set of one interface, of which a proof knows that it breaks no rule,
+//! The calls of `extend_resolve`, `model_life` and `resolved_table` on a set of one interface, of which a proof knows that it breaks no rule,
 //! and those of `dtdl_terms` on sets. They stand here, since a crate with tests of its own is proved twice.
 #![tactic(auto)]
 

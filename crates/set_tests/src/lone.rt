@@ -4,10 +4,10 @@ ghost use Rattle.std.specs.Prelude.{◌≡◌, [], ◌∷◌, List, IfOk};
 ghost use Rattle.set_tests.specs.Lone.{IsLone};
 
 use dt_base::List;
+use dt_base::names::Dtmi;
 use dtdl_terms::{Interface, Localized, ModelSet};
-use dtmi_name::Dtmi;
 use extend_resolve::is_a;
-use model_resolve::{Resolutions, ancestors, parts, resolve};
+use model_life::resolution::{Resolutions, ancestors, parts, resolve};
 use resolved_table::Table;
 use std::alloc::Global;
 use std::test::Fail;

@@ -1,8 +1,8 @@
 //! Sets of interfaces, and the names of limits, through the public calls of `dtdl_terms`.
 
 use dt_base::List;
+use dt_base::names::Dtmi;
 use dtdl_terms::{Interface, Limit, Localized, ModelSet};
-use dtmi_name::Dtmi;
 use std::alloc::Global;
 use std::test::Fail;
 

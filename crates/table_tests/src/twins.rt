@@ -1,11 +1,11 @@
 //! A plain list of twins is the definition's program: it is run beside `Twins`, and each call answers alike.
 
 use dt_base::Text;
-use dtmi_name::Dtmi;
+use dt_base::names::Dtmi;
+use graph_steps::twins::Twins;
 use json_tree::Tree;
 use std::alloc::{AllocError, Global};
 use std::test::Fail;
-use twin_table::Twins;
 use twin_value::Twin;
 
 /// How many steps are taken, and how many different ids and models there are.

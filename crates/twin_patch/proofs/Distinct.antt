@@ -8,38 +8,14 @@ use Rattle.json_decimal.specs.Number.{Number}
 use Rattle.json_tree.specs.Values.{Raw, Json, null, truth, number, text, array, object, Elements, no_elements, element, Members, no_members, member, LacksKey, HasDistinctKeys, ElementsHaveDistinctKeys, MembersHaveDistinctKeys, IsReadAs, ElementsAreReadAs, MembersAreReadAs}
 use Rattle.json_tree.specs.Grammar.{Spells}
 use Rattle.json_tree.specs.View.{view}
+use Rattle.json_tree.proofs.DistinctKeys.{spelled_distinct}
 use Rattle.twin_patch.specs.Objects.{value_under}
 use Rattle.twin_patch.specs.Operations.{Change, add, replace, remove, Operation, change_of, operation_of, operations_of, BringsDistinctKeys}
-use Rattle.twin_patch.specs.Reading.{Has, HasValue, AreOperations, Reads}
+use Rattle.twin_patch.specs.Reading.{HasUnderKey, HasValue, AreOperations, ReadsPatch}
 use Rattle.twin_patch.specs.declared.entry.PatchOf.{PatchOf}
 use Rattle.twin_patch.specs.declared.patch.Op.{Op}
 use Rattle.twin_patch.specs.declared.patch.Patch.{Patch}
 use Rattle.twin_patch.specs.declared.reading.PatchEnd.{PatchEnd}
-
-lacks : (k : List ℕ) (ms : Members (List ℕ)) (ns : Members Number) → LacksKey k ms → MembersAreReadAs ms ns → LacksKey k ns
-lacks k no_members ns h r = subst (LacksKey k) (sym r) tt
-lacks k (member q v ms) ns h (x, xs, one, rest, is) = subst (LacksKey k) (sym is) (h.0, lacks k ms xs h.1 rest)
-
-mutual
-  read_distinct : (raw : Raw) (v : Json) → HasDistinctKeys raw → IsReadAs raw v → HasDistinctKeys v
-  read_distinct null v h r = subst (λ (w : Json). HasDistinctKeys w) (sym r) tt
-  read_distinct (truth b) v h r = subst (λ (w : Json). HasDistinctKeys w) (sym r) tt
-  read_distinct (number n) v h (x, one, range, is) = subst (λ (w : Json). HasDistinctKeys w) (sym is) tt
-  read_distinct (text t) v h r = subst (λ (w : Json). HasDistinctKeys w) (sym r) tt
-  read_distinct (array vs) v h (ws, r, is) = subst (λ (w : Json). HasDistinctKeys w) (sym is) (elements_distinct vs ws h r)
-  read_distinct (object ms) v h (ns, r, is) = subst (λ (w : Json). HasDistinctKeys w) (sym is) (members_distinct ms ns h r)
-
-  elements_distinct : (vs : Elements (List ℕ)) (ws : Elements Number) → ElementsHaveDistinctKeys vs → ElementsAreReadAs vs ws → ElementsHaveDistinctKeys ws
-  elements_distinct no_elements ws h r = subst (λ (w : Elements Number). ElementsHaveDistinctKeys w) (sym r) tt
-  elements_distinct (element v vs) ws h (x, xs, one, rest, is) = subst (λ (w : Elements Number). ElementsHaveDistinctKeys w) (sym is) (read_distinct v x h.0 one, elements_distinct vs xs h.1 rest)
-
-  members_distinct : (ms : Members (List ℕ)) (ns : Members Number) → MembersHaveDistinctKeys ms → MembersAreReadAs ms ns → MembersHaveDistinctKeys ns
-  members_distinct no_members ns h r = subst (λ (w : Members Number). MembersHaveDistinctKeys w) (sym r) tt
-  members_distinct (member k v ms) ns h (x, xs, one, rest, is) =
-      subst (λ (w : Members Number). MembersHaveDistinctKeys w) (sym is) (lacks k ms xs h.0 rest, read_distinct v x h.1 one, members_distinct ms xs h.2 rest)
-
-pub spelled_distinct : (bytes : List ℕ) (v : Json) → Spells bytes v → HasDistinctKeys v
-spelled_distinct bytes v h = read_distinct h.0 v h.2 h.3
 
 value_distinct : (key : List ℕ) (ms : Members Number) (v : Json) → MembersHaveDistinctKeys ms → value_under key ms ≡ Some v → HasDistinctKeys v
 value_distinct key no_members v d h = absurd cc
@@ -48,7 +24,7 @@ value_distinct key (member k w ms) v d h = step (bytes_eq k key) h (value_distin
   step true e behind = let same : w ≡ v = cc in subst (λ (u : Json). HasDistinctKeys u) same d.1
   step false e behind = behind e
 
-has_distinct : (entry : Json) (key : List ℕ) (v : Json) → HasDistinctKeys entry → Has entry key v → HasDistinctKeys v
+has_distinct : (entry : Json) (key : List ℕ) (v : Json) → HasDistinctKeys entry → HasUnderKey entry key v → HasDistinctKeys v
 has_distinct null key v d h = absurd h
 has_distinct (truth b) key v d h = absurd h
 has_distinct (number n) key v d h = absurd h
@@ -72,7 +48,7 @@ all_bring of (element e es) (op ∷ ops) d (o, rest, is, one, more) =
     let value : HasValue e (change_of op.kind) = subst (λ (p : Operation). HasValue e p.change) first one.2 in
     (brings e (change_of op.kind) d.0 value, all_bring of es ops d.1 (subst (λ (l : List Operation). AreOperations of es l) others more))
 
-pub patch_distinct : (of : PatchOf) (v : Json) (r : Result Patch PatchEnd) → HasDistinctKeys v → Reads of v r → IfOk r (λ (p : Patch). All (λ (op : Op). BringsDistinctKeys (change_of op.kind)) p.ops)
+pub patch_distinct : (of : PatchOf) (v : Json) (r : Result Patch PatchEnd) → HasDistinctKeys v → ReadsPatch of v r → IfOk r (λ (p : Patch). All (λ (op : Op). BringsDistinctKeys (change_of op.kind)) p.ops)
 patch_distinct of v (Ok patch) d h =
     let entries : HasDistinctKeys (array h.0) = subst (λ (w : Json). HasDistinctKeys w) h.1 d in
     All-from_recursion (λ (op : Op). BringsDistinctKeys (change_of op.kind)) patch.ops (all_bring of h.0 patch.ops entries h.2)

@@ -14,7 +14,7 @@ use Rattle.json_tree.specs.Places.{member_at}
 use Rattle.json_tree.specs.declared.tree.Member.{Member}
 use Rattle.json_decimal.specs.Number.{Number}
 use Rattle.twin_patch.specs.Objects.{value_under, with_member, without_member}
-use Rattle.twin_patch.specs.Machinery.Orders.{compared, IsBefore, IsFoundAt, IsMissingAt, put_at}
+use Rattle.twin_patch.specs.Machinery.Orders.{compared_keys, IsBeforeAll, IsFoundAt, IsMissingAt, put_at}
 use Rattle.twin_patch.proofs.Found.{turned_back}
 
 reflexive : (o : Ordering) → o ≡ ordering_reverse o → o ≡ Equal
@@ -22,17 +22,17 @@ reflexive Less e = absurd cc
 reflexive Equal e = refl
 reflexive Greater e = absurd cc
 
-pub equal_keys : (a b : List ℕ) → a ≡ b → compared a b ≡ Equal
-equal_keys a b e = subst (λ x. compared a x ≡ Equal) e (reflexive (compared a a) (nat_list_cmp_total.antisymm a a))
+pub equal_keys : (a b : List ℕ) → a ≡ b → compared_keys a b ≡ Equal
+equal_keys a b e = subst (λ x. compared_keys a x ≡ Equal) e (reflexive (compared_keys a a) (nat_list_cmp_total.antisymm a a))
 
 -- a key is its own, and no lesser or greater one is
 pub same_test : (a b : List ℕ) → a ≡ b → bytes_eq b a ≡ true
 same_test a b e = sym (is_eq-slice_cmp b a) ∙ ap is_eq (equal_keys b a (sym e))
 
-pub greater_test : (key k : List ℕ) → compared key k ≡ Greater → bytes_eq k key ≡ false
+pub greater_test : (key k : List ℕ) → compared_keys key k ≡ Greater → bytes_eq k key ≡ false
 greater_test key k h = sym (is_eq-slice_cmp k key) ∙ ap is_eq (turned_back key k h)
 
-pub lesser_test : (key k : List ℕ) → compared key k ≡ Less → bytes_eq k key ≡ false
+pub lesser_test : (key k : List ℕ) → compared_keys key k ≡ Less → bytes_eq k key ≡ false
 lesser_test key k h = sym (is_eq-slice_cmp k key) ∙ ap is_eq (nat_list_cmp_total.antisymm k key ∙ ap ordering_reverse h)
 
 -- what stands at the position is what the map has
@@ -41,7 +41,7 @@ value_found no_members key at h = absurd h
 value_found (member k w ms) key zero h = (w, rw (same_test key k h) refl, ap (λ x. Some (x, w)) (sym h))
 value_found (member k w ms) key (suc at) h = let r = value_found ms key at h.1 in (r.0, rw (greater_test key k h.0) r.1, r.2)
 
-pub none_before : (ms : Members Number) (key : List ℕ) → IsBefore key ms → value_under key ms ≡ None
+pub none_before : (ms : Members Number) (key : List ℕ) → IsBeforeAll key ms → value_under key ms ≡ None
 none_before no_members key h = refl
 none_before (member k w ms) key h = rw (lesser_test key k h.0) (none_before ms key h.1)
 

@@ -7,7 +7,7 @@ use Rattle.json_tree.specs.View.{view, elements_view}
 use Rattle.json_tree.specs.declared.tree.Tree.{Tree}
 use Rattle.twin_patch.specs.Operations.{Operation, operation_of, operations_of}
 use Rattle.std.specs.Prelude.{Err}
-use Rattle.twin_patch.specs.Reading.{IsOperation, IsFirstCode, AreOperations, FailsAt, Judges, ReadsOps, end_at}
+use Rattle.twin_patch.specs.Reading.{IsOperation, IsFirstCode, AreOperations, FailsAt, AnswersEntry, ReadsOps, end_at}
 use Rattle.twin_patch.specs.declared.entry.OpEnd.{OpEnd}
 use Rattle.twin_patch.specs.declared.entry.OpEnd.TheVariants as judged
 use Rattle.twin_patch.specs.declared.code.PatchCode.{PatchCode}
@@ -59,7 +59,7 @@ all_read of entries i ops done h =
     subst (λ (l : List Operation). AreOperations of (elements_view entries) l) (append-nil (operations_of ops)) whole
 
 pub ended : (of : PatchOf) (entries : List Tree) (i : ℕ) (entry : Tree) (end : OpEnd) → i < length entries → entry ≡ get_or entries i entry
-    → Judges of (view entry) (Err end) → Failing of entries i → ReadsOps of (elements_view entries) (Err (end_at i end))
+    → AnswersEntry of (view entry) (Err end) → Failing of entries i → ReadsOps of (elements_view entries) (Err (end_at i end))
 ended of entries i entry (judged.Code c) lt is first h = one_failed of entries i entry c lt is first h
 ended of entries i entry judged.OutOfMemory lt is first h = tt
 

@@ -10,26 +10,26 @@ use Rattle.std.proofs.lemmas.Map.Lookups.{exact_bytes}
 use Rattle.json_tree.specs.Values.{Json, Members, no_members, member}
 use Rattle.json_tree.specs.View.{view, members_view}
 use Rattle.json_tree.specs.declared.tree.Member.{Member}
-use Rattle.twin_patch.specs.Machinery.Orders.{compared, IsBefore, KeysRise, IsFoundAt, IsMissingAt, Stands}
+use Rattle.twin_patch.specs.Machinery.Orders.{compared_keys, IsBeforeAll, KeysRise, IsFoundAt, IsMissingAt, Stands}
 
 -- the order the other way round
-pub turned : (a b : List ℕ) → compared a b ≡ Less → compared b a ≡ Greater
+pub turned : (a b : List ℕ) → compared_keys a b ≡ Less → compared_keys b a ≡ Greater
 turned a b h = nat_list_cmp_total.antisymm b a ∙ ap ordering_reverse h
 
-pub turned_back : (a b : List ℕ) → compared a b ≡ Greater → compared b a ≡ Less
+pub turned_back : (a b : List ℕ) → compared_keys a b ≡ Greater → compared_keys b a ≡ Less
 turned_back a b h = nat_list_cmp_total.antisymm b a ∙ ap ordering_reverse h
 
-before_at : (key : List ℕ) (ms : List Member) (i : ℕ) (d : Member) → IsBefore key (members_view ms) → i < length ms → compared key (get_or ms i d).key ≡ Less
+before_at : (key : List ℕ) (ms : List Member) (i : ℕ) (d : Member) → IsBeforeAll key (members_view ms) → i < length ms → compared_keys key (get_or ms i d).key ≡ Less
 before_at key [] i d h lt = absurd (omega (arith, lt))
 before_at key (m ∷ ms) zero d h lt = h.0
 before_at key (m ∷ ms) (suc i) d h lt = before_at key ms i d h.1 (omega (arith, lt))
 
-all_before : (key : List ℕ) (ms : List Member) → ((k : ℕ) (d : Member) → k < length ms → compared key (get_or ms k d).key ≡ Less) → IsBefore key (members_view ms)
+all_before : (key : List ℕ) (ms : List Member) → ((k : ℕ) (d : Member) → k < length ms → compared_keys key (get_or ms k d).key ≡ Less) → IsBeforeAll key (members_view ms)
 all_before key [] h = tt
 all_before key (m ∷ ms) h = (h zero m (omega arith), all_before key ms (λ k d lt. h (suc k) d (omega (arith, lt))))
 
 -- members in order are sorted, as a search asks
-rising : (ms : List Member) → KeysRise (members_view ms) → IsSortedBy (λ (a b : Member). is_lt (compared a.key b.key)) ms
+rising : (ms : List Member) → KeysRise (members_view ms) → IsSortedBy (λ (a b : Member). is_lt (compared_keys a.key b.key)) ms
 rising [] o k d low within = absurd (omega (arith, within))
 rising (m ∷ ms) o zero d low within = ap is_lt (turned m.key (get_or ms zero d).key (before_at m.key ms zero d o.0 (omega (arith, within))))
 rising (m ∷ ms) o (suc k) d low within =
@@ -40,12 +40,12 @@ found : (ms : List Member) (i : ℕ) (key : List ℕ) → KeysRise (members_view
 found [] i key o lt is = absurd (omega (arith, lt))
 found (m ∷ ms) zero key o lt is = sym (is m)
 found (m ∷ ms) (suc i) key o lt is = (
-  turned m.key key (subst (λ k. compared m.key k ≡ Less) (is m) (before_at m.key ms i m o.0 (omega (arith, lt)))),
+  turned m.key key (subst (λ k. compared_keys m.key k ≡ Less) (is m) (before_at m.key ms i m o.0 (omega (arith, lt)))),
   found ms i key o.1 (omega (arith, lt)) is,
 )
 
-missing : (ms : List Member) (i : ℕ) (key : List ℕ) → i ≤ length ms → ((k : ℕ) (d : Member) → 0 ≤ k → k < i → compared (get_or ms k d).key key ≡ Less)
-    → ((k : ℕ) (d : Member) → i ≤ k → k < length ms → compared (get_or ms k d).key key ≡ Greater) → IsMissingAt key (members_view ms) i
+missing : (ms : List Member) (i : ℕ) (key : List ℕ) → i ≤ length ms → ((k : ℕ) (d : Member) → 0 ≤ k → k < i → compared_keys (get_or ms k d).key key ≡ Less)
+    → ((k : ℕ) (d : Member) → i ≤ k → k < length ms → compared_keys (get_or ms k d).key key ≡ Greater) → IsMissingAt key (members_view ms) i
 missing [] zero key le low high = tt
 missing [] (suc i) key le low high = absurd (omega (arith, le))
 missing (m ∷ ms) zero key le low high = all_before key (m ∷ ms) (λ k d lt. turned_back (get_or (m ∷ ms) k d).key key (high k d (omega arith) lt))
@@ -55,7 +55,7 @@ missing (m ∷ ms) (suc i) key le low high = (
 )
 
 pub searched : (ms : List Member) (key : List ℕ) (r : Result ℕ ℕ) → KeysRise (members_view ms) → IsSearchInRange r (length ms)
-    → IsBinarySearchResult (λ (m : Member). compared m.key key) ms r → Stands key (members_view ms) r
+    → IsBinarySearchResult (λ (m : Member). compared_keys m.key key) ms r → Stands key (members_view ms) r
 searched ms key (Ok i) o b h = found ms i key o b (λ d. exact_bytes (get_or ms i d).key key (h d))
 searched ms key (Err i) o b h =
     let p = h (searchable_from_sorted nat_list_cmp_total (λ (m : Member). m.key) ms key (rising ms o)) in missing ms i key b p.0 p.1

@@ -18,7 +18,7 @@ use Rattle.std.proofs.lemmas.List.Elements.{All-from_recursion, recursion_from_A
 use Rattle.std.proofs.lemmas.List.Sorted.{All-permutation, IsPermutation-sym, IsPermutation-map}
 use Rattle.json_tree.specs.Values.{Json, null}
 use Rattle.json_tree.specs.Sorting.{AreInOrder}
-use Rattle.twin_patch.specs.Machinery.Orders.{compared}
+use Rattle.twin_patch.specs.Machinery.Orders.{compared_keys}
 use Rattle.twin_patch.proofs.Found.{turned, turned_back}
 use Rattle.twin_patch.proofs.Edits.{same_test}
 
@@ -49,54 +49,54 @@ moved_in xs ys p e is =
     (recursion_from_All (λ x. IsIn x ys) xs (All-permutation (λ x. IsIn x ys) ys xs (IsPermutation-sym xs ys p) (All-from_recursion (λ x. IsIn x ys) ys (all_of ys)))) is
 
 -- the head of rising keys is below those behind it
-above : (m : Pair) (xs : List Pair) (e : Pair) → AllByRecursion (λ y. compared m.0 y ≡ Less) (keys_of xs) → IsIn e xs → compared m.0 e.0 ≡ Less
+above : (m : Pair) (xs : List Pair) (e : Pair) → AllByRecursion (λ y. compared_keys m.0 y ≡ Less) (keys_of xs) → IsIn e xs → compared_keys m.0 e.0 ≡ Less
 above m [] e h is = absurd is
-above m (x ∷ xs) e h (inl same) = subst (λ (z : Pair). compared m.0 z.0 ≡ Less) (sym same) h.0
+above m (x ∷ xs) e h (inl same) = subst (λ (z : Pair). compared_keys m.0 z.0 ≡ Less) (sym same) h.0
 above m (x ∷ xs) e h (inr rest) = above m xs e h.1 rest
 
-never_less : (k : List ℕ) → compared k k ≡ Less → ⊥
-never_less k h = let g : compared k k ≡ Greater = turned k k h in let e : Less ≡ Greater = sym h ∙ g in absurd cc
+never_less : (k : List ℕ) → compared_keys k k ≡ Less → ⊥
+never_less k h = let g : compared_keys k k ≡ Greater = turned k k h in let e : Less ≡ Greater = sym h ∙ g in absurd cc
 
-never_both : (k q : List ℕ) → compared k q ≡ Less → compared q k ≡ Less → ⊥
+never_both : (k q : List ℕ) → compared_keys k q ≡ Less → compared_keys q k ≡ Less → ⊥
 never_both k q h g = never_less k (nat_list_cmp_total.trans k q k h g)
 
-pub same_sorted : (xs ys : List Pair) → IsStrictlySortedBy compared (keys_of xs) → IsStrictlySortedBy compared (keys_of ys)
+pub same_sorted : (xs ys : List Pair) → IsStrictlySortedBy compared_keys (keys_of xs) → IsStrictlySortedBy compared_keys (keys_of ys)
     → ((e : Pair) → IsIn e xs → IsIn e ys) → ((e : Pair) → IsIn e ys → IsIn e xs) → xs ≡ ys
 same_sorted [] [] s t f g = refl
 same_sorted [] (y ∷ ys) s t f g = absurd (g y (inl refl))
 same_sorted (x ∷ xs) [] s t f g = absurd (f x (inl refl))
 same_sorted (x ∷ xs) (y ∷ ys) s t f g =
-    let low = sorted_head compared x.0 (keys_of xs) s in
-    let high = sorted_head compared y.0 (keys_of ys) t in
+    let low = sorted_head compared_keys x.0 (keys_of xs) s in
+    let high = sorted_head compared_keys y.0 (keys_of ys) t in
     let same : x ≡ y = first low high (f x (inl refl)) (g y (inl refl)) in
     ap₂ (λ (z : Pair) (zs : List Pair). z ∷ zs) same
-    (same_sorted xs ys (sorted_tail compared x.0 (keys_of xs) s) (sorted_tail compared y.0 (keys_of ys) t)
+    (same_sorted xs ys (sorted_tail compared_keys x.0 (keys_of xs) s) (sorted_tail compared_keys y.0 (keys_of ys) t)
     (λ e is. behind x y ys e same (above x xs e low is) (f e (inr is)))
     (λ e is. behind y x xs e (sym same) (above y ys e high is) (g e (inr is)))) where
-      first : AllByRecursion (λ k. compared x.0 k ≡ Less) (keys_of xs) → AllByRecursion (λ k. compared y.0 k ≡ Less) (keys_of ys) → IsIn x (y ∷ ys) → IsIn y (x ∷ xs) → x ≡ y
+      first : AllByRecursion (λ k. compared_keys x.0 k ≡ Less) (keys_of xs) → AllByRecursion (λ k. compared_keys y.0 k ≡ Less) (keys_of ys) → IsIn x (y ∷ ys) → IsIn y (x ∷ xs) → x ≡ y
       first low high (inl e) other = e
       first low high (inr is) (inl e) = sym e
       first low high (inr is) (inr other) = absurd (never_both y.0 x.0 (above y ys x high is) (above x xs y low other))
 
-      behind : (a b : Pair) (bs : List Pair) (e : Pair) → a ≡ b → compared a.0 e.0 ≡ Less → IsIn e (b ∷ bs) → IsIn e bs
-      behind a b bs e same less (inl is) = absurd (never_less e.0 (subst (λ (z : Pair). compared z.0 e.0 ≡ Less) (same ∙ sym is) less))
+      behind : (a b : Pair) (bs : List Pair) (e : Pair) → a ≡ b → compared_keys a.0 e.0 ≡ Less → IsIn e (b ∷ bs) → IsIn e bs
+      behind a b bs e same less (inl is) = absurd (never_less e.0 (subst (λ (z : Pair). compared_keys z.0 e.0 ≡ Less) (same ∙ sym is) less))
       behind a b bs e same less (inr is) = is
 
 -- the members inserted one after another, from the last on
 abbrev pub gathered : List Pair → List Pair
 gathered [] = []
-gathered (m ∷ ms) = insert_entry compared (gathered ms) m.0 m.1
+gathered (m ∷ ms) = insert_entry compared_keys (gathered ms) m.0 m.1
 
 later : (e m x : Pair) (es : List Pair) → (e ≡ m) ⊎ IsIn e es → (e ≡ m) ⊎ IsIn e (x ∷ es)
 later e m x es (inl same) = inl same
 later e m x es (inr old) = inr (inr old)
 
-in_inserted : (e : Pair) (es : List Pair) (m : Pair) → IsIn e (insert_entry compared es m.0 m.1) → (e ≡ m) ⊎ IsIn e es
+in_inserted : (e : Pair) (es : List Pair) (m : Pair) → IsIn e (insert_entry compared_keys es m.0 m.1) → (e ≡ m) ⊎ IsIn e es
 in_inserted e [] m (inl is) = inl is
 in_inserted e [] m (inr is) = absurd is
-in_inserted e (x ∷ es) m h = step (compared m.0 x.0) refl (in_inserted e es m) h where
-  step : (o : Ordering) → compared m.0 x.0 ≡ o → (IsIn e (insert_entry compared es m.0 m.1) → (e ≡ m) ⊎ IsIn e es)
-      → IsIn e (match_ordering o (m ∷ x ∷ es) ((x.0, m.1) ∷ es) (x ∷ insert_entry compared es m.0 m.1)) → (e ≡ m) ⊎ IsIn e (x ∷ es)
+in_inserted e (x ∷ es) m h = step (compared_keys m.0 x.0) refl (in_inserted e es m) h where
+  step : (o : Ordering) → compared_keys m.0 x.0 ≡ o → (IsIn e (insert_entry compared_keys es m.0 m.1) → (e ≡ m) ⊎ IsIn e es)
+      → IsIn e (match_ordering o (m ∷ x ∷ es) ((x.0, m.1) ∷ es) (x ∷ insert_entry compared_keys es m.0 m.1)) → (e ≡ m) ⊎ IsIn e (x ∷ es)
   step Less is behind (inl same) = inl same
   step Less is behind (inr rest) = inr rest
   step Equal is behind (inl same) = let k : m.0 ≡ x.0 = exact_bytes m.0 x.0 is in inl (same ∙ ap (λ (q : List ℕ). let p : Pair = (q, m.1) in p) (sym k))
@@ -104,18 +104,18 @@ in_inserted e (x ∷ es) m h = step (compared m.0 x.0) refl (in_inserted e es m)
   step Greater is behind (inl same) = inr (inl same)
   step Greater is behind (inr rest) = later e m x es (behind rest)
 
-new_inserted : (es : List Pair) (m : Pair) → IsIn m (insert_entry compared es m.0 m.1)
+new_inserted : (es : List Pair) (m : Pair) → IsIn m (insert_entry compared_keys es m.0 m.1)
 new_inserted [] m = inl refl
-new_inserted (x ∷ es) m = step (compared m.0 x.0) refl (new_inserted es m) where
-  step : (o : Ordering) → compared m.0 x.0 ≡ o → IsIn m (insert_entry compared es m.0 m.1) → IsIn m (match_ordering o (m ∷ x ∷ es) ((x.0, m.1) ∷ es) (x ∷ insert_entry compared es m.0 m.1))
+new_inserted (x ∷ es) m = step (compared_keys m.0 x.0) refl (new_inserted es m) where
+  step : (o : Ordering) → compared_keys m.0 x.0 ≡ o → IsIn m (insert_entry compared_keys es m.0 m.1) → IsIn m (match_ordering o (m ∷ x ∷ es) ((x.0, m.1) ∷ es) (x ∷ insert_entry compared_keys es m.0 m.1))
   step Less is behind = inl refl
   step Equal is behind = let k : m.0 ≡ x.0 = exact_bytes m.0 x.0 is in inl (ap (λ (q : List ℕ). let p : Pair = (q, m.1) in p) k)
   step Greater is behind = inr behind
 
-old_inserted : (e : Pair) (es : List Pair) (m : Pair) → bytes_eq m.0 e.0 ≡ false → IsIn e es → IsIn e (insert_entry compared es m.0 m.1)
+old_inserted : (e : Pair) (es : List Pair) (m : Pair) → bytes_eq m.0 e.0 ≡ false → IsIn e es → IsIn e (insert_entry compared_keys es m.0 m.1)
 old_inserted e [] m other is = absurd is
-old_inserted e (x ∷ es) m other is = step (compared m.0 x.0) refl (old_inserted e es m other) is where
-  step : (o : Ordering) → compared m.0 x.0 ≡ o → (IsIn e es → IsIn e (insert_entry compared es m.0 m.1)) → IsIn e (x ∷ es) → IsIn e (match_ordering o (m ∷ x ∷ es) ((x.0, m.1) ∷ es) (x ∷ insert_entry compared es m.0 m.1))
+old_inserted e (x ∷ es) m other is = step (compared_keys m.0 x.0) refl (old_inserted e es m other) is where
+  step : (o : Ordering) → compared_keys m.0 x.0 ≡ o → (IsIn e es → IsIn e (insert_entry compared_keys es m.0 m.1)) → IsIn e (x ∷ es) → IsIn e (match_ordering o (m ∷ x ∷ es) ((x.0, m.1) ∷ es) (x ∷ insert_entry compared_keys es m.0 m.1))
   step Less k behind h = inr h
   step Equal k behind (inl same) =
       let key : m.0 ≡ e.0 = exact_bytes m.0 x.0 k ∙ sym (ap (λ (z : Pair). z.0) same) in
@@ -139,30 +139,30 @@ other_key m (x ∷ ms) e h (inr rest) = other_key m ms e h.1 rest
 
 gathered_in : (ms : List Pair) (e : Pair) → IsDistinct bytes_eq (keys_of ms) → IsIn e ms → IsIn e (gathered ms)
 gathered_in [] e d is = is
-gathered_in (m ∷ ms) e d (inl same) = subst (λ (z : Pair). IsIn z (insert_entry compared (gathered ms) m.0 m.1)) (sym same) (new_inserted (gathered ms) m)
+gathered_in (m ∷ ms) e d (inl same) = subst (λ (z : Pair). IsIn z (insert_entry compared_keys (gathered ms) m.0 m.1)) (sym same) (new_inserted (gathered ms) m)
 gathered_in (m ∷ ms) e d (inr rest) =
     old_inserted e (gathered ms) m (other_key m ms e (IsDistinct-head bytes_eq m.0 (keys_of ms) d) rest) (gathered_in ms e (IsDistinct-tail bytes_eq m.0 (keys_of ms) d) rest)
 
 -- keys that do not fall and are distinct rise
-rises : (o : Ordering) (k q : List ℕ) → compared k q ≡ o → is_lt (compared q k) ≡ false → bytes_eq k q ≡ false → compared k q ≡ Less
+rises : (o : Ordering) (k q : List ℕ) → compared_keys k q ≡ o → is_lt (compared_keys q k) ≡ false → bytes_eq k q ≡ false → compared_keys k q ≡ Less
 rises Less k q e falls apart = e
-rises Equal k q e falls apart = let t : is_eq (compared k q) ≡ true = ap is_eq e in let f : true ≡ false = sym t ∙ is_eq-slice_cmp k q ∙ apart in absurd cc
-rises Greater k q e falls apart = let t : is_lt (compared q k) ≡ true = ap is_lt (turned_back k q e) in let f : true ≡ false = sym t ∙ falls in absurd cc
+rises Equal k q e falls apart = let t : is_eq (compared_keys k q) ≡ true = ap is_eq e in let f : true ≡ false = sym t ∙ is_eq-slice_cmp k q ∙ apart in absurd cc
+rises Greater k q e falls apart = let t : is_lt (compared_keys q k) ≡ true = ap is_lt (turned_back k q e) in let f : true ≡ false = sym t ∙ falls in absurd cc
 
-strict : (ms : List Pair) → AreInOrder ms → IsDistinct bytes_eq (keys_of ms) → IsStrictlySortedBy compared (keys_of ms)
+strict : (ms : List Pair) → AreInOrder ms → IsDistinct bytes_eq (keys_of ms) → IsStrictlySortedBy compared_keys (keys_of ms)
 strict ms o d = sorted_from_all_adjacent nat_list_cmp_total (keys_of ms) [] (λ k within.
     let default : Pair = ([], null) in
     let size : length (keys_of ms) ≡ length ms = length-keys_of ms in
-    let less : is_lt (compared (get_or ms (k + 1) default).0 (get_or ms k default).0) ≡ false = o k default (omega arith) (omega (arith, within, size)) in
+    let less : is_lt (compared_keys (get_or ms (k + 1) default).0 (get_or ms k default).0) ≡ false = o k default (omega arith) (omega (arith, within, size)) in
     let first : get_or (keys_of ms) k [] ≡ (get_or ms k default).0 = get_or-map (λ (z : Pair). z.0) ms k default in
     let second : get_or (keys_of ms) (k + 1) [] ≡ (get_or ms (k + 1) default).0 = get_or-map (λ (z : Pair). z.0) ms (k + 1) default in
     let apart : bytes_eq (get_or (keys_of ms) k []) (get_or (keys_of ms) (k + 1) []) ≡ false = apart_from_distinct bytes_eq (keys_of ms) k (k + 1) [] d (omega arith) within in
-    let falls : is_lt (compared (get_or (keys_of ms) (k + 1) []) (get_or (keys_of ms) k [])) ≡ false = rw (first, second) less in
-    rises (compared (get_or (keys_of ms) k []) (get_or (keys_of ms) (k + 1) [])) (get_or (keys_of ms) k []) (get_or (keys_of ms) (k + 1) []) refl falls apart)
+    let falls : is_lt (compared_keys (get_or (keys_of ms) (k + 1) []) (get_or (keys_of ms) k [])) ≡ false = rw (first, second) less in
+    rises (compared_keys (get_or (keys_of ms) k []) (get_or (keys_of ms) (k + 1) [])) (get_or (keys_of ms) k []) (get_or (keys_of ms) (k + 1) []) refl falls apart)
 
 pub equal : (a b : List ℕ) → bytes_eq a b ≡ true → a ≡ b
-equal a b e = exact_bytes a b (step (compared a b) refl) where
-  step : (o : Ordering) → compared a b ≡ o → compared a b ≡ Equal
+equal a b e = exact_bytes a b (step (compared_keys a b) refl) where
+  step : (o : Ordering) → compared_keys a b ≡ o → compared_keys a b ≡ Equal
   step Less h = let f : true ≡ false = sym e ∙ sym (is_eq-slice_cmp a b) ∙ ap is_eq h in absurd cc
   step Equal h = h
   step Greater h = let f : true ≡ false = sym e ∙ sym (is_eq-slice_cmp a b) ∙ ap is_eq h in absurd cc
@@ -177,7 +177,7 @@ flips a b = step (bytes_eq a b) (bytes_eq b a) refl refl where
 
 -- the members moved into order are those gathered
 pub moved_are : (values moved : List Pair) → IsDistinct bytes_eq (keys_of values) → IsPermutation values moved → AreInOrder moved
-    → IsStrictlySortedBy compared (keys_of (gathered values)) → moved ≡ gathered values
+    → IsStrictlySortedBy compared_keys (keys_of (gathered values)) → moved ≡ gathered values
 moved_are values moved d p o s =
     same_sorted moved (gathered values)
     (strict moved o (IsDistinct-IsPermutation bytes_eq flips (keys_of values) (keys_of moved) (IsPermutation-map (λ (z : Pair). z.0) values moved p) d)) s

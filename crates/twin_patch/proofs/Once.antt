@@ -9,7 +9,7 @@ use Rattle.json_tree.proofs.Stepped.{same_key}
 use Rattle.json_tree.proofs.Evaluated.{token_no_slash, same_split, pointer_starts}
 use Rattle.twin_patch.specs.Operations.{Change, add, replace, remove, Operation}
 use Rattle.twin_patch.specs.Words.{word_text}
-use Rattle.twin_patch.specs.Reading.{Has, HasWord, HasPath, HasValue, IsObject, IsProtected, IsOperation, IsFirstCode, AreOperations, FailsAt, IsFitFor, IsPatch, IsFault, word_of}
+use Rattle.twin_patch.specs.Reading.{HasUnderKey, HasWord, HasPath, HasValue, IsJsonObject, IsProtected, IsOperation, IsFirstCode, AreOperations, FailsAt, IsFitFor, IsPatch, IsPatchFault, change_word}
 use Rattle.twin_patch.specs.declared.code.PatchCode.{PatchCode}
 use Rattle.twin_patch.specs.declared.code.PatchCode.TheVariants as code
 use Rattle.twin_patch.specs.declared.entry.PatchOf.{PatchOf}
@@ -40,7 +40,7 @@ word_once word.Remove word.Remove e = refl
 some_once : (v w : Json) → Some v ≡ Some w → v ≡ w
 some_once v w e = cc
 
-has_once : (entry : Json) (key : List ℕ) (v w : Json) → Has entry key v → Has entry key w → v ≡ w
+has_once : (entry : Json) (key : List ℕ) (v w : Json) → HasUnderKey entry key v → HasUnderKey entry key w → v ≡ w
 has_once null key v w h k = absurd h
 has_once (truth b) key v w h k = absurd h
 has_once (number n) key v w h k = absurd h
@@ -57,7 +57,7 @@ same_word entry w x h k = word_once w x (text_once (word_text w) (word_text x) (
 same_path : (entry : Json) (p q : List (List ℕ)) → HasPath entry p → HasPath entry q → p ≡ q
 same_path entry p q h k = pointer_once p q (text_once (pointer_text p) (pointer_text q) (has_once entry _ (text (pointer_text p)) (text (pointer_text q)) h.0 k.0))
 
-same_change : (entry : Json) (c d : Change) → word_of c ≡ word_of d → HasValue entry c → HasValue entry d → c ≡ d
+same_change : (entry : Json) (c d : Change) → change_word c ≡ change_word d → HasValue entry c → HasValue entry d → c ≡ d
 same_change entry (add v) (add w) e h k = ap add (has_once entry _ v w h k)
 same_change entry (add v) (replace w) e h k = absurd (let f : word.Add ≡ word.Replace = e in cc)
 same_change entry (add v) remove e h k = absurd (let f : word.Add ≡ word.Remove = e in cc)
@@ -70,7 +70,7 @@ same_change entry remove remove e h k = refl
 
 same_operation : (of : PatchOf) (entry : Json) (o p : Operation) → IsOperation of entry o → IsOperation of entry p → o ≡ p
 same_operation of entry o p h k =
-    let change = same_change entry o.change p.change (same_word entry (word_of o.change) (word_of p.change) h.0 k.0) h.2 k.2 in
+    let change = same_change entry o.change p.change (same_word entry (change_word o.change) (change_word p.change) h.0 k.0) h.2 k.2 in
     let path = same_path entry o.path p.path h.1 k.1 in
     ap₂ (λ (c : Change) (q : List (List ℕ)). let r : Operation = record { change = c; path = q } in r) change path
 
@@ -87,7 +87,7 @@ one_patch of v os ps h k =
     same_operations of h.0 os ps h.2 (subst (λ (es : Elements Number). AreOperations of es ps) (array_once k.0 h.0 (sym k.1 ∙ h.1)) k.2)
 
 -- an operation has no code
-word_object : (entry : Json) (w : Word) → HasWord entry w → IsObject entry
+word_object : (entry : Json) (w : Word) → HasWord entry w → IsJsonObject entry
 word_object null w h = absurd h
 word_object (truth b) w h = absurd h
 word_object (number n) w h = absurd h
@@ -97,14 +97,14 @@ word_object (object ms) w h = tt
 
 no_code : (of : PatchOf) (entry : Json) (o : Operation) (c : PatchCode) → IsOperation of entry o → IsFirstCode of entry c → ⊥
 no_code of entry o code.NotAList h k = k
-no_code of entry o code.NotAnObject h k = k (word_object entry (word_of o.change) h.0)
-no_code of entry o code.BadOp h k = k.1 (word_of o.change) h.0
+no_code of entry o code.NotAnObject h k = k (word_object entry (change_word o.change) h.0)
+no_code of entry o code.BadOp h k = k.1 (change_word o.change) h.0
 no_code of entry o code.BadPath h k = k.2 o.path h.1
-no_code of entry o code.MissingValue h k = k.4 o.change (same_word entry k.0 (word_of o.change) k.2 h.0) h.2
+no_code of entry o code.MissingValue h k = k.4 o.change (same_word entry k.0 (change_word o.change) k.2 h.0) h.2
 no_code of entry o code.Protected h k =
-    let w = same_word entry (word_of k.0) (word_of o.change) k.2 h.0 in
+    let w = same_word entry (change_word k.0) (change_word o.change) k.2 h.0 in
     let p = same_path entry k.1 o.path k.3 h.1 in
-    h.3 (subst (λ (x : Word). IsProtected of x o.path) w (subst (λ (q : List (List ℕ)). IsProtected of (word_of k.0) q) p k.5))
+    h.3 (subst (λ (x : Word). IsProtected of x o.path) w (subst (λ (q : List (List ℕ)). IsProtected of (change_word k.0) q) p k.5))
 no_code of entry o code.NotAMark h k = k
 no_code of entry o code.NoTarget h k = k
 
@@ -121,7 +121,7 @@ same_code of entry code.NotAnObject code.NotAnObject h k = refl
 same_code of entry code.NotAnObject code.BadOp h k = absurd (h (k.0))
 same_code of entry code.NotAnObject code.BadPath h k = absurd (h (word_object entry k.0 k.1))
 same_code of entry code.NotAnObject code.MissingValue h k = absurd (h (word_object entry k.0 k.2))
-same_code of entry code.NotAnObject code.Protected h k = absurd (h (word_object entry (word_of k.0) k.2))
+same_code of entry code.NotAnObject code.Protected h k = absurd (h (word_object entry (change_word k.0) k.2))
 same_code of entry code.NotAnObject code.NotAMark h k = absurd k
 same_code of entry code.NotAnObject code.NoTarget h k = absurd k
 same_code of entry code.BadOp code.NotAList h k = absurd k
@@ -129,7 +129,7 @@ same_code of entry code.BadOp code.NotAnObject h k = absurd (k (h.0))
 same_code of entry code.BadOp code.BadOp h k = refl
 same_code of entry code.BadOp code.BadPath h k = absurd (h.1 k.0 k.1)
 same_code of entry code.BadOp code.MissingValue h k = absurd (h.1 k.0 k.2)
-same_code of entry code.BadOp code.Protected h k = absurd (h.1 (word_of k.0) k.2)
+same_code of entry code.BadOp code.Protected h k = absurd (h.1 (change_word k.0) k.2)
 same_code of entry code.BadOp code.NotAMark h k = absurd k
 same_code of entry code.BadOp code.NoTarget h k = absurd k
 same_code of entry code.BadPath code.NotAList h k = absurd k
@@ -145,14 +145,14 @@ same_code of entry code.MissingValue code.NotAnObject h k = absurd (k (word_obje
 same_code of entry code.MissingValue code.BadOp h k = absurd (k.1 h.0 h.2)
 same_code of entry code.MissingValue code.BadPath h k = absurd (k.2 h.1 h.3)
 same_code of entry code.MissingValue code.MissingValue h k = refl
-same_code of entry code.MissingValue code.Protected h k = absurd (h.4 k.0 (same_word entry h.0 (word_of k.0) h.2 k.2) k.4)
+same_code of entry code.MissingValue code.Protected h k = absurd (h.4 k.0 (same_word entry h.0 (change_word k.0) h.2 k.2) k.4)
 same_code of entry code.MissingValue code.NotAMark h k = absurd k
 same_code of entry code.MissingValue code.NoTarget h k = absurd k
 same_code of entry code.Protected code.NotAList h k = absurd k
-same_code of entry code.Protected code.NotAnObject h k = absurd (k (word_object entry (word_of h.0) h.2))
-same_code of entry code.Protected code.BadOp h k = absurd (k.1 (word_of h.0) h.2)
+same_code of entry code.Protected code.NotAnObject h k = absurd (k (word_object entry (change_word h.0) h.2))
+same_code of entry code.Protected code.BadOp h k = absurd (k.1 (change_word h.0) h.2)
 same_code of entry code.Protected code.BadPath h k = absurd (k.2 h.1 h.3)
-same_code of entry code.Protected code.MissingValue h k = absurd (k.4 h.0 (same_word entry k.0 (word_of h.0) k.2 h.2) h.4)
+same_code of entry code.Protected code.MissingValue h k = absurd (k.4 h.0 (same_word entry k.0 (change_word h.0) k.2 h.2) h.4)
 same_code of entry code.Protected code.Protected h k = refl
 same_code of entry code.Protected code.NotAMark h k = absurd k
 same_code of entry code.Protected code.NoTarget h k = absurd k
@@ -172,7 +172,7 @@ fails_in of a b i c e h = subst (λ (es : Elements Number). FailsAt of es i c) (
 are_in : (of : PatchOf) (a b : Elements Number) (os : List Operation) → array a ≡ array b → AreOperations of a os → AreOperations of b os
 are_in of a b os e h = subst (λ (es : Elements Number). AreOperations of es os) (array_once a b e) h
 
-pub one_fault : (of : PatchOf) (v : Json) (i j : ℕ) (c d : PatchCode) → IsFault of v i c → IsFault of v j d → (i ≡ j) × (c ≡ d)
+pub one_fault : (of : PatchOf) (v : Json) (i j : ℕ) (c d : PatchCode) → IsPatchFault of v i c → IsPatchFault of v j d → (i ≡ j) × (c ≡ d)
 one_fault of v i j c d (inl h) (inl k) = (h.1 ∙ sym k.1, h.2 ∙ sym k.2)
 one_fault of v i j c d (inl h) (inr (inl k)) = absurd (h.0 (k.0, k.1))
 one_fault of v i j c d (inl h) (inr (inr k)) = absurd (h.0 (k.0, k.2))
@@ -183,7 +183,7 @@ one_fault of v i j c d (inr (inr h)) (inl k) = absurd (k.0 (h.0, h.2))
 one_fault of v i j c d (inr (inr h)) (inr (inl k)) = absurd (no_failure of k.0 h.1 j d (are_in of h.0 k.0 h.1 (sym h.2 ∙ k.1) h.3) k.2)
 one_fault of v i j c d (inr (inr h)) (inr (inr k)) = (h.5 ∙ sym k.5, h.6 ∙ sym k.6)
 
-pub fault_or_patch : (of : PatchOf) (v : Json) (os : List Operation) (i : ℕ) (c : PatchCode) → IsPatch of v os → IsFault of v i c → ⊥
+pub fault_or_patch : (of : PatchOf) (v : Json) (os : List Operation) (i : ℕ) (c : PatchCode) → IsPatch of v os → IsPatchFault of v i c → ⊥
 fault_or_patch of v os i c h (inl k) = k.0 (h.0, h.1)
 fault_or_patch of v os i c h (inr (inl k)) = no_failure of k.0 os i c (are_in of h.0 k.0 os (sym h.1 ∙ k.1) h.2) k.2
 fault_or_patch of v os i c h (inr (inr k)) =

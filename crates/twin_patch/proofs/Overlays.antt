@@ -11,7 +11,7 @@ use Rattle.std.proofs.lemmas.Map.Text.{is_eq-slice_cmp}
 use Rattle.json_decimal.specs.Number.{Number}
 use Rattle.json_tree.specs.Values.{Json, null, Members, no_members, member}
 use Rattle.twin_patch.specs.Objects.{value_under, with_member, without_member}
-use Rattle.twin_patch.specs.Machinery.Orders.{compared, IsBefore, AreInOrder, KeysRise, is_before, rises, IsFoundAt, put_at}
+use Rattle.twin_patch.specs.Machinery.Orders.{compared_keys, IsBeforeAll, AreInOrder, KeysRise, is_before_all, rises, IsFoundAt, put_at}
 use Rattle.twin_patch.specs.Machinery.Drafts.{put_entry, overlaid}
 use Rattle.twin_patch.proofs.Found.{turned_back}
 use Rattle.twin_patch.proofs.Ordered.{before_with, before_later, before_without}
@@ -33,15 +33,15 @@ less_by Less h = refl
 less_by Equal h = absurd cc
 less_by Greater h = absurd cc
 
-before_by : (k : List ℕ) (ms : Members Number) → is_before k ms ≡ true → IsBefore k ms
+before_by : (k : List ℕ) (ms : Members Number) → is_before_all k ms ≡ true → IsBeforeAll k ms
 before_by k no_members h = tt
-before_by k (member q w ms) h = let p = both_true (is_lt (compared k q)) (is_before k ms) h in (less_by (compared k q) p.0, before_by k ms p.1)
+before_by k (member q w ms) h = let p = both_true (is_lt (compared_keys k q)) (is_before_all k ms) h in (less_by (compared_keys k q) p.0, before_by k ms p.1)
 
 pub rise_by : (ms : Members Number) → rises ms ≡ true → KeysRise ms
 rise_by no_members h = tt
-rise_by (member k v ms) h = let p = both_true (is_before k ms) (rises ms) h in (before_by k ms p.0, rise_by ms p.1)
+rise_by (member k v ms) h = let p = both_true (is_before_all k ms) (rises ms) h in (before_by k ms p.0, rise_by ms p.1)
 
-before_test : (k : List ℕ) (ms : Members Number) → IsBefore k ms → is_before k ms ≡ true
+before_test : (k : List ℕ) (ms : Members Number) → IsBeforeAll k ms → is_before_all k ms ≡ true
 before_test k no_members h = refl
 before_test k (member q w ms) h = rw (h.0, before_test k ms h.1) refl
 
@@ -49,7 +49,7 @@ pub rise_test : (ms : Members Number) → KeysRise ms → rises ms ≡ true
 rise_test no_members h = refl
 rise_test (member k v ms) h = rw (before_test k ms h.0, rise_test ms h.1) refl
 
-before_put : (k : List ℕ) (ms : Members Number) (at : ℕ) (v : Json) → IsBefore k ms → IsBefore k (put_at at v ms)
+before_put : (k : List ℕ) (ms : Members Number) (at : ℕ) (v : Json) → IsBeforeAll k ms → IsBeforeAll k (put_at at v ms)
 before_put k no_members at v h = tt
 before_put k (member q w ms) zero v h = h
 before_put k (member q w ms) (suc at) v h = (h.0, before_put k ms at v h.1)
@@ -61,8 +61,8 @@ rise_put (member k w ms) (suc at) v o = (before_put k ms at v o.0, rise_put ms a
 
 rise_with : (key : List ℕ) (v : Json) (ms : Members Number) → KeysRise ms → KeysRise (with_member key v ms)
 rise_with key v no_members o = (tt, tt)
-rise_with key v (member k w ms) o = step (compared key k) refl (rise_with key v ms o.1) where
-  step : (r : Ordering) → compared key k ≡ r → KeysRise (with_member key v ms) → KeysRise (match_ordering r (member key v (member k w ms)) (member k v ms) (member k w (with_member key v ms)))
+rise_with key v (member k w ms) o = step (compared_keys key k) refl (rise_with key v ms o.1) where
+  step : (r : Ordering) → compared_keys key k ≡ r → KeysRise (with_member key v ms) → KeysRise (match_ordering r (member key v (member k w ms)) (member k v ms) (member k w (with_member key v ms)))
   step Less e behind = ((e, before_later key k ms e o.0), o)
   step Equal e behind = o
   step Greater e behind = (before_with k key v ms (turned_back key k e) o.0, behind)
@@ -98,10 +98,10 @@ again : (b : Bool) (x y rest : Option Json) → cond b x (cond b y rest) ≡ con
 again true x y rest = refl
 again false x y rest = refl
 
-pub same_by : (a b : List ℕ) → compared a b ≡ Equal → a ≡ b
+pub same_by : (a b : List ℕ) → compared_keys a b ≡ Equal → a ≡ b
 same_by a b e = equal a b (sym (is_eq-slice_cmp a b) ∙ ap is_eq e)
 
-apart : (a b : List ℕ) → compared a b ≡ Greater → a ≡ b → ⊥
+apart : (a b : List ℕ) → compared_keys a b ≡ Greater → a ≡ b → ⊥
 apart a b e same = let f : Equal ≡ Greater = sym (equal_keys a b same) ∙ e in absurd cc
 
 unlike : (a b : List ℕ) → bytes_eq a b ≡ false → b ≡ a → ⊥
@@ -113,8 +113,8 @@ overwritten key k q x y rest same = sym (again (bytes_eq k key) x y rest) ∙ ap
 
 with_under : (key k : List ℕ) (v : Json) (ms : Members Number) → value_under key (with_member k v ms) ≡ cond (bytes_eq k key) (Some v) (value_under key ms)
 with_under key k v no_members = refl
-with_under key k v (member q w ms) = step (compared k q) refl (with_under key k v ms) where
-  step : (o : Ordering) → compared k q ≡ o → value_under key (with_member k v ms) ≡ cond (bytes_eq k key) (Some v) (value_under key ms)
+with_under key k v (member q w ms) = step (compared_keys k q) refl (with_under key k v ms) where
+  step : (o : Ordering) → compared_keys k q ≡ o → value_under key (with_member k v ms) ≡ cond (bytes_eq k key) (Some v) (value_under key ms)
       → value_under key (match_ordering o (member k v (member q w ms)) (member q v ms) (member q w (with_member k v ms))) ≡ cond (bytes_eq k key) (Some v) (cond (bytes_eq q key) (Some w) (value_under key ms))
   step Less e behind = refl
   step Equal e behind =
@@ -133,7 +133,7 @@ without_under : (key k : List ℕ) (ms : Members Number) → KeysRise ms → val
 without_under key k no_members o = nothing (bytes_eq k key)
 without_under key k (member q w ms) o = step (bytes_eq q k) refl (without_under key k ms o.1) where
   gone : (b : Bool) → bytes_eq k key ≡ b → q ≡ k → value_under key ms ≡ cond b None (cond b (Some w) (value_under key ms))
-  gone true e same = none_before ms key (subst (λ p. IsBefore p ms) (same ∙ equal k key e) o.0)
+  gone true e same = none_before ms key (subst (λ p. IsBeforeAll p ms) (same ∙ equal k key e) o.0)
   gone false e same = refl
 
   step : (b : Bool) → bytes_eq q k ≡ b → value_under key (without_member k ms) ≡ cond (bytes_eq k key) None (value_under key ms)
@@ -161,11 +161,11 @@ none_left (member k v ms) h = absurd (some_value v (sym (own k v ms) ∙ h k))
 pub same_members : (ms ns : Members Number) → KeysRise ms → KeysRise ns → ((key : List ℕ) → value_under key ms ≡ value_under key ns) → ms ≡ ns
 same_members no_members ns o p h = sym (none_left ns (λ key. sym (h key)))
 same_members (member k v ms) no_members o p h = none_left (member k v ms) h
-same_members (member k v ms) (member q w ns) o p h = step (compared k q) refl (same_members ms ns o.1 p.1) where
+same_members (member k v ms) (member q w ns) o p h = step (compared_keys k q) refl (same_members ms ns o.1 p.1) where
   behind : (key : List ℕ) (b : Bool) → bytes_eq k key ≡ b → k ≡ q → cond b (Some v) (value_under key ms) ≡ cond b (Some w) (value_under key ns) → value_under key ms ≡ value_under key ns
   behind key true e same f =
       let is = equal k key e in
-      none_before ms key (subst (λ x. IsBefore x ms) is o.0) ∙ sym (none_before ns key (subst (λ x. IsBefore x ns) (sym same ∙ is) p.0))
+      none_before ms key (subst (λ x. IsBeforeAll x ms) is o.0) ∙ sym (none_before ns key (subst (λ x. IsBeforeAll x ns) (sym same ∙ is) p.0))
   behind key false e same f = f
 
   tests : (key : List ℕ) → k ≡ q → cond (bytes_eq k key) (Some v) (value_under key ms) ≡ cond (bytes_eq k key) (Some w) (value_under key ns)
@@ -175,7 +175,7 @@ same_members (member k v ms) (member q w ns) o p h = step (compared k q) refl (s
   value same =
       let f : Some v ≡ Some w = sym (own k v ms) ∙ h k ∙ ap (λ (x : List ℕ). value_under x (member q w ns)) same ∙ own q w ns in cc
 
-  step : (r : Ordering) → compared k q ≡ r → (((key : List ℕ) → value_under key ms ≡ value_under key ns) → ms ≡ ns) → member k v ms ≡ member q w ns
+  step : (r : Ordering) → compared_keys k q ≡ r → (((key : List ℕ) → value_under key ms ≡ value_under key ns) → ms ≡ ns) → member k v ms ≡ member q w ns
   step Less e more = absurd (some_value v (sym (own k v ms) ∙ h k ∙ none_before (member q w ns) k (e, before_later k q ns e p.0)))
   step Greater e more =
       let back = turned_back k q e in
@@ -187,14 +187,14 @@ same_members (member k v ms) (member q w ns) o p h = step (compared k q) refl (s
 
 -- one change more
 inserted_under : {X : Type 0} (f : X → Option Json) (key k : List ℕ) (x : X) (es : List (List ℕ × X)) (ms : Members Number) → KeysRise ms
-    → value_under key (overlaid f (insert_entry compared es k x) ms) ≡ cond (bytes_eq k key) (f x) (value_under key (overlaid f es ms))
+    → value_under key (overlaid f (insert_entry compared_keys es k x) ms) ≡ cond (bytes_eq k key) (f x) (value_under key (overlaid f es ms))
 inserted_under f key k x [] ms o = entry_under key k (f x) ms o
-inserted_under {X} f key k x (e ∷ es) ms o = step (compared k e.0) refl (inserted_under f key k x es ms o) where
+inserted_under {X} f key k x (e ∷ es) ms o = step (compared_keys k e.0) refl (inserted_under f key k x es ms o) where
   all : value_under key (overlaid f (e ∷ es) ms) ≡ cond (bytes_eq e.0 key) (f e.1) (value_under key (overlaid f es ms))
   all = entry_under key e.0 (f e.1) (overlaid f es ms) (overlay_rise f es ms o)
 
-  step : (r : Ordering) → compared k e.0 ≡ r → value_under key (overlaid f (insert_entry compared es k x) ms) ≡ cond (bytes_eq k key) (f x) (value_under key (overlaid f es ms))
-      → value_under key (overlaid f (match_ordering r ((k, x) ∷ e ∷ es) ((e.0, x) ∷ es) (e ∷ insert_entry compared es k x)) ms) ≡ cond (bytes_eq k key) (f x) (value_under key (overlaid f (e ∷ es) ms))
+  step : (r : Ordering) → compared_keys k e.0 ≡ r → value_under key (overlaid f (insert_entry compared_keys es k x) ms) ≡ cond (bytes_eq k key) (f x) (value_under key (overlaid f es ms))
+      → value_under key (overlaid f (match_ordering r ((k, x) ∷ e ∷ es) ((e.0, x) ∷ es) (e ∷ insert_entry compared_keys es k x)) ms) ≡ cond (bytes_eq k key) (f x) (value_under key (overlaid f (e ∷ es) ms))
   step Less is later = entry_under key k (f x) (overlaid f (e ∷ es) ms) (overlay_rise f (e ∷ es) ms o)
   step Equal is later =
       let same = same_by k e.0 is in
@@ -202,15 +202,15 @@ inserted_under {X} f key k x (e ∷ es) ms o = step (compared k e.0) refl (inser
       ∙ ap (λ (p : List ℕ). cond (bytes_eq p key) (f x) (value_under key (overlaid f es ms))) (sym same)
       ∙ overwritten key k e.0 (f x) (f e.1) (value_under key (overlaid f es ms)) same ∙ ap (λ rest. cond (bytes_eq k key) (f x) rest) (sym all)
   step Greater is later =
-      entry_under key e.0 (f e.1) (overlaid f (insert_entry compared es k x) ms) (overlay_rise f (insert_entry compared es k x) ms o)
+      entry_under key e.0 (f e.1) (overlaid f (insert_entry compared_keys es k x) ms) (overlay_rise f (insert_entry compared_keys es k x) ms o)
       ∙ ap (λ rest. cond (bytes_eq e.0 key) (f e.1) rest) later ∙ swap k e.0 key (f x) (f e.1) (value_under key (overlaid f es ms)) (apart k e.0 is)
       ∙ ap (λ rest. cond (bytes_eq k key) (f x) rest) (sym all)
 
 pub inserted_entry : {X : Type 0} (f : X → Option Json) (k : List ℕ) (x : X) (es : List (List ℕ × X)) (ms : Members Number) → KeysRise ms
-    → overlaid f (insert_entry compared es k x) ms ≡ put_entry k (f x) (overlaid f es ms)
+    → overlaid f (insert_entry compared_keys es k x) ms ≡ put_entry k (f x) (overlaid f es ms)
 inserted_entry f k x es ms o =
     let rise = overlay_rise f es ms o in
-    same_members _ _ (overlay_rise f (insert_entry compared es k x) ms o) (rise_entry k (f x) (overlaid f es ms) rise)
+    same_members _ _ (overlay_rise f (insert_entry compared_keys es k x) ms o) (rise_entry k (f x) (overlaid f es ms) rise)
     (λ key. inserted_under f key k x es ms o ∙ sym (entry_under key k (f x) (overlaid f es ms) rise))
 
 -- members that differ under one key alone are the same once that key is set
@@ -229,25 +229,25 @@ base_under f key (e ∷ es) ms ns o p h =
     ∙ sym (entry_under key e.0 (f e.1) (overlaid f es ns) (overlay_rise f es ns p))
 
 removed_under : {X : Type 0} (f : X → Option Json) (key k : List ℕ) (es : List (List ℕ × X)) (ms : Members Number) → KeysRise ms → bytes_eq k key ≡ false
-    → value_under key (overlaid f (remove_entry (is_at (compared k)) es) ms) ≡ value_under key (overlaid f es ms)
+    → value_under key (overlaid f (remove_entry (is_at (compared_keys k)) es) ms) ≡ value_under key (overlaid f es ms)
 removed_under f key k [] ms o h = refl
-removed_under f key k (e ∷ es) ms o h = step (is_at (compared k) e.0) refl (removed_under f key k es ms o h) where
+removed_under f key k (e ∷ es) ms o h = step (is_at (compared_keys k) e.0) refl (removed_under f key k es ms o h) where
   all : value_under key (overlaid f (e ∷ es) ms) ≡ cond (bytes_eq e.0 key) (f e.1) (value_under key (overlaid f es ms))
   all = entry_under key e.0 (f e.1) (overlaid f es ms) (overlay_rise f es ms o)
 
-  step : (b : Bool) → is_at (compared k) e.0 ≡ b → value_under key (overlaid f (remove_entry (is_at (compared k)) es) ms) ≡ value_under key (overlaid f es ms)
-      → value_under key (overlaid f (cond b es (e ∷ remove_entry (is_at (compared k)) es)) ms) ≡ value_under key (overlaid f (e ∷ es) ms)
+  step : (b : Bool) → is_at (compared_keys k) e.0 ≡ b → value_under key (overlaid f (remove_entry (is_at (compared_keys k)) es) ms) ≡ value_under key (overlaid f es ms)
+      → value_under key (overlaid f (cond b es (e ∷ remove_entry (is_at (compared_keys k)) es)) ms) ≡ value_under key (overlaid f (e ∷ es) ms)
   step true is later =
       let same = equal k e.0 (sym (is_eq-slice_cmp k e.0) ∙ is) in
       sym (all ∙ ap (λ b. cond b (f e.1) (value_under key (overlaid f es ms))) (ap (λ (p : List ℕ). bytes_eq p key) (sym same) ∙ h))
   step false is later =
-      entry_under key e.0 (f e.1) (overlaid f (remove_entry (is_at (compared k)) es) ms) (overlay_rise f (remove_entry (is_at (compared k)) es) ms o)
+      entry_under key e.0 (f e.1) (overlaid f (remove_entry (is_at (compared_keys k)) es) ms) (overlay_rise f (remove_entry (is_at (compared_keys k)) es) ms o)
       ∙ ap (λ rest. cond (bytes_eq e.0 key) (f e.1) rest) later ∙ sym all
 
 pub set_after_removal : {X : Type 0} (f : X → Option Json) (k : List ℕ) (v : Json) (es : List (List ℕ × X)) (ms : Members Number) → KeysRise ms
-    → with_member k v (overlaid f (remove_entry (is_at (compared k)) es) ms) ≡ with_member k v (overlaid f es ms)
+    → with_member k v (overlaid f (remove_entry (is_at (compared_keys k)) es) ms) ≡ with_member k v (overlaid f es ms)
 set_after_removal f k v es ms o =
-    set_same k v _ _ (overlay_rise f (remove_entry (is_at (compared k)) es) ms o) (overlay_rise f es ms o) (λ key h. removed_under f key k es ms o h)
+    set_same k v _ _ (overlay_rise f (remove_entry (is_at (compared_keys k)) es) ms o) (overlay_rise f es ms o) (λ key h. removed_under f key k es ms o h)
 
 pub set_after_base : {X : Type 0} (f : X → Option Json) (k : List ℕ) (v : Json) (es : List (List ℕ × X)) (ms ns : Members Number) → KeysRise ms → KeysRise ns
     → ((key : List ℕ) → bytes_eq k key ≡ false → value_under key ms ≡ value_under key ns) → with_member k v (overlaid f es ms) ≡ with_member k v (overlaid f es ns)
@@ -272,13 +272,13 @@ either_way a b = step (bytes_eq a b) (bytes_eq b a) refl refl where
   step false true e f = sym e ∙ same_test b a (equal b a f)
 
 pub looked_up : {X : Type 0} (f : X → Option Json) (key : List ℕ) (es : List (List ℕ × X)) (ms : Members Number) → KeysRise ms
-    → value_under key (overlaid f es ms) ≡ found_or f (lookup (is_at (compared key)) es) (value_under key ms)
+    → value_under key (overlaid f es ms) ≡ found_or f (lookup (is_at (compared_keys key)) es) (value_under key ms)
 looked_up f key [] ms o = refl
 looked_up f key (e ∷ es) ms o =
     entry_under key e.0 (f e.1) (overlaid f es ms) (overlay_rise f es ms o)
     ∙ ap (λ b. cond b (f e.1) (value_under key (overlaid f es ms))) (either_way e.0 key ∙ sym (is_eq-slice_cmp key e.0))
-    ∙ step (is_at (compared key) e.0) (looked_up f key es ms o) where
-      step : (b : Bool) → value_under key (overlaid f es ms) ≡ found_or f (lookup (is_at (compared key)) es) (value_under key ms)
-          → cond b (f e.1) (value_under key (overlaid f es ms)) ≡ found_or f (cond b (Some e.1) (lookup (is_at (compared key)) es)) (value_under key ms)
+    ∙ step (is_at (compared_keys key) e.0) (looked_up f key es ms o) where
+      step : (b : Bool) → value_under key (overlaid f es ms) ≡ found_or f (lookup (is_at (compared_keys key)) es) (value_under key ms)
+          → cond b (f e.1) (value_under key (overlaid f es ms)) ≡ found_or f (cond b (Some e.1) (lookup (is_at (compared_keys key)) es)) (value_under key ms)
       step true later = refl
       step false later = later

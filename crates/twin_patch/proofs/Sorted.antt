@@ -15,25 +15,25 @@ use Rattle.json_decimal.specs.Number.{Number}
 use Rattle.json_tree.specs.Values.{Json, null, truth, number, text, array, object, Elements, no_elements, element, Members, no_members, member, members_of, LacksKey, HasDistinctKeys, ElementsHaveDistinctKeys, MembersHaveDistinctKeys}
 use Rattle.json_tree.specs.Sorting.{IsSortedOf, ElementsAreSortedOf, MembersAreSortedOf}
 use Rattle.twin_patch.specs.Objects.{with_member, sorted_value, sorted_elements, sorted_members}
-use Rattle.twin_patch.specs.Machinery.Orders.{compared, IsBefore, AreInOrder}
+use Rattle.twin_patch.specs.Machinery.Orders.{compared_keys, IsBeforeAll, AreInOrder}
 use Rattle.twin_patch.proofs.Ordered.{members_order}
 use Rattle.twin_patch.proofs.Moved.{Pair, gathered, moved_are, equal}
 
 -- one member more in the list is one more in the map
-inserted : (key : List ℕ) (v : Json) (es : List Pair) → with_member key v (members_of es) ≡ members_of (insert_entry compared es key v)
+inserted : (key : List ℕ) (v : Json) (es : List Pair) → with_member key v (members_of es) ≡ members_of (insert_entry compared_keys es key v)
 inserted key v [] = refl
-inserted key v (e ∷ es) = step (compared key e.0) (inserted key v es) where
-  step : (o : Ordering) → with_member key v (members_of es) ≡ members_of (insert_entry compared es key v) → match_ordering o (member key v (member e.0 e.1 (members_of es))) (member e.0 v (members_of es)) (member e.0 e.1 (with_member key v (members_of es)))
-      ≡ members_of (match_ordering o ((key, v) ∷ e ∷ es) ((e.0, v) ∷ es) (e ∷ insert_entry compared es key v))
+inserted key v (e ∷ es) = step (compared_keys key e.0) (inserted key v es) where
+  step : (o : Ordering) → with_member key v (members_of es) ≡ members_of (insert_entry compared_keys es key v) → match_ordering o (member key v (member e.0 e.1 (members_of es))) (member e.0 v (members_of es)) (member e.0 e.1 (with_member key v (members_of es)))
+      ≡ members_of (match_ordering o ((key, v) ∷ e ∷ es) ((e.0, v) ∷ es) (e ∷ insert_entry compared_keys es key v))
   step Less behind = refl
   step Equal behind = refl
   step Greater behind = ap (λ rest. member e.0 e.1 rest) behind
 
-keys_before : (k : List ℕ) (es : List Pair) → IsBefore k (members_of es) → AllByRecursion (λ y. compared k y ≡ Less) (keys_of es)
+keys_before : (k : List ℕ) (es : List Pair) → IsBeforeAll k (members_of es) → AllByRecursion (λ y. compared_keys k y ≡ Less) (keys_of es)
 keys_before k [] h = tt
 keys_before k (e ∷ es) h = (h.0, keys_before k es h.1)
 
-strictly : (es : List Pair) → AreInOrder (members_of es) → IsStrictlySortedBy compared (keys_of es)
+strictly : (es : List Pair) → AreInOrder (members_of es) → IsStrictlySortedBy compared_keys (keys_of es)
 unfolding IsStrictlySortedBy
 strictly [] o = tt
 strictly (e ∷ es) o = (keys_before e.0 es o.0, strictly es o.2)

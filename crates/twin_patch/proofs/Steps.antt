@@ -12,7 +12,7 @@ use Rattle.json_tree.specs.declared.tree.Member.{Member}
 use Rattle.json_tree.proofs.Views.{view-Members}
 use Rattle.twin_patch.specs.Objects.{value_under, with_member}
 use Rattle.twin_patch.specs.Operations.{Change, Operation, change_of, operation_of, operations_of, BringsDistinctKeys}
-use Rattle.twin_patch.specs.Patched.{edited, changed, applied, applied_at, go_on, patched_from}
+use Rattle.twin_patch.specs.Patched.{edited, changed_value, applied, applied_at, go_on, patched_from}
 use Rattle.twin_patch.specs.declared.patch.Op.{Op}
 use Rattle.twin_patch.specs.Machinery.Orders.{IsInOrder, AreInOrder, IsFoundAt, IsMissingAt, put_at}
 use Rattle.twin_patch.proofs.Edits.{value_found}

@@ -18,20 +18,20 @@ edited remove key ms = option_map (λ old. without_member key ms) (value_under k
 
 -- A value after a change at the path that begins with this key: each key but the last leads to a member that is there,
 -- and the change is made in an object.
-abbrev pub changed : Change → List ℕ → List (List ℕ) → Json → Option Json
-changed change key [] (object ms) = option_map object (edited change key ms)
-changed change key (next ∷ keys) (object ms) =
-    option_and_then (λ part. option_map (λ new. object (with_member key new ms)) (changed change next keys part)) (value_under key ms)
-changed change key keys null = None
-changed change key keys (truth b) = None
-changed change key keys (number n) = None
-changed change key keys (text bytes) = None
-changed change key keys (array vs) = None
+abbrev pub changed_value : Change → List ℕ → List (List ℕ) → Json → Option Json
+changed_value change key [] (object ms) = option_map object (edited change key ms)
+changed_value change key (next ∷ keys) (object ms) =
+    option_and_then (λ part. option_map (λ new. object (with_member key new ms)) (changed_value change next keys part)) (value_under key ms)
+changed_value change key keys null = None
+changed_value change key keys (truth b) = None
+changed_value change key keys (number n) = None
+changed_value change key keys (text bytes) = None
+changed_value change key keys (array vs) = None
 
 -- A value after an operation; None where its need is not met. A path without parts ends at no member.
 abbrev pub applied_at : Change → List (List ℕ) → Json → Option Json
 applied_at change [] v = None
-applied_at change (key ∷ keys) v = changed change key keys v
+applied_at change (key ∷ keys) v = changed_value change key keys v
 
 abbrev pub applied : Operation → Json → Option Json
 applied o v = applied_at o.change o.path v

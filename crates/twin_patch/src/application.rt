@@ -6,7 +6,7 @@ ghost use Rattle.json_tree.specs.Values.{Json, object, HasDistinctKeys};
 ghost use Rattle.json_tree.specs.View.{view};
 ghost use Rattle.twin_patch.specs.Objects.{with_member, sorted_value};
 ghost use Rattle.twin_patch.specs.Operations.{replace, remove, change_of, operation_of, operations_of, BringsDistinctKeys};
-ghost use Rattle.twin_patch.specs.Patched.{edited, changed, applied, patched, patched_from, GivesPatched};
+ghost use Rattle.twin_patch.specs.Patched.{edited, changed_value, applied, patched, patched_from, GivesPatched};
 ghost use Rattle.twin_patch.specs.declared.application.ApplyEnd.TheVariants as ends;
 ghost use Rattle.twin_patch.specs.Machinery.Orders.{IsInOrder, AreInOrder};
 ghost use Rattle.twin_patch.specs.Machinery.Drafts.{draft_view, both};
@@ -124,7 +124,7 @@ fn changed(
 ) -> Result<Draft, OutOfMemory>
     requires order { IfSome (draft_view draft) IsInOrder }
     requires distinct { BringsDistinctKeys (change_of kind.now) }
-    ensures { IfOk result (λ d. draft_view d ≡ option_and_then (changed (change_of kind.now) key.now rest.now) (draft_view draft)) }
+    ensures { IfOk result (λ d. draft_view d ≡ option_and_then (changed_value (change_of kind.now) key.now rest.now) (draft_view draft)) }
 {
     match draft {
         Draft::Absent => Ok(Draft::Absent),
@@ -144,7 +144,7 @@ fn changed_tree(
 ) -> Result<Draft, OutOfMemory>
     requires order { IsInOrder (view tree) }
     requires distinct { BringsDistinctKeys (change_of kind.now) }
-    ensures { IfOk result (λ d. draft_view d ≡ changed (change_of kind.now) key.now rest.now (view tree)) }
+    ensures { IfOk result (λ d. draft_view d ≡ changed_value (change_of kind.now) key.now rest.now (view tree)) }
 {
     match tree {
         Tree::Members(members) => {
@@ -171,7 +171,7 @@ fn changed_object(
 ) -> Result<Draft, OutOfMemory>
     requires order { AreInOrder (both base edits) }
     requires distinct { BringsDistinctKeys (change_of kind.now) }
-    ensures { IfOk result (λ d. draft_view d ≡ changed (change_of kind.now) key.now rest.now (object (both base edits))) }
+    ensures { IfOk result (λ d. draft_view d ≡ changed_value (change_of kind.now) key.now rest.now (object (both base edits))) }
 {
     match rest.split_first() {
         None => edited(alloc, base, edits, key, kind),
@@ -192,7 +192,7 @@ fn changed_below(
 ) -> Result<Draft, OutOfMemory>
     requires order { AreInOrder (both base edits) }
     requires distinct { BringsDistinctKeys (change_of kind.now) }
-    ensures { IfOk result (λ d. draft_view d ≡ changed (change_of kind.now) key.now (next.now ∷ rest.now) (object (both base edits))) }
+    ensures { IfOk result (λ d. draft_view d ≡ changed_value (change_of kind.now) key.now (next.now ∷ rest.now) (object (both base edits))) }
 {
     let (base, part) = taken(base, &mut edits, key);
     let part = changed(alloc, part, next, rest, kind)?;

@@ -6,7 +6,7 @@ ghost use Rattle.json_tree.specs.Values.{text, object};
 ghost use Rattle.json_tree.specs.View.{view, members_view};
 ghost use Rattle.twin_patch.specs.Objects.{value_under};
 ghost use Rattle.twin_patch.specs.Operations.{Change, change_of};
-ghost use Rattle.twin_patch.specs.Reading.{HasWord, HasPath, HasValue, IsProtected, BeginsWithDollar, IsModelMove, Judges, word_of};
+ghost use Rattle.twin_patch.specs.Reading.{HasWord, HasPath, HasValue, IsProtected, BeginsWithDollar, IsModelMove, AnswersEntry, change_word};
 ghost use Rattle.twin_patch.specs.declared.word.Word.{Word};
 ghost use Rattle.twin_patch.specs.declared.entry.OpEnd.TheVariants as ends;
 
@@ -105,8 +105,8 @@ fn path_in(alloc: Global, members: &[Member]) -> Result<Option<Vec<Text>>, OutOf
 /// What an operation with this word does, with a copy of its value.
 fn kind_in(alloc: Global, members: &[Member], word: Word) -> Result<Option<OpKind>, OutOfMemory>
     ensures { IfOk result (λ found. MatchOption found
-        ((change : Change) → word ≡ word_of change → HasValue (object (members_view members.now)) change → ⊥)
-        (λ kind. (word ≡ word_of (change_of kind)) × HasValue (object (members_view members.now)) (change_of kind))) }
+        ((change : Change) → word ≡ change_word change → HasValue (object (members_view members.now)) change → ⊥)
+        (λ kind. (word ≡ change_word (change_of kind)) × HasValue (object (members_view members.now)) (change_of kind))) }
 {
     if word == Word::Remove {
         return Ok(Some(OpKind::Remove));
@@ -181,7 +181,7 @@ fn is_protected(of: PatchOf, word: Word, path: &[Text]) -> bool
 
 /// The operation that an object is.
 fn object_op(alloc: Global, members: &[Member], of: PatchOf) -> Result<Op, OpEnd>
-    ensures { Judges of (object (members_view members.now)) result }
+    ensures { AnswersEntry of (object (members_view members.now)) result }
 {
     let Some(word) = word_in(members) else {
         return Err(OpEnd::Code(PatchCode::BadOp));
@@ -203,7 +203,7 @@ fn object_op(alloc: Global, members: &[Member], of: PatchOf) -> Result<Op, OpEnd
 
 /// The operation that an entry of a patch is.
 pub fn read_op(alloc: Global, entry: &Tree, of: PatchOf) -> Result<Op, OpEnd>
-    ensures { Judges of (view entry.now) result }
+    ensures { AnswersEntry of (view entry.now) result }
 {
     match entry {
         Tree::Members(members) => object_op(alloc, members.as_slice(), of),

@@ -5,7 +5,7 @@ ghost use Rattle.json_tree.specs.Sorting.{IsSortedOf};
 ghost use Rattle.json_tree.specs.Values.{Json, HasDistinctKeys};
 ghost use Rattle.twin_patch.specs.Operations.{Operation};
 ghost use Rattle.twin_patch.specs.Patched.{patched};
-ghost use Rattle.twin_patch.specs.Reading.{IsPatch, IsFault};
+ghost use Rattle.twin_patch.specs.Reading.{IsPatch, IsPatchFault};
 ghost use Rattle.twin_patch.specs.declared.code.PatchCode.{PatchCode};
 ghost use Rattle.twin_patch.specs.declared.entry.PatchOf.{PatchOf};
 
@@ -18,6 +18,6 @@ pub fn order_of_members()
 /// A value is a patch of one list of operations at most, has one fault at most, and never both.
 pub fn one_answer()
     ensures patch { (of : PatchOf) (v : Json) (os ps : List Operation) → IsPatch of v os → IsPatch of v ps → os ≡ ps }
-    ensures fault { (of : PatchOf) (v : Json) (i j : ℕ) (c d : PatchCode) → IsFault of v i c → IsFault of v j d → (i ≡ j) × (c ≡ d) }
-    ensures either { (of : PatchOf) (v : Json) (os : List Operation) (i : ℕ) (c : PatchCode) → IsPatch of v os → IsFault of v i c → ⊥ }
+    ensures fault { (of : PatchOf) (v : Json) (i j : ℕ) (c d : PatchCode) → IsPatchFault of v i c → IsPatchFault of v j d → (i ≡ j) × (c ≡ d) }
+    ensures either { (of : PatchOf) (v : Json) (os : List Operation) (i : ℕ) (c : PatchCode) → IsPatch of v os → IsPatchFault of v i c → ⊥ }
 {}

@@ -5,8 +5,8 @@ ghost use Rattle.json_tree.specs.Values.{Json, Members, object};
 ghost use Rattle.json_decimal.specs.Number.{Number};
 ghost use Rattle.json_tree.specs.View.{view, members_view};
 ghost use Rattle.twin_patch.specs.declared.draft.Draft.{Draft};
-ghost use Rattle.twin_patch.specs.Machinery.Orders.{IsBefore, KeysRise};
-ghost use Rattle.twin_patch.specs.Machinery.Drafts.{overlaid, draft_view, both, behind, front, IsFrontBefore, IsFrontAt, IsPast, AreAfter};
+ghost use Rattle.twin_patch.specs.Machinery.Orders.{IsBeforeAll, KeysRise};
+ghost use Rattle.twin_patch.specs.Machinery.Drafts.{overlaid, draft_view, both, members_behind, front, IsFrontBefore, IsFrontAt, IsPast, AreAfter};
 
 use crate::base::Base;
 use crate::draft::Draft;
@@ -46,7 +46,7 @@ fn pass(
     ensures rise { KeysRise (members_view members.new.items) }
     ensures past { OnOk result (IsPast key.now (members_view members.new.items)) }
     ensures same { OnOk result ((x : Draft) (more : List (List ℕ × Draft)) → AreAfter key.now more
-        → behind out.new.items (overlaid draft_view ((key.now, x) ∷ more) (members_view members.new.items)) ≡ behind out.old.items (overlaid draft_view ((key.now, x) ∷ more) (members_view members.old.items))) }
+        → members_behind out.new.items (overlaid draft_view ((key.now, x) ∷ more) (members_view members.new.items)) ≡ members_behind out.old.items (overlaid draft_view ((key.now, x) ∷ more) (members_view members.old.items))) }
 {
     'moves: while is_front_before(members, key) {
         match members.pop_front() {
@@ -62,7 +62,7 @@ fn skip(members: &mut VecDeque<Member>, key: &Text)
     requires rise { KeysRise (members_view members.old.items) }
     requires past { IsPast key.now (members_view members.old.items) }
     ensures rise { KeysRise (members_view members.new.items) }
-    ensures before { IsBefore key.now (members_view members.new.items) }
+    ensures before { IsBeforeAll key.now (members_view members.new.items) }
     ensures same { (x : Draft) (more : List (List ℕ × Draft)) → AreAfter key.now more
         → overlaid draft_view ((key.now, x) ∷ more) (members_view members.old.items) ≡ front key.now (draft_view x) (overlaid draft_view more (members_view members.new.items)) }
 {
@@ -122,7 +122,7 @@ fn close_into(
     key: Text,
     entry: Draft,
 ) -> Result<(), OutOfMemory>
-    ensures { OnOk result ((ms : Members Number) → behind out.new.items ms ≡ behind out.old.items (front key (draft_view entry) ms)) }
+    ensures { OnOk result ((ms : Members Number) → members_behind out.new.items ms ≡ members_behind out.old.items (front key (draft_view entry) ms)) }
 {
     match entry {
         Draft::Absent => Ok(()),

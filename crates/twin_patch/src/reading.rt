@@ -5,7 +5,7 @@ ghost use Rattle.json_tree.specs.Values.{array, HasDistinctKeys};
 ghost use Rattle.json_tree.specs.View.{view, elements_view};
 ghost use Rattle.twin_patch.specs.Operations.{change_of, operations_of, BringsDistinctKeys};
 ghost use Rattle.twin_patch.specs.declared.patch.Op.{Op};
-ghost use Rattle.twin_patch.specs.Reading.{IsTruth, SetsTruth, IsMark, ReadsOps, Reads, end_at};
+ghost use Rattle.twin_patch.specs.Reading.{IsJsonTruth, SetsTruth, IsMark, ReadsOps, ReadsPatch, end_at};
 ghost use Rattle.twin_patch.specs.declared.reading.PatchEnd.TheVariants as ends;
 
 use crate::code::PatchCode;
@@ -88,7 +88,7 @@ fn sets_truth(kind: &OpKind) -> bool
 
 /// Whether a value is a truth value.
 fn is_truth(tree: &Tree) -> bool
-    ensures { IsTrue result ↔ IsTruth (view tree.now) }
+    ensures { IsTrue result ↔ IsJsonTruth (view tree.now) }
 {
     match tree {
         Tree::Bool(_) => true,
@@ -115,7 +115,7 @@ fn is_mark(ops: &[Op]) -> bool
 
 /// The patch that a list of entries is.
 fn list_patch(alloc: Global, entries: &[Tree], of: PatchOf) -> Result<Patch, PatchEnd>
-    ensures { Reads of (array (elements_view entries.now)) result }
+    ensures { ReadsPatch of (array (elements_view entries.now)) result }
 {
     let ops = read_ops(alloc, entries, of)?;
     if of == PatchOf::Model && !is_mark(ops.as_slice()) {
@@ -132,7 +132,7 @@ fn list_patch(alloc: Global, entries: &[Tree], of: PatchOf) -> Result<Patch, Pat
 /// `path` and `value` are ignored, and of equal keys the first counts. The values are copied.
 #[tactic(auto, using(crate::proofs::Distinct::patch_distinct))]
 pub fn read_patch(alloc: Global, tree: &Tree, of: PatchOf) -> Result<Patch, PatchEnd>
-    ensures reads { Reads of (view tree.now) result }
+    ensures reads { ReadsPatch of (view tree.now) result }
     // What `apply` asks of a patch holds of one that was read from a tree in which no object has two members of one key.
     ensures distinct { HasDistinctKeys (view tree.now) → IfOk result (λ patch. All (λ (op : Op). BringsDistinctKeys (change_of op.kind)) patch.ops) }
 {

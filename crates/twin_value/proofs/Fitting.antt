@@ -13,9 +13,9 @@ use Rattle.dtdl_terms.specs.declared.enumeration.EnumEntry.{EnumEntry}
 use Rattle.dtdl_terms.specs.declared.enumeration.EnumValue.{EnumValue}
 use Rattle.dtdl_terms.specs.declared.enumeration.EnumValue.TheVariants as values
 use Rattle.twin_value.specs.Named.{field_called}
-use Rattle.twin_value.specs.Fits.{standing, IsOf, IsPrimitive, IsEnumValue, IsAnyOf, element_schema, member_schema, field_schema, schema_of, FitsAny, ElementsFit, MembersFit}
-use Rattle.twin_value.specs.Roles.{Role, anything, undeclared, value, value_of, field_role, element_role, member_role, value_element_role, value_member_role}
-use Rattle.twin_value.specs.Breaches.{Breaks, HasPart, IsBreach}
+use Rattle.twin_value.specs.Fits.{standing, IsOf, IsOfPrimitive, EqualsEnumValue, IsAnyOf, element_schema, member_schema, field_schema, schema_of, FitsAny, ElementsFit, MembersFit}
+use Rattle.twin_value.specs.Roles.{Role, anything, undeclared, value, value_of, field_role, element_role, body_member_role, value_element_role, value_member_role}
+use Rattle.twin_value.specs.Breaches.{BreaksBody, HasBodyPart, IsBodyBreach}
 use Rattle.twin_value.specs.Machinery.Sound.{StandingFits, Sound, SoundAlone, ElementsSound, MembersSound}
 use Rattle.twin_value.specs.declared.code.BodyCode.{BodyCode}
 use Rattle.twin_value.specs.declared.code.BodyCode.TheVariants as code
@@ -29,7 +29,7 @@ any_fits ns s (text bytes) h = h
 any_fits ns s (array vs) h = h
 any_fits ns s (object ms) h = h
 
-primitive_array : (p : Primitive) (vs : Elements Number) → IsPrimitive p (array vs) → ⊥
+primitive_array : (p : Primitive) (vs : Elements Number) → IsOfPrimitive p (array vs) → ⊥
 primitive_array primitives.Boolean vs h = let e : false ≡ true = h in cc
 primitive_array primitives.Date vs h = h
 primitive_array primitives.DateTime vs h = h
@@ -41,7 +41,7 @@ primitive_array primitives.Long vs h = h
 primitive_array primitives.Str vs h = let e : false ≡ true = h in cc
 primitive_array primitives.Time vs h = h
 
-primitive_object : (p : Primitive) (ms : Members Number) → IsPrimitive p (object ms) → ⊥
+primitive_object : (p : Primitive) (ms : Members Number) → IsOfPrimitive p (object ms) → ⊥
 primitive_object primitives.Boolean ms h = let e : false ≡ true = h in cc
 primitive_object primitives.Date ms h = h
 primitive_object primitives.DateTime ms h = h
@@ -53,7 +53,7 @@ primitive_object primitives.Long ms h = h
 primitive_object primitives.Str ms h = let e : false ≡ true = h in cc
 primitive_object primitives.Time ms h = h
 
-enum_array : (e : EnumValue) (vs : Elements Number) → IsEnumValue e (array vs) → ⊥
+enum_array : (e : EnumValue) (vs : Elements Number) → EqualsEnumValue e (array vs) → ⊥
 enum_array (values.Number z) vs h = h
 enum_array (values.Word bytes) vs h = let e : None ≡ Some bytes = h in cc
 
@@ -62,7 +62,7 @@ any_array [] vs h = h
 any_array (e ∷ es) vs (inl h) = enum_array e.value vs h
 any_array (e ∷ es) vs (inr h) = any_array es vs h
 
-enum_object : (e : EnumValue) (ms : Members Number) → IsEnumValue e (object ms) → ⊥
+enum_object : (e : EnumValue) (ms : Members Number) → EqualsEnumValue e (object ms) → ⊥
 enum_object (values.Number z) ms h = h
 enum_object (values.Word bytes) ms h = let e : None ≡ Some bytes = h in cc
 
@@ -111,7 +111,7 @@ object_fits ns (Some (enumeration c of_text es)) ms is h = absurd (any_object es
 object_fits ns (Some (map_of c k v)) ms is h = map_fits ns (schema_of v) ms h
 object_fits ns (Some (object_of c fields)) ms is h = fields_fit ns fields ms h
 
-pub object_sound : (r : Role) (ms : Members Number) → SoundAlone r (object ms) → MembersSound (member_role r) ms → Sound r (object ms)
+pub object_sound : (r : Role) (ms : Members Number) → SoundAlone r (object ms) → MembersSound (body_member_role r) ms → Sound r (object ms)
 object_sound (value ns o) ms is h = (is, object_fits ns o ms is h)
 object_sound undeclared ms is h = is
 object_sound other ms is h = tt
@@ -126,7 +126,7 @@ members_more roles [] m h k = (k, tt)
 members_more roles (n ∷ ms) m h k = (h.0, members_more roles ms m h.1 k)
 
 -- ---- values that fit
-free_part : (v : Json) (i : ℕ) (s : Role) (part : Json) → HasPart anything v i s part → s ≡ anything
+free_part : (v : Json) (i : ℕ) (s : Role) (part : Json) → HasBodyPart anything v i s part → s ≡ anything
 free_part null i s part p = absurd p
 free_part (truth b) i s part p = absurd p
 free_part (number n) i s part p = absurd p
@@ -134,7 +134,7 @@ free_part (text bytes) i s part p = absurd p
 free_part (array vs) i s part p = sym p.1
 free_part (object ms) i s part p = sym p.2
 
-free_clear : (v : Json) (place : List ℕ) (broken : BodyCode) → IsBreach anything v place broken → ⊥
+free_clear : (v : Json) (place : List ℕ) (broken : BodyCode) → IsBodyBreach anything v place broken → ⊥
 free_clear v [] code.WrongKind b = b
 free_clear v [] code.MissingKey b = b
 free_clear v [] code.BadId b = b
@@ -142,7 +142,7 @@ free_clear v [] code.UnknownMember b = b
 free_clear v [] code.BadValue b = b
 free_clear v [] code.UnknownRelationship b = b
 free_clear v (i ∷ place) broken b =
-    free_clear b.1 place broken (subst (λ (r : Role). IsBreach r b.1 place broken) (free_part v i b.0 b.1 b.2) b.3)
+    free_clear b.1 place broken (subst (λ (r : Role). IsBodyBreach r b.1 place broken) (free_part v i b.0 b.1 b.2) b.3)
 
 alone_fits : (ns : List SchemaTerm) (s : SchemaTerm) (v : Json) → FitsAny ns (Some s) v → IsOf (standing ns s) v
 alone_fits ns s null h = h
@@ -152,7 +152,7 @@ alone_fits ns s (text bytes) h = h
 alone_fits ns s (array vs) h = h.0
 alone_fits ns s (object ms) h = h.0
 
-here_clear : (ns : List SchemaTerm) (o : Option SchemaTerm) (v : Json) (broken : BodyCode) → IsOf o v → Breaks broken (value ns o) v → ⊥
+here_clear : (ns : List SchemaTerm) (o : Option SchemaTerm) (v : Json) (broken : BodyCode) → IsOf o v → BreaksBody broken (value ns o) v → ⊥
 here_clear ns o v code.WrongKind is b = b
 here_clear ns o v code.MissingKey is b = b
 here_clear ns o v code.BadId is b = b
@@ -205,12 +205,12 @@ along ns o r t e (inr f) = inr (e ∙ f)
 
 part_clear : (place : List ℕ) (broken : BodyCode) (ns : List SchemaTerm) (o : Option SchemaTerm) (r : Role) (part : Json) → FitsAny ns o part
     → ((s : SchemaTerm) × (o ≡ Some s) × (r ≡ value_of ns s)) ⊎ (r ≡ anything)
-    → ((s : SchemaTerm) (v : Json) → FitsAny ns (Some s) v → IsBreach (value_of ns s) v place broken → ⊥) → IsBreach r part place broken → ⊥
+    → ((s : SchemaTerm) (v : Json) → FitsAny ns (Some s) v → IsBodyBreach (value_of ns s) v place broken → ⊥) → IsBodyBreach r part place broken → ⊥
 part_clear place broken ns o r part fit (inl (s, e, f)) hyp b =
-    hyp s part (subst (λ (p : Option SchemaTerm). FitsAny ns p part) e fit) (subst (λ (q : Role). IsBreach q part place broken) f b)
-part_clear place broken ns o r part fit (inr f) hyp b = free_clear part place broken (subst (λ (q : Role). IsBreach q part place broken) f b)
+    hyp s part (subst (λ (p : Option SchemaTerm). FitsAny ns p part) e fit) (subst (λ (q : Role). IsBodyBreach q part place broken) f b)
+part_clear place broken ns o r part fit (inr f) hyp b = free_clear part place broken (subst (λ (q : Role). IsBodyBreach q part place broken) f b)
 
-pub fits_clear : (place : List ℕ) (broken : BodyCode) (ns : List SchemaTerm) (s : SchemaTerm) (v : Json) → FitsAny ns (Some s) v → IsBreach (value_of ns s) v place broken → ⊥
+pub fits_clear : (place : List ℕ) (broken : BodyCode) (ns : List SchemaTerm) (s : SchemaTerm) (v : Json) → FitsAny ns (Some s) v → IsBodyBreach (value_of ns s) v place broken → ⊥
 fits_clear [] broken ns s v h b = here_clear ns (standing ns s) v broken (alone_fits ns s v h) b
 fits_clear (i ∷ place) broken ns s null h b = b.2
 fits_clear (i ∷ place) broken ns s (truth t) h b = b.2

@@ -4,7 +4,7 @@ use Rattle.std.specs.Prelude.{if◌then◌else◌}
 use Rattle.std.specs.List.Sorted.{IsPermutation, IsSortedBy}
 use Rattle.std.specs.Ordering.{is_lt, nat_cmp}
 use Rattle.std.specs.Cmp.Lexicographic.{slice_cmp}
-use Rattle.std.proofs.lemmas.List.{get_or-map, length-map}
+use Rattle.std.proofs.lemmas.List.{get_or-map, length-map, take_all}
 use Rattle.std.proofs.lemmas.List.Sorted.{IsPermutation-map}
 use Rattle.json_decimal.specs.Number.{Number}
 use Rattle.json_tree.specs.Values.{Json, text, object, Members, no_members, member}
@@ -14,21 +14,21 @@ use Rattle.json_tree.specs.declared.tree.Tree.{Tree}
 use Rattle.json_tree.specs.declared.tree.Tree as variants
 use Rattle.json_tree.specs.declared.tree.Member.{Member}
 use Rattle.json_tree.proofs.Views.{view-Members}
-use Rattle.twin_value.specs.Twins.{picked, joined}
-use Rattle.twin_value.specs.Machinery.Gathering.{Adds}
-use Rattle.twin_value.proofs.Enumerated.{take-more, take-whole}
+use Rattle.twin_value.specs.Twins.{picked, joined_members}
+use Rattle.twin_value.specs.Machinery.Gathering.{PutsBehind}
+use Rattle.twin_value.proofs.Enumerated.{take-more}
 
-joined_none : (ms : Members Number) → joined ms no_members ≡ ms
+joined_none : (ms : Members Number) → joined_members ms no_members ≡ ms
 joined_none no_members = refl
 joined_none (member key v ms) = ap (member key v) (joined_none ms)
 
-joined_more : (ms ns ls : Members Number) → joined (joined ms ns) ls ≡ joined ms (joined ns ls)
+joined_more : (ms ns ls : Members Number) → joined_members (joined_members ms ns) ls ≡ joined_members ms (joined_members ns ls)
 joined_more no_members ns ls = refl
 joined_more (member key v ms) ns ls = ap (member key v) (joined_more ms ns ls)
 
 -- one member more
 sorted_more : (ms : Members Number) (ns : List Member) (key : List ℕ) (v : Json) (n : Member) → MembersAreSortedOf ms (members_view ns) → n.key ≡ key → IsSortedOf v (view n.value)
-    → MembersAreSortedOf (joined ms (member key v no_members)) (members_view (ns ++ n ∷ []))
+    → MembersAreSortedOf (joined_members ms (member key v no_members)) (members_view (ns ++ n ∷ []))
 sorted_more no_members [] key v n h q k = (view n.value, no_members, k, refl, ap (λ (l : List ℕ). member l (view n.value) no_members) q)
 sorted_more no_members (x ∷ ns) key v n h q k = absurd (let f : member x.key (view x.value) (members_view ns) ≡ no_members = h in cc)
 sorted_more (member u w ms) [] key v n (x, xs, h, hs, same) q k = absurd (let f : no_members ≡ member u x xs = same in cc)
@@ -44,19 +44,19 @@ sorted_more (member u w ms) (y ∷ ns) key v n (x, xs, h, hs, same) q k =
       ap (λ (l : List ℕ). member l (view y.value) (members_view (ns ++ n ∷ []))) j,
     )
 
-pub adds_one : (old new : List Member) (key : List ℕ) (v : Json) (n : Member) → new ≡ old ++ n ∷ [] → n.key ≡ key → IsSortedOf v (view n.value) → Adds old new (member key v no_members)
+pub adds_one : (old new : List Member) (key : List ℕ) (v : Json) (n : Member) → new ≡ old ++ n ∷ [] → n.key ≡ key → IsSortedOf v (view n.value) → PutsBehind old new (member key v no_members)
 adds_one old new key v n is q k = λ before h.
-    subst (λ (l : List Member). MembersAreSortedOf (joined before (member key v no_members)) (members_view l)) (sym is) (sorted_more before old key v n h q k)
+    subst (λ (l : List Member). MembersAreSortedOf (joined_members before (member key v no_members)) (members_view l)) (sym is) (sorted_more before old key v n h q k)
 
-pub adds_none : (old : List Member) → Adds old old no_members
+pub adds_none : (old : List Member) → PutsBehind old old no_members
 adds_none old = λ before h. subst (λ (ms : Members Number). MembersAreSortedOf ms (members_view old)) (sym (joined_none before)) h
 
-pub adds_both : (a b c : List Member) (xs ys : Members Number) → Adds a b xs → Adds b c ys → Adds a c (joined xs ys)
+pub adds_both : (a b c : List Member) (xs ys : Members Number) → PutsBehind a b xs → PutsBehind b c ys → PutsBehind a c (joined_members xs ys)
 adds_both a b c xs ys f g = λ before h.
-    subst (λ (ms : Members Number). MembersAreSortedOf ms (members_view c)) (joined_more before xs ys) (g (joined before xs) (f before h))
+    subst (λ (ms : Members Number). MembersAreSortedOf ms (members_view c)) (joined_more before xs ys) (g (joined_members before xs) (f before h))
 
 -- of no members at first
-pub added : (new : List Member) (more : Members Number) → Adds [] new more → MembersAreSortedOf more (members_view new)
+pub added : (new : List Member) (more : Members Number) → PutsBehind [] new more → MembersAreSortedOf more (members_view new)
 added new more f = f no_members refl
 
 -- ---- in the order of keys
@@ -83,29 +83,29 @@ ordered_so ms values moved h p s =
     subst (λ (w : Json). IsSortedOf (object ms) w) (sym (view-Members moved)) sorted
 
 -- ---- all of them
-view_more : (ms : List Member) (m : Member) → members_view (ms ++ m ∷ []) ≡ joined (members_view ms) (member m.key (view m.value) no_members)
+view_more : (ms : List Member) (m : Member) → members_view (ms ++ m ∷ []) ≡ joined_members (members_view ms) (member m.key (view m.value) no_members)
 view_more [] m = refl
 view_more (n ∷ ms) m = ap (member n.key (view n.value)) (view_more ms m)
 
-pub all_next : (old now new from : List Member) (i : ℕ) (m : Member) → i < length from → m ≡ get_or from i m → Adds old now (members_view (take i from)) → Adds now new (member m.key (view m.value) no_members)
-    → Adds old new (members_view (take (i + 1) from))
+pub all_next : (old now new from : List Member) (i : ℕ) (m : Member) → i < length from → m ≡ get_or from i m → PutsBehind old now (members_view (take i from)) → PutsBehind now new (member m.key (view m.value) no_members)
+    → PutsBehind old new (members_view (take (i + 1) from))
 all_next old now new from i m within is f g =
-    subst (λ (ms : Members Number). Adds old new ms) (sym (ap members_view (take-more from i m within is) ∙ view_more (take i from) m)) (adds_both old now new _ _ f g)
+    subst (λ (ms : Members Number). PutsBehind old new ms) (sym (ap members_view (take-more from i m within is) ∙ view_more (take i from) m)) (adds_both old now new _ _ f g)
 
-pub all_done : (old new from : List Member) (i : ℕ) → length from ≤ i → Adds old new (members_view (take i from)) → Adds old new (members_view from)
-all_done old new from i past f = subst (λ (l : List Member). Adds old new (members_view l)) (take-whole from i past) f
+pub all_done : (old new from : List Member) (i : ℕ) → length from ≤ i → PutsBehind old new (members_view (take i from)) → PutsBehind old new (members_view from)
+all_done old new from i past f = subst (λ (l : List Member). PutsBehind old new (members_view l)) (take_all i from past) f
 
 -- ---- those that pass
 module _ (passes : List ℕ → Bool) (becomes : Json → Json) where
   behind : (b : Bool) (key : List ℕ) (v : Json) (ms ns : Members Number)
-      → (if b then member key v (joined ms ns) else joined ms ns) ≡ joined (if b then member key v ms else ms) ns
+      → (if b then member key v (joined_members ms ns) else joined_members ms ns) ≡ joined_members (if b then member key v ms else ms) ns
   behind true key v ms ns = refl
   behind false key v ms ns = refl
 
   abbrev one : Member → Members Number
   one m = if passes m.key then member m.key (becomes (view m.value)) no_members else no_members
 
-  picked_more : (ms : List Member) (m : Member) → picked passes becomes (members_view (ms ++ m ∷ [])) ≡ joined (picked passes becomes (members_view ms)) (one m)
+  picked_more : (ms : List Member) (m : Member) → picked passes becomes (members_view (ms ++ m ∷ [])) ≡ joined_members (picked passes becomes (members_view ms)) (one m)
   picked_more [] m = refl
   picked_more (n ∷ ms) m =
       ap (λ (rest : Members Number). if passes n.key then member n.key (becomes (view n.value)) rest else rest) (picked_more ms m)
@@ -117,27 +117,27 @@ module _ (passes : List ℕ → Bool) (becomes : Json → Json) where
   one_left : (m : Member) → passes m.key ≡ false → one m ≡ no_members
   one_left m e = ap (λ (b : Bool). if b then member m.key (becomes (view m.value)) no_members else no_members) e
 
-  next : (old new from : List Member) (i : ℕ) (m : Member) → i < length from → m ≡ get_or from i m → Adds old new (joined (picked passes becomes (members_view (take i from))) (one m))
-      → Adds old new (picked passes becomes (members_view (take (i + 1) from)))
+  next : (old new from : List Member) (i : ℕ) (m : Member) → i < length from → m ≡ get_or from i m → PutsBehind old new (joined_members (picked passes becomes (members_view (take i from))) (one m))
+      → PutsBehind old new (picked passes becomes (members_view (take (i + 1) from)))
   next old new from i m within is f =
-      subst (λ (ms : Members Number). Adds old new ms) (sym (ap (λ (l : List Member). picked passes becomes (members_view l)) (take-more from i m within is) ∙ picked_more (take i from) m)) f
+      subst (λ (ms : Members Number). PutsBehind old new ms) (sym (ap (λ (l : List Member). picked passes becomes (members_view l)) (take-more from i m within is) ∙ picked_more (take i from) m)) f
 
-  pub picked_next : (old now new from : List Member) (i : ℕ) (m : Member) → i < length from → m ≡ get_or from i m → passes m.key ≡ true → Adds old now (picked passes becomes (members_view (take i from)))
-      → Adds now new (member m.key (becomes (view m.value)) no_members) → Adds old new (picked passes becomes (members_view (take (i + 1) from)))
+  pub picked_next : (old now new from : List Member) (i : ℕ) (m : Member) → i < length from → m ≡ get_or from i m → passes m.key ≡ true → PutsBehind old now (picked passes becomes (members_view (take i from)))
+      → PutsBehind now new (member m.key (becomes (view m.value)) no_members) → PutsBehind old new (picked passes becomes (members_view (take (i + 1) from)))
   picked_next old now new from i m within is kept f g =
-      next old new from i m within is (adds_both old now new _ _ f (subst (λ (ms : Members Number). Adds now new ms) (sym (one_kept m kept)) g))
+      next old new from i m within is (adds_both old now new _ _ f (subst (λ (ms : Members Number). PutsBehind now new ms) (sym (one_kept m kept)) g))
 
-  pub picked_skip : (old now from : List Member) (i : ℕ) (m : Member) → i < length from → m ≡ get_or from i m → passes m.key ≡ false → Adds old now (picked passes becomes (members_view (take i from)))
-      → Adds old now (picked passes becomes (members_view (take (i + 1) from)))
+  pub picked_skip : (old now from : List Member) (i : ℕ) (m : Member) → i < length from → m ≡ get_or from i m → passes m.key ≡ false → PutsBehind old now (picked passes becomes (members_view (take i from)))
+      → PutsBehind old now (picked passes becomes (members_view (take (i + 1) from)))
   picked_skip old now from i m within is left f =
-      next old now from i m within is (adds_both old now now _ _ f (subst (λ (ms : Members Number). Adds now now ms) (sym (one_left m left)) (adds_none now)))
+      next old now from i m within is (adds_both old now now _ _ f (subst (λ (ms : Members Number). PutsBehind now now ms) (sym (one_left m left)) (adds_none now)))
 
-  pub picked_done : (old new from : List Member) (i : ℕ) → length from ≤ i → Adds old new (picked passes becomes (members_view (take i from))) → Adds old new (picked passes becomes (members_view from))
-  picked_done old new from i past f = subst (λ (l : List Member). Adds old new (picked passes becomes (members_view l))) (take-whole from i past) f
+  pub picked_done : (old new from : List Member) (i : ℕ) → length from ≤ i → PutsBehind old new (picked passes becomes (members_view (take i from))) → PutsBehind old new (picked passes becomes (members_view from))
+  picked_done old new from i past f = subst (λ (l : List Member). PutsBehind old new (picked passes becomes (members_view l))) (take_all i from past) f
 
   -- a member that passes or does not
-  pub picked_either : (old now new from : List Member) (i : ℕ) (m : Member) → i < length from → m ≡ get_or from i m → Adds old now (picked passes becomes (members_view (take i from)))
-      → Adds now new (if passes m.key then member m.key (becomes (view m.value)) no_members else no_members) → Adds old new (picked passes becomes (members_view (take (i + 1) from)))
+  pub picked_either : (old now new from : List Member) (i : ℕ) (m : Member) → i < length from → m ≡ get_or from i m → PutsBehind old now (picked passes becomes (members_view (take i from)))
+      → PutsBehind now new (if passes m.key then member m.key (becomes (view m.value)) no_members else no_members) → PutsBehind old new (picked passes becomes (members_view (take (i + 1) from)))
   picked_either old now new from i m within is f g = next old new from i m within is (adds_both old now new _ _ f g)
 
 pub none_at : (l : List Member) → l ≡ [] → MembersAreSortedOf no_members (members_view l)

@@ -4,7 +4,7 @@ use Rattle.std.specs.Prelude.{if◌then◌else◌}
 use Rattle.std.specs.Borrow.{Bor}
 use Rattle.std.specs.List.{find, AllByRecursion}
 use Rattle.std.specs.Option.{option_map}
-use Rattle.dtmi_name.specs.Grammar.{Identifier, dtmi_text}
+use Rattle.dt_base.specs.names.Grammar.{Identifier, dtmi_text}
 use Rattle.json_tree.specs.View.{members_view}
 use Rattle.json_tree.specs.declared.tree.Member.{Member}
 use Rattle.dtdl_terms.specs.Terms.{ContentTerm}
@@ -15,7 +15,7 @@ use Rattle.dtdl_terms.specs.declared.content.Content.{Content}
 use Rattle.dtdl_terms.specs.declared.resolved.NamedIn.{NamedIn}
 use Rattle.twin_value.specs.Named.{is_called, named_of, properties_in, property_called}
 use Rattle.twin_value.specs.Roles.{Library, schemas_in, schemas_from, undeclared, declared_role, link_property_role}
-use Rattle.twin_value.specs.Breaches.{position_of}
+use Rattle.twin_value.specs.Breaches.{key_position}
 use Rattle.twin_value.proofs.Schemas.{found_map}
 
 -- ---- the schemas of an interface
@@ -68,19 +68,19 @@ property_role_lost l from f q ps o e h is =
 
 -- ---- positions of members
 pub position_next : (key : List ℕ) (ms : List Member) (i : ℕ) (m : Member) → i < length ms → m ≡ get_or ms i m → bytes_eq m.key key ≡ false
-    → position_of key (members_view (drop i ms)) ≡ suc (position_of key (members_view (drop (suc i) ms)))
+    → key_position key (members_view (drop i ms)) ≡ suc (key_position key (members_view (drop (suc i) ms)))
 position_next key [] i m within is other = absurd (omega (arith, within))
 position_next key (n ∷ ms) zero m within is other =
-    ap (λ (b : Bool). if b then 0 else suc (position_of key (members_view ms))) (ap (λ (x : Member). bytes_eq x.key key) (sym is) ∙ other)
+    ap (λ (b : Bool). if b then 0 else suc (key_position key (members_view ms))) (ap (λ (x : Member). bytes_eq x.key key) (sym is) ∙ other)
 position_next key (n ∷ ms) (suc i) m within is other = position_next key ms i m (omega (arith, within)) is other
 
-pub position_here : (key : List ℕ) (ms : List Member) (i : ℕ) (m : Member) → i < length ms → m ≡ get_or ms i m → bytes_eq m.key key ≡ true → position_of key (members_view (drop i ms)) ≡ 0
+pub position_here : (key : List ℕ) (ms : List Member) (i : ℕ) (m : Member) → i < length ms → m ≡ get_or ms i m → bytes_eq m.key key ≡ true → key_position key (members_view (drop i ms)) ≡ 0
 position_here key [] i m within is same = absurd (omega (arith, within))
 position_here key (n ∷ ms) zero m within is same =
-    ap (λ (b : Bool). if b then 0 else suc (position_of key (members_view ms))) (ap (λ (x : Member). bytes_eq x.key key) (sym is) ∙ same)
+    ap (λ (b : Bool). if b then 0 else suc (key_position key (members_view ms))) (ap (λ (x : Member). bytes_eq x.key key) (sym is) ∙ same)
 position_here key (n ∷ ms) (suc i) m within is same = position_here key ms i m (omega (arith, within)) is same
 
-pub position_past : (key : List ℕ) (ms : List Member) (i : ℕ) → length ms ≤ i → position_of key (members_view (drop i ms)) ≡ 0
+pub position_past : (key : List ℕ) (ms : List Member) (i : ℕ) → length ms ≤ i → key_position key (members_view (drop i ms)) ≡ 0
 position_past key [] zero past = refl
 position_past key [] (suc i) past = refl
 position_past key (n ∷ ms) zero past = absurd (omega (arith, past))

@@ -2,7 +2,7 @@
 use Rattle.std.proofs.Common.{◌≡◌, ℕ, ◌<◌, ◌-◌, inl, inr, List, [], ◌∷◌, get_or, refl, sym, ap, ◌∙◌, arith}
 use Rattle.json_tree.proofs.Preorder.{before_cases}
 use Rattle.twin_value.specs.Codes.{code_number}
-use Rattle.twin_value.specs.Breaches.{IsFirst}
+use Rattle.twin_value.specs.Breaches.{IsFirstBodyBreach}
 use Rattle.twin_value.specs.declared.code.BodyCode.{BodyCode}
 use Rattle.twin_value.specs.declared.code.BodyCode.TheVariants as code
 
@@ -20,7 +20,7 @@ one_code a b e = sym (numbered a) ∙ (ap (λ (n : ℕ). get_or codes_in_order (
 neither_less : (m n : ℕ) → (m < n → ⊥) → (n < m → ⊥) → m ≡ n
 neither_less m n low high = omega arith
 
-pub one_first : (Broken : List ℕ → BodyCode → Type 0) (place other : List ℕ) (broken another : BodyCode) → IsFirst Broken place broken → IsFirst Broken other another
+pub one_first : (Broken : List ℕ → BodyCode → Type 0) (place other : List ℕ) (broken another : BodyCode) → IsFirstBodyBreach Broken place broken → IsFirstBodyBreach Broken other another
     → (place ≡ other) × (broken ≡ another)
 one_first Broken place other broken another g h = elim (before_cases place other) [
   | inl same ↦ (

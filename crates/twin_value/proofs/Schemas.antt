@@ -3,7 +3,7 @@ use Rattle.std.proofs.Common.{◌≡◌, ℕ, List, [], ◌∷◌, map, Bool, tr
 use Rattle.std.specs.List.{find}
 use Rattle.std.specs.Option.{option_map}
 use Rattle.std.specs.Borrow.{Bor}
-use Rattle.dtmi_name.specs.Grammar.{Identifier, dtmi_text}
+use Rattle.dt_base.specs.names.Grammar.{Identifier, dtmi_text}
 use Rattle.dtdl_terms.specs.declared.common.Common.{Common}
 use Rattle.dtdl_terms.specs.declared.schema.Schema as schemas
 use Rattle.twin_value.specs.Fits.{standing}
@@ -15,7 +15,7 @@ use Rattle.dtdl_terms.specs.declared.schema.Payload.{Payload}
 use Rattle.dtdl_terms.proofs.TermViews.{term-Primitive, term-Named, term-Array, term-Enumeration, term-Map, term-Object}
 use Rattle.twin_value.specs.Named.{is_called, schema_called, field_called, fields_in}
 use Rattle.twin_value.specs.Roles as r
-use Rattle.twin_value.specs.Machinery.Views.{field_role}
+use Rattle.twin_value.specs.Machinery.Views.{payload_role}
 
 pub ruleset terms = (term-Primitive, term-Named, term-Array, term-Enumeration, term-Map, term-Object)
 
@@ -42,20 +42,20 @@ field_found q ps =
     ap (find (λ (p : PayloadTerm). is_called q (Some (payload_name p)))) (fields_list ps)
     ∙ found_map (λ (p : PayloadTerm). is_called q (Some (payload_name p))) payload_term ps
 
-role_of_field : (ns : List Schema) (o : Option Payload) → field_role ns o ≡ r.field_role (map schema_term ns) (option_map payload_term o)
+role_of_field : (ns : List Schema) (o : Option Payload) → payload_role ns o ≡ r.field_role (map schema_term ns) (option_map payload_term o)
 role_of_field ns None = refl
 role_of_field ns (Some p) = refl
 
 pub field_role_found : (ns : List Schema) (q : List ℕ) (ps : List Payload)
-    → field_role ns (find (λ (p : Payload). is_called q (Some p.name)) ps) ≡ r.field_role (map schema_term ns) (field_called q (payloads_term ps))
+    → payload_role ns (find (λ (p : Payload). is_called q (Some p.name)) ps) ≡ r.field_role (map schema_term ns) (field_called q (payloads_term ps))
 field_role_found ns q ps =
     role_of_field ns (find (λ (p : Payload). is_called q (Some p.name)) ps) ∙ ap (r.field_role (map schema_term ns)) (sym (field_found q ps))
 
 -- the keys of an object's fields
 pub object_keys : (ns : List Schema) (schema : Schema) (c : Common) (fields index : List Payload) → schema ≡ schemas.Object c fields → index ≡ fields → (key : List ℕ)
-    → field_role ns (find (λ (p : Payload). is_called key (Some p.name)) index) ≡ r.value_member_role (map schema_term ns) (Some (schema_term schema)) key
+    → payload_role ns (find (λ (p : Payload). is_called key (Some p.name)) index) ≡ r.value_member_role (map schema_term ns) (Some (schema_term schema)) key
 object_keys ns schema c fields index is same key =
-    ap (λ (ps : List Payload). field_role ns (find (λ (p : Payload). is_called key (Some p.name)) ps)) same
+    ap (λ (ps : List Payload). payload_role ns (find (λ (p : Payload). is_called key (Some p.name)) ps)) same
     ∙ field_role_found ns key fields
     ∙ sym (ap (λ (t : SchemaTerm). r.value_member_role (map schema_term ns) (Some t) key) (ap schema_term is ∙ term-Object c fields))
 

@@ -7,10 +7,10 @@ use Rattle.json_tree.specs.View.{view}
 use Rattle.json_length.specs.Lengths.{member_length, members_length}
 use Rattle.json_length.proofs.Lengths.{members_printed}
 use Rattle.local_rules.specs.Members.{members_in}
-use Rattle.dtmi_name.specs.Grammar.{dtmi_text}
+use Rattle.dt_base.specs.names.Grammar.{dtmi_text}
 use Rattle.rel_graph.specs.declared.edge.Edge.{Edge}
 use Rattle.json_tree.specs.declared.tree.Tree.{Tree}
-use Rattle.twin_value.specs.Twins.{picked, joined, any_key, with_metadata, twin_json, link_json}
+use Rattle.twin_value.specs.Twins.{picked, joined_members, any_key, with_metadata, twin_json, link_json}
 use Rattle.twin_value.specs.declared.twin.Twin.{Twin}
 
 -- nothing is left
@@ -23,7 +23,7 @@ pub followed : (r : Option ℕ) (inner all left n : ℕ) → MatchOption r (inne
 followed None inner all left n h e = omega arith
 followed (Some rest) inner all left n h e = omega arith
 
-pub joined_length : (ms ns : Members Number) → members_length (joined ms ns) ≡ members_length ms + members_length ns
+pub joined_length : (ms ns : Members Number) → members_length (joined_members ms ns) ≡ members_length ms + members_length ns
 joined_length no_members ns = omega arith
 joined_length (member key v ms) ns = let more = joined_length ms ns in omega arith
 
@@ -42,7 +42,7 @@ pub twin_length : (t : Twin) → length (printed (twin_json t)) ≡ 1 + (member_
 twin_length t = omega (
   arith,
   object_length (codes "$dtId") (text t.id) (member (codes "$metadata") (object (member (codes "$model") (text (dtmi_text t.model)) no_members))
-      (joined (members_in (view t.values)) (picked any_key with_metadata (members_in (view t.parts))))),
+      (joined_members (members_in (view t.values)) (picked any_key with_metadata (members_in (view t.parts))))),
   joined_length (members_in (view t.values)) (picked any_key with_metadata (members_in (view t.parts))),
 )
 

@@ -6,7 +6,7 @@ use Rattle.std.specs.Int.{Width, w32, w64}
 use Rattle.json_decimal.specs.Number.{Number}
 use Rattle.json_decimal.specs.Comparing.{IsWhole}
 use Rattle.json_tree.specs.Values.{Json, null, truth, number, text, array, object, Elements, no_elements, element, Members, no_members, member}
-use Rattle.dtmi_name.specs.Grammar.{dtmi_text}
+use Rattle.dt_base.specs.names.Grammar.{dtmi_text}
 use Rattle.dtdl_terms.specs.Terms.{SchemaTerm, primitive, named, array_of, enumeration, map_of, object_of, PayloadTerm, payload}
 use Rattle.dtdl_terms.specs.declared.primitive.Primitive.{Primitive}
 use Rattle.dtdl_terms.specs.declared.primitive.Primitive.TheVariants as primitives
@@ -70,31 +70,31 @@ IsTextThat Is v = IsSomeAnd (text_in v) Is
 abbrev pub IsWholeWithin : Width → Json → Type 0
 IsWholeWithin width v = IsSomeAnd (number_in v) (λ n. (z : ℤ) × IsWhole n z × FitsSigned width z)
 
-abbrev pub IsPrimitive : Primitive → Json → Type 0
-IsPrimitive primitives.Boolean v = IsTrue (is_truth v)
-IsPrimitive primitives.Date v = IsTextThat IsDate v
-IsPrimitive primitives.DateTime v = IsTextThat IsDateTime v
-IsPrimitive primitives.Double v = IsSome (number_in v)
-IsPrimitive primitives.Duration v = IsTextThat IsDuration v
-IsPrimitive primitives.Float v = IsSome (number_in v)
-IsPrimitive primitives.Integer v = IsWholeWithin w32 v
-IsPrimitive primitives.Long v = IsWholeWithin w64 v
-IsPrimitive primitives.Str v = IsSome (text_in v)
-IsPrimitive primitives.Time v = IsTextThat IsTime v
+abbrev pub IsOfPrimitive : Primitive → Json → Type 0
+IsOfPrimitive primitives.Boolean v = IsTrue (is_truth v)
+IsOfPrimitive primitives.Date v = IsTextThat IsDate v
+IsOfPrimitive primitives.DateTime v = IsTextThat IsDateTime v
+IsOfPrimitive primitives.Double v = IsSome (number_in v)
+IsOfPrimitive primitives.Duration v = IsTextThat IsDuration v
+IsOfPrimitive primitives.Float v = IsSome (number_in v)
+IsOfPrimitive primitives.Integer v = IsWholeWithin w32 v
+IsOfPrimitive primitives.Long v = IsWholeWithin w64 v
+IsOfPrimitive primitives.Str v = IsSome (text_in v)
+IsOfPrimitive primitives.Time v = IsTextThat IsTime v
 
 -- The value of an entry of an enumeration, and of one of several.
-abbrev pub IsEnumValue : EnumValue → Json → Type 0
-IsEnumValue (values.Number z) v = IsSomeAnd (number_in v) (λ n. IsWhole n z)
-IsEnumValue (values.Word bytes) v = text_in v ≡ Some bytes
+abbrev pub EqualsEnumValue : EnumValue → Json → Type 0
+EqualsEnumValue (values.Number z) v = IsSomeAnd (number_in v) (λ n. IsWhole n z)
+EqualsEnumValue (values.Word bytes) v = text_in v ≡ Some bytes
 
 abbrev pub IsAnyOf : List EnumEntry → Json → Type 0
 IsAnyOf [] v = ⊥
-IsAnyOf (e ∷ es) v = IsEnumValue e.value v ⊎ IsAnyOf es v
+IsAnyOf (e ∷ es) v = EqualsEnumValue e.value v ⊎ IsAnyOf es v
 
 -- The value is of the schema, as far as it shows without its elements and members. Null is of none.
 abbrev pub IsOf : Option SchemaTerm → Json → Type 0
 IsOf None v = ⊥
-IsOf (Some (primitive p)) v = IsPrimitive p v
+IsOf (Some (primitive p)) v = IsOfPrimitive p v
 IsOf (Some (named id)) v = ⊥
 IsOf (Some (array_of c s)) v = IsTrue (is_array v)
 IsOf (Some (enumeration c of_text es)) v = IsAnyOf es v

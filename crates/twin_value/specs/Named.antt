@@ -2,7 +2,7 @@
 use Rattle.std.specs.Prelude.{ℕ, List, [], ◌∷◌, Option, Some, None, Bool, true, false, bytes_eq}
 use Rattle.std.specs.List.{find}
 use Rattle.std.specs.Option.{option_map}
-use Rattle.dtmi_name.specs.Grammar.{Identifier, dtmi_text}
+use Rattle.dt_base.specs.names.Grammar.{Identifier, dtmi_text}
 use Rattle.dtdl_terms.specs.Terms.{SchemaTerm, PayloadTerm, PayloadTerms, no_payloads, more_payloads, KindTerm, relationship, ContentTerm, ContentTerms, no_contents, more_contents}
 use Rattle.dtdl_terms.specs.Distinct.{schema_id, payload_name, content_name}
 use Rattle.dtdl_terms.specs.declared.resolved.ResolvedContent.{ResolvedContent}

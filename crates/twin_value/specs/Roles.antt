@@ -1,6 +1,6 @@
 -- What a value in a body is to be: every place gets a role from the role of the value around it and from its key.
 use Rattle.std.specs.Prelude.{ℕ, List, [], Option, Some, None, map, codes, bytes_eq, if◌then◌else◌}
-use Rattle.dtmi_name.specs.Grammar.{Identifier}
+use Rattle.dt_base.specs.names.Grammar.{Identifier}
 use Rattle.dtdl_terms.specs.Terms.{SchemaTerm, array_of, map_of, object_of, PayloadTerm, KindTerm, property, component, ContentTerm, content, ContentTerms}
 use Rattle.dtdl_terms.specs.TermViews.{schema_term, kind_term}
 use Rattle.dtdl_terms.specs.declared.schema.Schema.{Schema}
@@ -73,13 +73,13 @@ abbrev pub part_content_role : Library → Option ResolvedContent → Role
 part_content_role l None = undeclared
 part_content_role l (Some c) = declared_role l c.from (kind_term c.content.kind)
 
-abbrev pub kind_of : ContentTerm → KindTerm
-kind_of (content name c kind) = kind
+abbrev pub content_kind : ContentTerm → KindTerm
+content_kind (content name c kind) = kind
 
 abbrev pub link_property_role : Library → Option Identifier → Option ContentTerm → Role
 link_property_role l None c = undeclared
 link_property_role l (Some from) None = undeclared
-link_property_role l (Some from) (Some c) = declared_role l from (kind_of c)
+link_property_role l (Some from) (Some c) = declared_role l from (content_kind c)
 
 -- ---- the roles of members
 abbrev pub twin_role : Library → List ResolvedContent → List ℕ → Role
@@ -89,8 +89,8 @@ twin_role l cs key =
     else (if bytes_eq key (codes "$etag") then anything
     else twin_content_role l (content_called key cs)))
 
-abbrev pub part_role : Library → List ResolvedContent → List ℕ → Role
-part_role l cs key = if bytes_eq key (codes "$metadata") then any_object else part_content_role l (content_called key cs)
+abbrev pub body_part_role : Library → List ResolvedContent → List ℕ → Role
+body_part_role l cs key = if bytes_eq key (codes "$metadata") then any_object else part_content_role l (content_called key cs)
 
 abbrev pub link_role : Library → Option Identifier → ContentTerms → List ℕ → Role
 link_role l from ps key =
@@ -115,13 +115,13 @@ abbrev pub value_element_role : List SchemaTerm → Option SchemaTerm → Role
 value_element_role ns (Some (array_of c s)) = value_of ns s
 value_element_role ns other = anything
 
-abbrev pub member_role : Role → List ℕ → Role
-member_role twin_metadata key = if bytes_eq key (codes "$model") then model_id else anything
-member_role (twin_body l cs) key = twin_role l cs key
-member_role (part_body l cs) key = part_role l cs key
-member_role (link_body l from ps) key = link_role l from ps key
-member_role (value ns s) key = value_member_role ns s key
-member_role other key = anything
+abbrev pub body_member_role : Role → List ℕ → Role
+body_member_role twin_metadata key = if bytes_eq key (codes "$model") then model_id else anything
+body_member_role (twin_body l cs) key = twin_role l cs key
+body_member_role (part_body l cs) key = body_part_role l cs key
+body_member_role (link_body l from ps) key = link_role l from ps key
+body_member_role (value ns s) key = value_member_role ns s key
+body_member_role other key = anything
 
 abbrev pub element_role : Role → Role
 element_role (value ns s) = value_element_role ns s

@@ -7,9 +7,9 @@ use Rattle.json_tree.specs.View.{view}
 use Rattle.json_tree.specs.Sorting.{IsSortedOf}
 use Rattle.json_tree.specs.declared.tree.Tree.{Tree}
 use Rattle.local_rules.specs.Members.{value_in, members_in}
-use Rattle.dtmi_name.specs.Grammar.{OwnDtmiText, dtmi_text}
+use Rattle.dt_base.specs.names.Grammar.{OwnDtmiText, dtmi_text}
 use Rattle.rel_graph.specs.declared.edge.Edge.{Edge}
-use Rattle.twin_value.specs.Roles.{Role, value, part_body, member_role}
+use Rattle.twin_value.specs.Roles.{Role, value, part_body, body_member_role}
 use Rattle.twin_value.specs.Breaches.{text_under}
 use Rattle.twin_value.specs.declared.twin.Twin.{Twin}
 
@@ -20,15 +20,15 @@ picked passes becomes no_members = no_members
 picked passes becomes (member key v ms) = if passes key then member key (becomes v) (picked passes becomes ms) else picked passes becomes ms
 
 -- One list of members and another.
-abbrev pub joined : Members Number → Members Number → Members Number
-joined no_members ns = ns
-joined (member key v ms) ns = member key v (joined ms ns)
+abbrev pub joined_members : Members Number → Members Number → Members Number
+joined_members no_members ns = ns
+joined_members (member key v ms) ns = member key v (joined_members ms ns)
 
 abbrev pub any_key : List ℕ → Bool
 any_key key = true
 
-abbrev pub itself : Json → Json
-itself v = v
+abbrev pub same_value : Json → Json
+same_value v = v
 
 -- ---- twins
 -- A member is a property, or a component.
@@ -42,14 +42,14 @@ is_part_role other = false
 
 -- The members that are properties, and those that are components, of a body in a role.
 abbrev pub property_members : Role → Json → Members Number
-property_members r v = picked (λ key. is_value_role (member_role r key)) itself (members_in v)
+property_members r v = picked (λ key. is_value_role (body_member_role r key)) same_value (members_in v)
 
 -- A component without its `$metadata`.
 abbrev pub without_metadata : Json → Json
-without_metadata v = object (picked (λ key. not (bytes_eq key (codes "$metadata"))) itself (members_in v))
+without_metadata v = object (picked (λ key. not (bytes_eq key (codes "$metadata"))) same_value (members_in v))
 
 abbrev pub component_members : Role → Json → Members Number
-component_members r v = picked (λ key. is_part_role (member_role r key)) without_metadata (members_in v)
+component_members r v = picked (λ key. is_part_role (body_member_role r key)) without_metadata (members_in v)
 
 -- The `$model` of a body's `$metadata`.
 abbrev pub model_text : Json → Option (List ℕ)
@@ -81,7 +81,7 @@ abbrev pub twin_json : Twin → Json
 twin_json t = object
     (member (codes "$dtId") (text t.id)
     (member (codes "$metadata") (object (member (codes "$model") (text (dtmi_text t.model)) no_members))
-    (joined (members_in (view t.values)) (picked any_key with_metadata (members_in (view t.parts))))))
+    (joined_members (members_in (view t.values)) (picked any_key with_metadata (members_in (view t.parts))))))
 
 abbrev pub link_json : Edge Tree → Json
 link_json e = object

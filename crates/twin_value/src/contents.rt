@@ -3,7 +3,7 @@
 ghost use Rattle.std.specs.Prelude.{◌≡◌, codes};
 ghost use Rattle.std.specs.Option.{option_map};
 ghost use Rattle.dtdl_terms.specs.TermViews.{kind_term, contents_term};
-ghost use Rattle.twin_value.specs.Roles.{member_role, twin_metadata, declared_role, twin_declared_role, twin_content_role, part_content_role, link_property_role, twin_role, part_role, link_role};
+ghost use Rattle.twin_value.specs.Roles.{body_member_role, twin_metadata, declared_role, twin_declared_role, twin_content_role, part_content_role, link_property_role, twin_role, body_part_role, link_role};
 ghost use Rattle.twin_value.specs.Named.{property_called};
 ghost use Rattle.twin_value.specs.Machinery.Dollar.{begins_with_dollar};
 ghost use Rattle.twin_value.specs.Machinery.Views.{role_view};
@@ -11,8 +11,8 @@ ghost use Rattle.twin_value.specs.Machinery.Views.{role_view};
 use crate::index::Index;
 use crate::library::Library;
 use crate::role::{Role, value_of};
+use dt_base::names::Dtmi;
 use dtdl_terms::{Content, ContentKind, ResolvedContent};
-use dtmi_name::Dtmi;
 
 /// The role of a member that an interface declares by a content of this kind, where only properties have one.
 #[tactic(auto, using(crate::proofs::Contained::kinds))]
@@ -99,7 +99,7 @@ fn property_role<'r, 'a>(
 
 /// The role of a member of a twin's `$metadata`.
 pub fn metadata_role<'r, 'a>(key: &str) -> Role<'r, 'a>
-    ensures { role_view result ≡ member_role twin_metadata key.now }
+    ensures { role_view result ≡ body_member_role twin_metadata key.now }
 {
     if key == "$model" {
         Role::ModelId
@@ -148,7 +148,7 @@ pub fn part_role<'r, 'a>(
     contents: &Index<'r, ResolvedContent>,
     key: &str,
 ) -> Role<'r, 'a>
-    ensures { role_view result ≡ part_role library.now contents.now key.now }
+    ensures { role_view result ≡ body_part_role library.now contents.now key.now }
 {
     if begins_with_dollar(key) && key == "$metadata" {
         return Role::Object;

@@ -1,9 +1,9 @@
 //! Why a body was not read, and what a body without breach tells.
 
 ghost use Rattle.std.specs.Prelude.{◌≡◌, IsSome, Some, MatchResult};
-ghost use Rattle.dtmi_name.specs.declared.fault.NameFault.TheVariants as faults;
+ghost use Rattle.dt_base.specs.declared.names.fault.NameFault.TheVariants as faults;
 ghost use Rattle.json_tree.specs.View.{view};
-ghost use Rattle.twin_value.specs.Breaches.{IsBreach, HasNoBreach, EndsBy, text_under};
+ghost use Rattle.twin_value.specs.Breaches.{IsBodyBreach, HasNoBreach, EndsBy, text_under};
 ghost use Rattle.twin_value.specs.Machinery.Views.{role_view};
 ghost use Rattle.twin_value.specs.declared.end.BodyEnd.TheVariants as ends;
 
@@ -12,7 +12,7 @@ use crate::fit::breach_of;
 use crate::role::Role;
 use crate::walk::first_in;
 use dt_base::OutOfMemory;
-use dtmi_name::NameFault;
+use dt_base::names::NameFault;
 use json_tree::{Place, Tree};
 use local_rules::{members_in, text_at};
 use std::alloc::Global;
@@ -39,7 +39,7 @@ impl From<OutOfMemory> for BodyEnd {
 
 /// Refuses a body in a role that has a breach.
 pub fn judge_body(alloc: Global, tree: &Tree, role: Role) -> Result<(), BodyEnd>
-    ensures { MatchResult result (λ _. HasNoBreach (IsBreach (role_view role.entry) (view tree.now))) (EndsBy (IsBreach (role_view role.entry) (view tree.now))) }
+    ensures { MatchResult result (λ _. HasNoBreach (IsBodyBreach (role_view role.entry) (view tree.now))) (EndsBy (IsBodyBreach (role_view role.entry) (view tree.now))) }
 {
     match first_in(tree, alloc, role)? {
         Some(found) => {

@@ -4,7 +4,7 @@ ghost use Rattle.std.specs.Prelude.{◌≡◌, ◌↔◌, ℕ, List, None, map, 
 ghost use Rattle.json_tree.specs.View.{view};
 ghost use Rattle.dtdl_terms.specs.TermViews.{schema_term};
 ghost use Rattle.twin_value.specs.Fits.{Fits};
-ghost use Rattle.twin_value.specs.Breaches.{IsValueBreach, IsFirst};
+ghost use Rattle.twin_value.specs.Breaches.{IsValueBreach, IsFirstBodyBreach};
 ghost use Rattle.twin_value.specs.declared.code.BodyCode.{BodyCode};
 
 use crate::code::BodyCode;
@@ -43,7 +43,7 @@ pub fn fit_value(
     ensures fits { IfOk result (λ found. (found ≡ None) ↔ Fits (view tree.now) (schema_term schema.now) (map schema_term named.now)) }
     ensures first { IfOk result (λ found. MatchOption found
         ((place : List ℕ) (broken : BodyCode) → IsValueBreach named.now schema.now (view tree.now) place broken → ⊥)
-        (λ b. IsFirst (IsValueBreach named.now schema.now (view tree.now)) b.0.steps b.1)) }
+        (λ b. IsFirstBodyBreach (IsValueBreach named.now schema.now (view tree.now)) b.0.steps b.1)) }
 {
     let index = Index::of(alloc, named)?;
     let found = first_in(tree, alloc, value_of(&index, schema))?;

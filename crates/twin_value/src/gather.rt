@@ -10,8 +10,8 @@ ghost use Rattle.json_tree.specs.View.{view, members_view};
 ghost use Rattle.json_tree.specs.Sorting.{IsSortedOf, MembersAreSortedOf};
 ghost use Rattle.json_tree.specs.declared.tree.Member.{Member};
 ghost use Rattle.local_rules.specs.Members.{members_in};
-ghost use Rattle.twin_value.specs.Twins.{picked, itself, any_key, without_metadata, with_metadata, is_value_role, is_part_role};
-ghost use Rattle.twin_value.specs.Machinery.Gathering.{Adds};
+ghost use Rattle.twin_value.specs.Twins.{picked, same_value, any_key, without_metadata, with_metadata, is_value_role, is_part_role};
+ghost use Rattle.twin_value.specs.Machinery.Gathering.{PutsBehind};
 ghost use Rattle.twin_value.specs.Machinery.Views.{role_view, keys_role};
 
 use crate::keys::Keys;
@@ -44,7 +44,7 @@ pub fn push_made(
     key: &str,
     value: Tree,
 ) -> Result<(), OutOfMemory>
-    ensures { OnOk result ((v : Json) → IsSortedOf v (view value) → Adds members.old.items members.new.items (member key.now v no_members)) }
+    ensures { OnOk result ((v : Json) → IsSortedOf v (view value) → PutsBehind members.old.items members.new.items (member key.now v no_members)) }
 {
     let key = Text::from_str(alloc, key)?;
     members.push(Member { key, value })?;
@@ -58,7 +58,7 @@ fn push_sorted(
     key: &str,
     value: &Tree,
 ) -> Result<(), OutOfMemory>
-    ensures { OnOk result (Adds members.old.items members.new.items (member key.now (view value.now) no_members)) }
+    ensures { OnOk result (PutsBehind members.old.items members.new.items (member key.now (view value.now) no_members)) }
 {
     let value = sorted(alloc, value)?;
     push_made(members, alloc, key, value)
@@ -72,7 +72,7 @@ pub fn push_text(
     key: &str,
     bytes: &str,
 ) -> Result<(), OutOfMemory>
-    ensures { OnOk result (Adds members.old.items members.new.items (member key.now (text bytes.now) no_members)) }
+    ensures { OnOk result (PutsBehind members.old.items members.new.items (member key.now (text bytes.now) no_members)) }
 {
     let value = Tree::Text(Text::from_str(alloc, bytes)?);
     push_made(members, alloc, key, value)
@@ -84,7 +84,7 @@ pub fn push_all(
     alloc: Global,
     from: &[Member],
 ) -> Result<(), OutOfMemory>
-    ensures { OnOk result (Adds members.old.items members.new.items (members_view from.now)) }
+    ensures { OnOk result (PutsBehind members.old.items members.new.items (members_view from.now)) }
 {
     for member in from {
         push_sorted(members, alloc, member.key.as_str(), &member.value)?;
@@ -127,7 +127,7 @@ fn push_if(
     passes: bool,
     member: &Member,
 ) -> Result<(), OutOfMemory>
-    ensures { OnOk result (Adds members.old.items members.new.items (if passes then member_of member.now.key (view member.now.value) no_members else no_members)) }
+    ensures { OnOk result (PutsBehind members.old.items members.new.items (if passes then member_of member.now.key (view member.now.value) no_members else no_members)) }
 {
     if passes {
         push_sorted(members, alloc, member.key.as_str(), &member.value)
@@ -143,7 +143,7 @@ fn push_part_if(
     passes: bool,
     member: &Member,
 ) -> Result<(), OutOfMemory>
-    ensures { OnOk result (Adds members.old.items members.new.items (if passes then member_of member.now.key (without_metadata (view member.now.value)) no_members else no_members)) }
+    ensures { OnOk result (PutsBehind members.old.items members.new.items (if passes then member_of member.now.key (without_metadata (view member.now.value)) no_members else no_members)) }
 {
     if passes {
         let value = bare_part(alloc, &member.value)?;
@@ -155,7 +155,7 @@ fn push_part_if(
 
 /// The members that are properties, sorted.
 pub fn values_of(alloc: Global, from: &[Member], keys: &Keys) -> Result<Tree, OutOfMemory>
-    ensures { IfOk result (λ t. IsSortedOf (object (picked (λ key. is_value_role (keys_role keys.now key)) itself (members_view from.now))) (view t)) }
+    ensures { IfOk result (λ t. IsSortedOf (object (picked (λ key. is_value_role (keys_role keys.now key)) same_value (members_view from.now))) (view t)) }
 {
     let mut members = Vec::with_capacity(alloc, from.len())?;
     for member in from {
@@ -184,7 +184,7 @@ pub fn values_and_parts(
     from: &[Member],
     keys: &Keys,
 ) -> Result<(Tree, Tree), OutOfMemory>
-    ensures { IfOk result (λ made. IsSortedOf (object (picked (λ key. is_value_role (keys_role keys.now key)) itself (members_view from.now))) (view made.0)
+    ensures { IfOk result (λ made. IsSortedOf (object (picked (λ key. is_value_role (keys_role keys.now key)) same_value (members_view from.now))) (view made.0)
         × IsSortedOf (object (picked (λ key. is_part_role (keys_role keys.now key)) without_metadata (members_view from.now))) (view made.1)) }
 {
     let mut values = Vec::with_capacity(alloc, from.len())?;

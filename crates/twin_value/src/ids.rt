@@ -3,7 +3,7 @@
 ghost use Rattle.std.specs.Prelude.{◌≡◌, ◌↔◌, IsTrue};
 ghost use Rattle.twin_value.specs.Breaches.{IsModelId, IsTwinId, is_id_byte};
 
-use dtmi_name::{has_dtmi_form, is_reserved_id};
+use dt_base::names::{has_dtmi_form, is_reserved_id};
 
 /// The most bytes of the identifier of a model, and of that of a twin or a relationship.
 const MOST_BYTES: usize = 128;

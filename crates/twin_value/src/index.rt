@@ -7,7 +7,7 @@ ghost use Rattle.std.specs.Ordering.{nat_cmp};
 ghost use Rattle.std.specs.Cmp.Lexicographic.{slice_cmp};
 ghost use Rattle.std.specs.BTreeMap.{get_by};
 ghost use Rattle.twin_value.specs.Named.{is_called};
-ghost use Rattle.twin_value.specs.Machinery.Indexes.{IsIndex, is_there};
+ghost use Rattle.twin_value.specs.Machinery.Indexes.{IsIndexByName, is_there};
 
 use dt_base::OutOfMemory;
 use std::alloc::Global;
@@ -39,7 +39,7 @@ pub struct Index<'a, T: Keyed> {
 impl<'a, T: Keyed> Model for Index<'a, T> {
     ghost use Rattle.std.specs.Prelude.{◌<◌, List, length};
     ghost use Rattle.std.specs.Coded.{coded_list};
-    ghost use Rattle.twin_value.specs.Machinery.Indexes.{IsIndex};
+    ghost use Rattle.twin_value.specs.Machinery.Indexes.{IsIndexByName};
 
     ghost Value = { List T };
 
@@ -47,7 +47,7 @@ impl<'a, T: Keyed> Model for Index<'a, T> {
 
     ghost view = { λ i. i.items.now };
 
-    ghost invariant = { λ i. 8 < length i.items.now → IsIndex T.key_of i.items.now i.places };
+    ghost invariant = { λ i. 8 < length i.items.now → IsIndexByName T.key_of i.items.now i.places };
 }
 
 /// Where each name leads.
@@ -55,7 +55,7 @@ fn places_of<'a, T: Keyed>(
     alloc: Global,
     items: &'a [T],
 ) -> Result<BTreeMap<&'a str, &'a T>, OutOfMemory>
-    ensures { IfOk result (λ places. IsIndex T.key_of items.now places) }
+    ensures { IfOk result (λ places. IsIndexByName T.key_of items.now places) }
 {
     let mut places = BTreeMap::new(alloc);
     for item in items {

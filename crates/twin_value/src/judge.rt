@@ -6,19 +6,19 @@ ghost use Rattle.twin_value.specs.Breaches.{Lacks};
 ghost use Rattle.twin_value.specs.Roles.{any_text, any_object, model_id, target_id, link_name};
 ghost use Rattle.twin_value.specs.Machinery.Sound.{SoundAlone};
 ghost use Rattle.twin_value.specs.Machinery.Views.{role_view};
-ghost use Rattle.twin_value.specs.Machinery.Walks.{Judges, Lacking};
+ghost use Rattle.twin_value.specs.Machinery.Walks.{JudgesBody, Lacking};
 
 use crate::code::BodyCode;
 use crate::ids::{is_model_id, is_twin_id};
 use crate::role::Role;
 use crate::shapes::{is_object, is_of};
-use dtmi_name::is_name;
+use dt_base::names::is_name;
 use json_tree::Tree;
 use local_rules::{text_in, value_in};
 
 /// The first code that a value breaks that is to be a text.
 fn broken_text(tree: &Tree) -> Option<BodyCode>
-    ensures { Judges any_text (view tree.now) result }
+    ensures { JudgesBody any_text (view tree.now) result }
 {
     match text_in(tree) {
         Some(_text) => None,
@@ -28,7 +28,7 @@ fn broken_text(tree: &Tree) -> Option<BodyCode>
 
 /// The same of the identifier of a model.
 fn broken_model_id(tree: &Tree) -> Option<BodyCode>
-    ensures { Judges model_id (view tree.now) result }
+    ensures { JudgesBody model_id (view tree.now) result }
 {
     let Some(text) = text_in(tree) else {
         return Some(BodyCode::WrongKind);
@@ -42,7 +42,7 @@ fn broken_model_id(tree: &Tree) -> Option<BodyCode>
 
 /// The same of the identifier of a target.
 fn broken_target_id(tree: &Tree) -> Option<BodyCode>
-    ensures { Judges target_id (view tree.now) result }
+    ensures { JudgesBody target_id (view tree.now) result }
 {
     let Some(text) = text_in(tree) else {
         return Some(BodyCode::WrongKind);
@@ -56,7 +56,7 @@ fn broken_target_id(tree: &Tree) -> Option<BodyCode>
 
 /// The same of the name of a relationship.
 fn broken_link_name(tree: &Tree) -> Option<BodyCode>
-    ensures { Judges link_name (view tree.now) result }
+    ensures { JudgesBody link_name (view tree.now) result }
 {
     let Some(text) = text_in(tree) else {
         return Some(BodyCode::WrongKind);
@@ -70,7 +70,7 @@ fn broken_link_name(tree: &Tree) -> Option<BodyCode>
 
 /// The same of an object.
 fn broken_object(tree: &Tree) -> Option<BodyCode>
-    ensures { Judges any_object (view tree.now) result }
+    ensures { JudgesBody any_object (view tree.now) result }
 {
     if is_object(tree) {
         None
@@ -104,7 +104,7 @@ fn lacks_two(tree: &Tree, key: &str, other: &str) -> Option<BodyCode>
 
 /// The first code that a value in a role breaks itself.
 pub fn broken_by(role: Role, tree: &Tree) -> Option<BodyCode>
-    ensures first { Judges (role_view role.entry) (view tree.now) result }
+    ensures first { JudgesBody (role_view role.entry) (view tree.now) result }
     ensures sound { result ≡ None → SoundAlone (role_view role.entry) (view tree.now) }
 {
     match role {

@@ -2,17 +2,17 @@
 
 ghost use Rattle.std.specs.Prelude.{◌≡◌, ℕ, List, Some, map, IfOk};
 ghost use Rattle.dtdl_terms.specs.TermViews.{schema_term};
-ghost use Rattle.twin_value.specs.Roles.{member_role, value_member_role};
+ghost use Rattle.twin_value.specs.Roles.{body_member_role, value_member_role};
 ghost use Rattle.std.specs.Option.{option_map};
-ghost use Rattle.twin_value.specs.Machinery.Views.{role_view, keys_role, field_role};
+ghost use Rattle.twin_value.specs.Machinery.Views.{role_view, keys_role, payload_role};
 
 use crate::contents::{link_role, metadata_role, part_role, twin_role};
 use crate::index::{Index, Keyed};
 use crate::library::Library;
 use crate::role::{Role, value_of};
 use dt_base::OutOfMemory;
+use dt_base::names::Dtmi;
 use dtdl_terms::{Content, Payload, ResolvedContent, Schema};
-use dtmi_name::Dtmi;
 use std::alloc::Global;
 
 impl Keyed for Payload {
@@ -78,7 +78,7 @@ pub enum Keys<'r, 'a> {
 impl<'r, 'a> Keys<'r, 'a> {
     /// How the members of an object in a role are judged.
     pub fn of(alloc: Global, role: Role<'r, 'a>) -> Result<Keys<'r, 'a>, OutOfMemory>
-        ensures { IfOk result (λ keys. (key : List ℕ) → keys_role keys key ≡ member_role (role_view role.entry) key) }
+        ensures { IfOk result (λ keys. (key : List ℕ) → keys_role keys key ≡ body_member_role (role_view role.entry) key) }
     {
         match role {
             Role::Value {
@@ -160,7 +160,7 @@ fn keys_of_schema<'r, 'a>(
 
 /// The role of the field that there may be.
 fn field_role<'r, 'a>(named: &'r Index<'a, Schema>, field: Option<&'r Payload>) -> Role<'r, 'a>
-    ensures { role_view result ≡ field_role named.now (option_map (λ f. f.now) field.entry) }
+    ensures { role_view result ≡ payload_role named.now (option_map (λ f. f.now) field.entry) }
 {
     match field {
         Some(field) => value_of(named, &field.schema),

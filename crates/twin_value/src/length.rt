@@ -1,7 +1,7 @@
 //! How many bytes the texts of twins and relationships have, counted without memory.
 
 ghost use Rattle.std.specs.Prelude.{◌≡◌, ◌+◌, ◌<◌, length, codes, MatchOption};
-ghost use Rattle.dtmi_name.specs.Grammar.{dtmi_text};
+ghost use Rattle.dt_base.specs.names.Grammar.{dtmi_text};
 ghost use Rattle.json_tree.specs.Values.{object, text, no_members, member};
 ghost use Rattle.json_tree.specs.Printing.{printed};
 ghost use Rattle.json_tree.specs.View.{view, members_view};
@@ -10,7 +10,7 @@ ghost use Rattle.twin_value.specs.Twins.{picked, any_key, with_metadata, twin_js
 
 use crate::link::Relationship;
 use crate::twin::Twin;
-use dtmi_name::Dtmi;
+use dt_base::names::Dtmi;
 use json_length::{left_after_members, left_after_text};
 use json_tree::Member;
 use local_rules::members_in;

@@ -6,7 +6,7 @@ ghost use Rattle.std.specs.Option.{option_or};
 ghost use Rattle.std.specs.Ordering.{nat_cmp};
 ghost use Rattle.std.specs.Cmp.Lexicographic.{slice_cmp};
 ghost use Rattle.std.specs.BTreeMap.{get_by};
-ghost use Rattle.dtmi_name.specs.Grammar.{dtmi_text};
+ghost use Rattle.dt_base.specs.names.Grammar.{dtmi_text};
 ghost use Rattle.dtdl_terms.specs.TermViews.{schema_term};
 ghost use Rattle.twin_value.specs.Breaches.{library_of, no_library};
 ghost use Rattle.twin_value.specs.Roles.{schemas_from, contents_in};
@@ -15,15 +15,15 @@ ghost use Rattle.twin_value.specs.Machinery.Indexes.{AreSchemas, LeadsToSchemas,
 
 use crate::index::{Index, Keyed};
 use dt_base::OutOfMemory;
+use dt_base::names::Dtmi;
 use dtdl_terms::{NamedIn, PartOf, Resolved, ResolvedContent, Schema};
-use dtmi_name::Dtmi;
 use std::alloc::Global;
 use std::collections::BTreeMap;
 use std::marker::Model;
 
 impl Keyed for PartOf {
     ghost use Rattle.std.specs.Prelude.{Some};
-    ghost use Rattle.dtmi_name.specs.Grammar.{dtmi_text};
+    ghost use Rattle.dt_base.specs.names.Grammar.{dtmi_text};
 
     ghost key_of = { λ p. Some (dtmi_text p.of) };
 

@@ -6,7 +6,7 @@ ghost use Rattle.json_tree.specs.View.{view, members_view};
 ghost use Rattle.local_rules.specs.Members.{members_in};
 ghost use Rattle.dtdl_terms.specs.TermViews.{contents_term};
 ghost use Rattle.twin_value.specs.Named.{content_called};
-ghost use Rattle.twin_value.specs.Breaches.{IsBreach, IsLinkBreach, body_role, link_source, HasNoBreach, EndsBy, NamesNone, link_called, as_link, link_of, link_properties, position_of, text_under, link_role_of};
+ghost use Rattle.twin_value.specs.Breaches.{IsBodyBreach, IsLinkBreach, body_role, link_source, HasNoBreach, EndsBy, NamesNone, link_called, as_link, named_link, link_properties, key_position, text_under, link_role_of};
 ghost use Rattle.twin_value.specs.Machinery.Views.{role_view};
 ghost use Rattle.twin_value.specs.Twins.{IsLinkOf};
 
@@ -16,9 +16,9 @@ use crate::gather::values_of;
 use crate::keys::Keys;
 use crate::library::Library;
 use crate::role::Role;
+use dt_base::names::{Dtmi, is_name};
 use dt_base::{List, OutOfMemory, Text};
 use dtdl_terms::{Content, ContentKind, Resolved, ResolvedContent};
-use dtmi_name::{Dtmi, is_name};
 use json_tree::{Member, Place, Tree};
 use local_rules::{members_in, text_at};
 use rel_graph::Edge;
@@ -56,7 +56,7 @@ fn as_link(content: Option<&ResolvedContent>) -> Option<&ResolvedContent>
 
 /// The relationship that a body names.
 fn link_of<'a>(contents: &'a [ResolvedContent], tree: &Tree) -> Option<&'a ResolvedContent>
-    ensures { option_map (λ c. c.now) result ≡ link_of contents.now (view tree.now) }
+    ensures { option_map (λ c. c.now) result ≡ named_link contents.now (view tree.now) }
 {
     let name = text_at(members_in(tree), "$relationshipName")?;
     as_link(find_content(contents, name))
@@ -104,7 +104,7 @@ fn source_of(link: Option<&ResolvedContent>) -> Option<&Dtmi>
 
 /// The position of the first member with this key.
 fn position_of(members: &[Member], key: &str) -> usize
-    ensures { result ≡ position_of key.now (members_view members.now) }
+    ensures { result ≡ key_position key.now (members_view members.now) }
 {
     let mut at = 0;
     'members: while at < members.len() && members[at].key.as_str() != key {
@@ -115,7 +115,7 @@ fn position_of(members: &[Member], key: &str) -> usize
 
 /// Where a body names a relationship.
 fn name_place(alloc: Global, tree: &Tree) -> Result<Place, OutOfMemory>
-    ensures { IfOk result (λ place. place.steps ≡ position_of (codes "$relationshipName") (members_in (view tree.now)) ∷ []) }
+    ensures { IfOk result (λ place. place.steps ≡ key_position (codes "$relationshipName") (members_in (view tree.now)) ∷ []) }
 {
     let at = position_of(members_in(tree), "$relationshipName");
     let steps = vec![in alloc; at as u64]?;
@@ -161,9 +161,9 @@ fn link_by(
     link: Option<&ResolvedContent>,
 ) -> Result<Relationship, BodyEnd>
     ensures { MatchResult result
-        (λ r. HasNoBreach (IsBreach (body_role library.now (option_map (λ c. c.now) link.entry)) (view tree.now))
+        (λ r. HasNoBreach (IsBodyBreach (body_role library.now (option_map (λ c. c.now) link.entry)) (view tree.now))
         × IsLinkOf (body_role library.now (option_map (λ c. c.now) link.entry)) source.now id.now (view tree.now) r)
-        (EndsBy (IsBreach (body_role library.now (option_map (λ c. c.now) link.entry)) (view tree.now))) }
+        (EndsBy (IsBodyBreach (body_role library.now (option_map (λ c. c.now) link.entry)) (view tree.now))) }
 {
     let role = Role::Link {
         library,

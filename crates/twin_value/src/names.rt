@@ -2,15 +2,15 @@
 
 ghost use Rattle.std.specs.Prelude.{◌≡◌};
 ghost use Rattle.std.specs.Option.{option_map};
-ghost use Rattle.dtmi_name.specs.Grammar.{dtmi_text};
+ghost use Rattle.dt_base.specs.names.Grammar.{dtmi_text};
 
 use crate::index::Keyed;
+use dt_base::names::Dtmi;
 use dtdl_terms::Schema;
-use dtmi_name::Dtmi;
 
 impl Keyed for Schema {
     ghost use Rattle.std.specs.Option.{option_map};
-    ghost use Rattle.dtmi_name.specs.Grammar.{dtmi_text};
+    ghost use Rattle.dt_base.specs.names.Grammar.{dtmi_text};
     ghost use Rattle.dtdl_terms.specs.Distinct.{schema_id};
     ghost use Rattle.dtdl_terms.specs.TermViews.{schema_term};
 

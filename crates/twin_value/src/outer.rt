@@ -3,10 +3,10 @@
 ghost use Rattle.std.specs.Prelude.{◌≡◌, [], None, IfOk, MatchOption};
 ghost use Rattle.json_tree.specs.Values.{object};
 ghost use Rattle.json_tree.specs.View.{view, members_view};
-ghost use Rattle.twin_value.specs.Breaches.{HasNoBreach, IsFirst, IsOuterBreach, IsOuterLinkBreach};
-ghost use Rattle.twin_value.specs.Machinery.Outer.{IsOuter, IsMild, is_undeclared, IsOutermost, FindsOuterBelow};
+ghost use Rattle.twin_value.specs.Breaches.{HasNoBreach, IsFirstBodyBreach, IsOuterBreach, IsOuterLinkBreach};
+ghost use Rattle.twin_value.specs.Machinery.Outer.{IsOuterBodyBreach, IsMild, is_undeclared, IsOutermost, FindsOuterBelow};
 ghost use Rattle.twin_value.specs.Machinery.Views.{role_view};
-ghost use Rattle.twin_value.specs.Machinery.Walks.{FindsFirst};
+ghost use Rattle.twin_value.specs.Machinery.Walks.{FindsFirstBodyBreach};
 
 use crate::code::BodyCode;
 use crate::fit::breach_of;
@@ -38,7 +38,7 @@ fn is_undeclared(role: Role) -> bool
 /// The first breach that shows without a model in a member of a body; none in one that nothing declares.
 fn outer_in_member(tree: &Tree, alloc: Global, role: Role) -> Result<Option<Found>, OutOfMemory>
     requires { IsMild (role_view role) }
-    ensures { IfOk result (FindsFirst (IsOuter (role_view role.entry) (view tree.now))) }
+    ensures { IfOk result (FindsFirstBodyBreach (IsOuterBodyBreach (role_view role.entry) (view tree.now))) }
 {
     if is_undeclared(role) {
         return Ok(None);
@@ -69,7 +69,7 @@ fn outer_in_members(
 /// The same in a body.
 fn outer_in(tree: &Tree, alloc: Global, role: Role) -> Result<Option<Found>, OutOfMemory>
     requires { IsOutermost (role_view role) }
-    ensures { IfOk result (FindsFirst (IsOuter (role_view role.entry) (view tree.now))) }
+    ensures { IfOk result (FindsFirstBodyBreach (IsOuterBodyBreach (role_view role.entry) (view tree.now))) }
 {
     if let Some(code) = broken_by(role, tree) {
         return Ok(Some(Found {
@@ -87,7 +87,7 @@ pub fn outer_twin_breach(
     alloc: Global,
     tree: &Tree,
 ) -> Result<Option<(Place, BodyCode)>, OutOfMemory>
-    ensures { IfOk result (λ found. MatchOption found (HasNoBreach (IsOuterBreach (view tree.now))) (λ b. IsFirst (IsOuterBreach (view tree.now)) b.0.steps b.1)) }
+    ensures { IfOk result (λ found. MatchOption found (HasNoBreach (IsOuterBreach (view tree.now))) (λ b. IsFirstBodyBreach (IsOuterBreach (view tree.now)) b.0.steps b.1)) }
 {
     let library = Library::empty(alloc)?;
     let role = Role::Twin {
@@ -105,7 +105,7 @@ pub fn outer_link_breach(
     alloc: Global,
     tree: &Tree,
 ) -> Result<Option<(Place, BodyCode)>, OutOfMemory>
-    ensures { IfOk result (λ found. MatchOption found (HasNoBreach (IsOuterLinkBreach (view tree.now))) (λ b. IsFirst (IsOuterLinkBreach (view tree.now)) b.0.steps b.1)) }
+    ensures { IfOk result (λ found. MatchOption found (HasNoBreach (IsOuterLinkBreach (view tree.now))) (λ b. IsFirstBodyBreach (IsOuterLinkBreach (view tree.now)) b.0.steps b.1)) }
 {
     let library = Library::empty(alloc)?;
     let role = Role::Link {

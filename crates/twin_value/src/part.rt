@@ -3,8 +3,8 @@
 ghost use Rattle.std.specs.Prelude.{MatchResult};
 ghost use Rattle.json_tree.specs.Sorting.{IsSortedOf};
 ghost use Rattle.json_tree.specs.View.{view};
-ghost use Rattle.twin_value.specs.Breaches.{IsBreach, HasNoBreach, EndsBy, twin_role_of};
-ghost use Rattle.twin_value.specs.Roles.{member_role};
+ghost use Rattle.twin_value.specs.Breaches.{IsBodyBreach, HasNoBreach, EndsBy, twin_role_of};
+ghost use Rattle.twin_value.specs.Roles.{body_member_role};
 ghost use Rattle.twin_value.specs.Machinery.Views.{role_view};
 ghost use Rattle.twin_value.specs.Twins.{without_metadata};
 
@@ -21,8 +21,8 @@ use std::alloc::Global;
 /// The values of a component in a role.
 fn part_by(alloc: Global, tree: &Tree, role: Role) -> Result<Tree, BodyEnd>
     ensures { MatchResult result
-        (λ values. HasNoBreach (IsBreach (role_view role.entry) (view tree.now)) × IsSortedOf (without_metadata (view tree.now)) (view values))
-        (EndsBy (IsBreach (role_view role.entry) (view tree.now))) }
+        (λ values. HasNoBreach (IsBodyBreach (role_view role.entry) (view tree.now)) × IsSortedOf (without_metadata (view tree.now)) (view values))
+        (EndsBy (IsBodyBreach (role_view role.entry) (view tree.now))) }
 {
     judge_body(alloc, tree, role)?;
     let values = bare_part(alloc, tree)?;
@@ -39,8 +39,8 @@ pub fn read_part(
     resolved: &Resolved,
 ) -> Result<Tree, BodyEnd>
     ensures { MatchResult result
-        (λ values. HasNoBreach (IsBreach (member_role (twin_role_of resolved.now) name.now) (view tree.now)) × IsSortedOf (without_metadata (view tree.now)) (view values))
-        (EndsBy (IsBreach (member_role (twin_role_of resolved.now) name.now) (view tree.now))) }
+        (λ values. HasNoBreach (IsBodyBreach (body_member_role (twin_role_of resolved.now) name.now) (view tree.now)) × IsSortedOf (without_metadata (view tree.now)) (view values))
+        (EndsBy (IsBodyBreach (body_member_role (twin_role_of resolved.now) name.now) (view tree.now))) }
 {
     let library = Library::of(alloc, resolved)?;
     let contents = Index::of(alloc, resolved.contents.as_slice())?;

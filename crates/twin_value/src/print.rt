@@ -1,18 +1,18 @@
 //! What is printed of twins and relationships.
 
 ghost use Rattle.std.specs.Prelude.{◌≡◌, codes, IfOk, OnOk};
-ghost use Rattle.dtmi_name.specs.Grammar.{dtmi_text};
+ghost use Rattle.dt_base.specs.names.Grammar.{dtmi_text};
 ghost use Rattle.json_tree.specs.Values.{object, text, no_members, member};
 ghost use Rattle.json_tree.specs.View.{view, members_view};
 ghost use Rattle.json_tree.specs.Sorting.{IsSortedOf};
 ghost use Rattle.twin_value.specs.Twins.{picked, any_key, with_metadata, twin_json, link_json};
-ghost use Rattle.twin_value.specs.Machinery.Gathering.{Adds};
+ghost use Rattle.twin_value.specs.Machinery.Gathering.{PutsBehind};
 
 use crate::gather::{ordered, push_all, push_made, push_text};
 use crate::link::Relationship;
 use crate::twin::Twin;
 use dt_base::OutOfMemory;
-use dtmi_name::Dtmi;
+use dt_base::names::Dtmi;
 use json_tree::{Member, Tree};
 use local_rules::members_in;
 use std::alloc::Global;
@@ -41,7 +41,7 @@ pub fn print_part(alloc: Global, values: &Tree) -> Result<Tree, OutOfMemory>
 
 /// Puts components, as they are printed, behind other members.
 fn push_parts(members: &mut Vec<Member>, alloc: Global, from: &[Member]) -> Result<(), OutOfMemory>
-    ensures { OnOk result (Adds members.old.items members.new.items (picked any_key with_metadata (members_view from.now))) }
+    ensures { OnOk result (PutsBehind members.old.items members.new.items (picked any_key with_metadata (members_view from.now))) }
 {
     for member in from {
         let value = print_part(alloc, &member.value)?;

@@ -9,8 +9,8 @@ ghost use Rattle.twin_value.specs.Machinery.Views.{role_view};
 
 use crate::index::Index;
 use crate::library::Library;
+use dt_base::names::Dtmi;
 use dtdl_terms::{Content, ResolvedContent, Schema};
-use dtmi_name::Dtmi;
 
 /// What a value in a body is to be, by its place.
 #[derive(Clone, Copy)]

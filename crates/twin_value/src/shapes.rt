@@ -8,7 +8,7 @@ ghost use Rattle.json_tree.specs.View.{view};
 ghost use Rattle.dtdl_terms.specs.TermViews.{schema_term};
 ghost use Rattle.value_texts.specs.Clock.{IsDate, IsTime, IsDateTime};
 ghost use Rattle.value_texts.specs.Durations.{IsDuration};
-ghost use Rattle.twin_value.specs.Fits.{is_array, is_object, is_truth, number_in, IsTextThat, IsWholeWithin, IsPrimitive, IsEnumValue, IsAnyOf, IsOf};
+ghost use Rattle.twin_value.specs.Fits.{is_array, is_object, is_truth, number_in, IsTextThat, IsWholeWithin, IsOfPrimitive, EqualsEnumValue, IsAnyOf, IsOf};
 
 use dtdl_terms::{EnumEntry, EnumValue, Primitive, Schema};
 use json_decimal::Decimal;
@@ -119,7 +119,7 @@ fn is_long(tree: &Tree) -> bool
 
 /// Whether a value is of a primitive schema.
 fn is_primitive(primitive: Primitive, tree: &Tree) -> bool
-    ensures { IsTrue result ↔ IsPrimitive primitive (view tree.now) }
+    ensures { IsTrue result ↔ IsOfPrimitive primitive (view tree.now) }
 {
     match primitive {
         Primitive::Boolean => is_truth(tree),
@@ -137,7 +137,7 @@ fn is_primitive(primitive: Primitive, tree: &Tree) -> bool
 
 /// Whether a value is this whole number.
 fn is_whole(whole: i32, tree: &Tree) -> bool
-    ensures { IsTrue result ↔ IsEnumValue (EnumValue.Number whole) (view tree.now) }
+    ensures { IsTrue result ↔ EqualsEnumValue (EnumValue.Number whole) (view tree.now) }
 {
     let Some(decimal) = number_in(tree) else {
         return false;
@@ -150,7 +150,7 @@ fn is_whole(whole: i32, tree: &Tree) -> bool
 
 /// Whether a value is this text.
 fn is_word(word: &str, tree: &Tree) -> bool
-    ensures { IsTrue result ↔ IsEnumValue (EnumValue.Word word.now) (view tree.now) }
+    ensures { IsTrue result ↔ EqualsEnumValue (EnumValue.Word word.now) (view tree.now) }
 {
     match text_in(tree) {
         Some(text) => text == word,
@@ -159,7 +159,7 @@ fn is_word(word: &str, tree: &Tree) -> bool
 }
 
 fn is_enum_value(value: &EnumValue, tree: &Tree) -> bool
-    ensures { IsTrue result ↔ IsEnumValue value.now (view tree.now) }
+    ensures { IsTrue result ↔ EqualsEnumValue value.now (view tree.now) }
 {
     match value {
         EnumValue::Number(whole) => is_whole(*whole, tree),

@@ -2,11 +2,11 @@
 
 ghost use Rattle.std.specs.Prelude.{◌≡◌, IfOk, IsSome, Some, MatchResult};
 ghost use Rattle.std.specs.Option.{IsSomeAnd};
-ghost use Rattle.dtmi_name.specs.Grammar.{OwnDtmiText};
+ghost use Rattle.dt_base.specs.names.Grammar.{OwnDtmiText};
 ghost use Rattle.json_tree.specs.Sorting.{IsSortedOf};
 ghost use Rattle.json_tree.specs.Values.{object};
 ghost use Rattle.json_tree.specs.View.{view};
-ghost use Rattle.twin_value.specs.Breaches.{IsModelId, IsBreach, IsTwinBreach, HasNoBreach, EndsBy, twin_role_of};
+ghost use Rattle.twin_value.specs.Breaches.{IsModelId, IsBodyBreach, IsTwinBreach, HasNoBreach, EndsBy, twin_role_of};
 ghost use Rattle.twin_value.specs.Machinery.Views.{role_view};
 ghost use Rattle.twin_value.specs.Roles.{twin_body};
 ghost use Rattle.twin_value.specs.Twins.{IsTwinOf, component_members, model_text, property_members};
@@ -16,9 +16,9 @@ use crate::gather::values_and_parts;
 use crate::keys::Keys;
 use crate::library::Library;
 use crate::role::Role;
+use dt_base::names::Dtmi;
 use dt_base::{OutOfMemory, Text};
 use dtdl_terms::{Resolved, ResolvedContent};
-use dtmi_name::Dtmi;
 use json_tree::Tree;
 use local_rules::{members_in, value_in};
 use std::alloc::Global;
@@ -91,10 +91,10 @@ fn values_by(
     contents: &[ResolvedContent],
 ) -> Result<(Tree, Tree), BodyEnd>
     ensures { MatchResult result
-        (λ made. HasNoBreach (IsBreach (twin_body library.now contents.now) (view tree.now))
+        (λ made. HasNoBreach (IsBodyBreach (twin_body library.now contents.now) (view tree.now))
         × IsSortedOf (object (property_members (twin_body library.now contents.now) (view tree.now))) (view made.0)
         × IsSortedOf (object (component_members (twin_body library.now contents.now) (view tree.now))) (view made.1))
-        (EndsBy (IsBreach (twin_body library.now contents.now) (view tree.now))) }
+        (EndsBy (IsBodyBreach (twin_body library.now contents.now) (view tree.now))) }
 {
     let role = Role::Twin { library, contents };
     judge_body(alloc, tree, role)?;

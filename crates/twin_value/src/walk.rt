@@ -3,9 +3,9 @@
 ghost use Rattle.std.specs.Prelude.{◌≡◌, [], ◌∷◌, ◌++◌, None, IfOk};
 ghost use Rattle.json_tree.specs.Values.{array, object};
 ghost use Rattle.json_tree.specs.View.{view, elements_view, members_view};
-ghost use Rattle.twin_value.specs.Breaches.{IsBreach};
+ghost use Rattle.twin_value.specs.Breaches.{IsBodyBreach};
 ghost use Rattle.twin_value.specs.Machinery.Views.{role_view};
-ghost use Rattle.twin_value.specs.Machinery.Walks.{FindsFirst, FindsClear};
+ghost use Rattle.twin_value.specs.Machinery.Walks.{FindsFirstBodyBreach, FindsClear};
 ghost use Rattle.twin_value.specs.Machinery.Sound.{Sound, SoundAlone};
 
 use crate::code::BodyCode;
@@ -36,7 +36,7 @@ impl Found {
 /// The first breach in a value in a role.
 #[cycle(walk)]
 pub fn first_in(tree: &Tree, alloc: Global, role: Role) -> Result<Option<Found>, OutOfMemory>
-    ensures first { IfOk result (FindsFirst (IsBreach (role_view role.entry) (view tree.now))) }
+    ensures first { IfOk result (FindsFirstBodyBreach (IsBodyBreach (role_view role.entry) (view tree.now))) }
     ensures sound { IfOk result (λ found. found ≡ None → Sound (role_view role.entry) (view tree.now)) }
 {
     if let Some(code) = broken_by(role, tree) {

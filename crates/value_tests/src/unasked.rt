@@ -2,8 +2,8 @@
 //! bytes are refused before they meet a model.
 
 use dt_base::List;
+use dt_base::names::Dtmi;
 use dtdl_terms::{Boxed, Common, Localized, Primitive, Resolved, Schema};
-use dtmi_name::Dtmi;
 use json_read::read;
 use json_tree::Place;
 use std::alloc::Global;

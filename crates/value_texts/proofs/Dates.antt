@@ -1,6 +1,7 @@
 -- What the reader of dates takes is what dates are.
 use Rattle.std.proofs.Common.{◌≡◌, ℕ, ◌<◌, ◌≤◌, ◌↔◌, List, [], ◌∷◌, ◌++◌, Bool, true, false, cond, ◌&&◌, nat_le, Option, Some, None, IsTrue, refl, sym, ap, ◌∙◌, subst, arith, rules}
 use Rattle.std.specs.Option.{option_and_then}
+use Rattle.std.proofs.lemmas.Bool.{and_from, and_parts}
 use Rattle.value_texts.specs.Calendar.{HasDay, days_in_month}
 use Rattle.value_texts.specs.Clock.{IsDate, two_digits, four_digits}
 use Rattle.value_texts.specs.Machinery.Reading.{is_nothing, is_whole, is_day, after_byte, read_two, read_four, after_hyphen, after_date}
@@ -14,24 +15,16 @@ le_test m n h = search rules
 le_of : (m n : ℕ) → nat_le m n ≡ true → m ≤ n
 le_of m n h = search rules
 
-both_true : (a b : Bool) → (a && b) ≡ true → (a ≡ true) × (b ≡ true)
-both_true true b h = (refl, h)
-both_true false b h = absurd cc
-
-both : (a b : Bool) → a ≡ true → b ≡ true → (a && b) ≡ true
-both true b e h = h
-both false b e h = absurd cc
-
 day_test : (y m d : ℕ) → HasDay y m d → is_day y m d ≡ true
 day_test y m d h =
-    both (nat_le 1 m) _ (le_test 1 m h.first_month) (both (nat_le m 12) _ (le_test m 12 h.last_month)
-    (both (nat_le 1 d) _ (le_test 1 d h.first_day) (le_test d (days_in_month y m) h.last_day)))
+    and_from (nat_le 1 m) _ (le_test 1 m h.first_month) (and_from (nat_le m 12) _ (le_test m 12 h.last_month)
+    (and_from (nat_le 1 d) _ (le_test 1 d h.first_day) (le_test d (days_in_month y m) h.last_day)))
 
 day_of : (y m d : ℕ) → is_day y m d ≡ true → HasDay y m d
 day_of y m d h =
-    let a = both_true (nat_le 1 m) (nat_le m 12 && (nat_le 1 d && nat_le d (days_in_month y m))) h in
-    let b = both_true (nat_le m 12) (nat_le 1 d && nat_le d (days_in_month y m)) a.1 in
-    let c = both_true (nat_le 1 d) (nat_le d (days_in_month y m)) b.1 in
+    let a = and_parts (nat_le 1 m) (nat_le m 12 && (nat_le 1 d && nat_le d (days_in_month y m))) h in
+    let b = and_parts (nat_le m 12) (nat_le 1 d && nat_le d (days_in_month y m)) a.1 in
+    let c = and_parts (nat_le 1 d) (nat_le d (days_in_month y m)) b.1 in
     record { first_month = le_of 1 m a.0; last_month = le_of m 12 b.0; first_day = le_of 1 d c.0; last_day = le_of d (days_in_month y m) c.1 }
 
 -- ---- a hyphen and a number

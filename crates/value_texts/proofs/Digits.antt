@@ -2,8 +2,8 @@
 use Rattle.std.proofs.Common.{◌≡◌, ℕ, suc, ◌≤◌, ◌⊎◌, inl, inr, List, [], ◌∷◌, ◌++◌, length, drop, Bool, true, false, cond, ◌&&◌, nat_eq, nat_le, Option, Some, None, refl, sym, ap, ◌∙◌, rules}
 use Rattle.std.specs.List.{AllByRecursion}
 use Rattle.std.specs.Char.{is_ascii_digit}
-use Rattle.value_texts.specs.Clock.{IsDigit}
-use Rattle.value_texts.specs.Machinery.Reading.{lead, after_byte}
+use Rattle.json_decimal.specs.Literal.{IsDigit}
+use Rattle.value_texts.specs.Machinery.Reading.{leading_digits, after_byte}
 
 pub bool_cases : (b : Bool) → (b ≡ true) ⊎ (b ≡ false)
 bool_cases true = inl refl
@@ -26,29 +26,29 @@ pub digit_of : (b : ℕ) → is_ascii_digit b ≡ true → IsDigit b
 digit_of b h = let w = is_within b 48 57 h in record { low = w.0; high = w.1 }
 
 -- so many digits stand at the front, where none follows them
-pub lead_digits : (ds rest : List ℕ) → AllByRecursion IsDigit ds → lead rest ≡ 0 → lead (ds ++ rest) ≡ length ds
+pub lead_digits : (ds rest : List ℕ) → AllByRecursion IsDigit ds → leading_digits rest ≡ 0 → leading_digits (ds ++ rest) ≡ length ds
 lead_digits [] rest all none = none
 lead_digits (d ∷ ds) rest all none =
-    ap (λ (b : Bool). cond b (suc (lead (ds ++ rest))) 0) (digit_test d all.0) ∙ ap suc (lead_digits ds rest all.1 none)
+    ap (λ (b : Bool). cond b (suc (leading_digits (ds ++ rest))) 0) (digit_test d all.0) ∙ ap suc (lead_digits ds rest all.1 none)
 
 pub record Led (bs : List ℕ) : Type 0 where
   pub digits : List ℕ
   pub all : AllByRecursion IsDigit digits
-  pub count : length digits ≡ lead bs
-  pub split : bs ≡ digits ++ drop (lead bs) bs
+  pub count : length digits ≡ leading_digits bs
+  pub split : bs ≡ digits ++ drop (leading_digits bs) bs
 
 led_step : (b : ℕ) (bs : List ℕ) (t : Bool) → is_ascii_digit b ≡ t → Led bs → Led (b ∷ bs)
 led_step b bs true is led = record {
   digits = b ∷ led.digits;
   all = (digit_of b is, led.all);
-  count = ap suc led.count ∙ sym (ap (λ (t : Bool). cond t (suc (lead bs)) 0) is);
-  split = ap (λ (l : List ℕ). b ∷ l) led.split ∙ sym (ap (λ (t : Bool). b ∷ (led.digits ++ drop (cond t (suc (lead bs)) 0) (b ∷ bs))) is);
+  count = ap suc led.count ∙ sym (ap (λ (t : Bool). cond t (suc (leading_digits bs)) 0) is);
+  split = ap (λ (l : List ℕ). b ∷ l) led.split ∙ sym (ap (λ (t : Bool). b ∷ (led.digits ++ drop (cond t (suc (leading_digits bs)) 0) (b ∷ bs))) is);
 }
 led_step b bs false is led = record {
   digits = [];
   all = tt;
-  count = sym (ap (λ (t : Bool). cond t (suc (lead bs)) 0) is);
-  split = sym (ap (λ (t : Bool). drop (cond t (suc (lead bs)) 0) (b ∷ bs)) is);
+  count = sym (ap (λ (t : Bool). cond t (suc (leading_digits bs)) 0) is);
+  split = sym (ap (λ (t : Bool). drop (cond t (suc (leading_digits bs)) 0) (b ∷ bs)) is);
 }
 
 pub led : (bs : List ℕ) → Led bs

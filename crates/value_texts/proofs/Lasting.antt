@@ -4,33 +4,34 @@ use Rattle.std.proofs.Math.Seq.{drop-append_seam}
 use Rattle.std.specs.List.{AllByRecursion}
 use Rattle.std.specs.Option.{option_and_then, option_or, unwrap_or}
 use Rattle.std.specs.Char.{is_ascii_digit}
-use Rattle.value_texts.specs.Clock.{IsDigit}
-use Rattle.value_texts.specs.Durations.{IsCount, IsPart, IsSeconds, IsTimePart, IsDateAndTime, IsWeeks, IsDuration}
-use Rattle.value_texts.specs.Machinery.Reading.{lead, is_nothing, is_whole, after_byte, after_count, after_number, after_part, after_fine, after_seconds, after_clock, after_days, is_used, is_time_part, ends_with_time, are_parts, is_rest, is_duration}
+use Rattle.std.proofs.lemmas.Bool.{or_cases, or_right}
+use Rattle.json_decimal.specs.Literal.{IsDigit}
+use Rattle.value_texts.specs.Durations.{IsCount, IsDurationPart, IsSeconds, IsTimePart, IsDateAndTime, IsWeeks, IsDuration}
+use Rattle.value_texts.specs.Machinery.Reading.{leading_digits, is_nothing, is_whole, after_byte, after_count, after_number, after_part, after_fine, after_seconds, after_clock, after_days, is_used, is_time_part, ends_with_time, are_parts, is_rest, is_duration}
 use Rattle.value_texts.proofs.Digits.{option_cases, is_within, is_within-in, digit_test, lead_digits, led, byte_takes, byte_gives}
 
 -- ---- a number
-drop_lead : (ds rest : List ℕ) → lead (ds ++ rest) ≡ length ds → drop (lead (ds ++ rest)) (ds ++ rest) ≡ rest
+drop_lead : (ds rest : List ℕ) → leading_digits (ds ++ rest) ≡ length ds → drop (leading_digits (ds ++ rest)) (ds ++ rest) ≡ rest
 drop_lead ds rest e = ap (λ (n : ℕ). drop n (ds ++ rest)) e ∙ drop-append_seam ds rest
 
-pub count_takes : (ds rest : List ℕ) → IsCount ds → lead rest ≡ 0 → after_count (ds ++ rest) ≡ Some rest
+pub count_takes : (ds rest : List ℕ) → IsCount ds → leading_digits rest ≡ 0 → after_count (ds ++ rest) ≡ Some rest
 unfolding after_count
 count_takes ds rest c none =
     let e = lead_digits ds rest c.digits none in
-    let t : (nat_le 1 (lead (ds ++ rest)) && nat_le (lead (ds ++ rest)) 9) ≡ true =
+    let t : (nat_le 1 (leading_digits (ds ++ rest)) && nat_le (leading_digits (ds ++ rest)) 9) ≡ true =
     ap (λ (n : ℕ). nat_le 1 n && nat_le n 9) e ∙ is_within-in (length ds) 1 9 c.some c.few in
-    ap (λ (b : Bool). cond b (Some (drop (lead (ds ++ rest)) (ds ++ rest))) None) t ∙ ap (λ (l : List ℕ). Some l) (drop_lead ds rest e)
+    ap (λ (b : Bool). cond b (Some (drop (leading_digits (ds ++ rest)) (ds ++ rest))) None) t ∙ ap (λ (l : List ℕ). Some l) (drop_lead ds rest e)
 
 pub record Counted (bs rest : List ℕ) : Type 0 where
   pub count : List ℕ
   pub is_count : IsCount count
   pub split : bs ≡ count ++ rest
 
-count_step : (bs rest : List ℕ) (t : Bool) → (nat_le 1 (lead bs) && nat_le (lead bs) 9) ≡ t → cond t (Some (drop (lead bs) bs)) None ≡ Some rest → Counted bs rest
+count_step : (bs rest : List ℕ) (t : Bool) → (nat_le 1 (leading_digits bs) && nat_le (leading_digits bs) 9) ≡ t → cond t (Some (drop (leading_digits bs) bs)) None ≡ Some rest → Counted bs rest
 count_step bs rest true is e =
     let l = led bs in
-    let w = is_within (lead bs) 1 9 is in
-    let same : drop (lead bs) bs ≡ rest = cc in
+    let w = is_within (leading_digits bs) 1 9 is in
+    let same : drop (leading_digits bs) bs ≡ rest = cc in
     let count = l.count in
     let low = w.0 in
     let high = w.1 in
@@ -43,14 +44,14 @@ count_step bs rest false is e = absurd cc
 
 pub count_gives : (bs rest : List ℕ) → after_count bs ≡ Some rest → Counted bs rest
 unfolding after_count
-count_gives bs rest e = count_step bs rest (nat_le 1 (lead bs) && nat_le (lead bs) 9) refl e
+count_gives bs rest e = count_step bs rest (nat_le 1 (leading_digits bs) && nat_le (leading_digits bs) 9) refl e
 
 -- ---- a number and its mark
 abbrev IsMark : ℕ → Type 0
 IsMark mark = is_ascii_digit mark ≡ false
 
-lead_mark : (mark : ℕ) (rest : List ℕ) → IsMark mark → lead (mark ∷ rest) ≡ 0
-lead_mark mark rest is = ap (λ (t : Bool). cond t (suc (lead rest)) 0) is
+lead_mark : (mark : ℕ) (rest : List ℕ) → IsMark mark → leading_digits (mark ∷ rest) ≡ 0
+lead_mark mark rest is = ap (λ (t : Bool). cond t (suc (leading_digits rest)) 0) is
 
 pub number_takes : (mark : ℕ) (ds rest : List ℕ) → IsMark mark → IsCount ds → after_number mark (ds ++ mark ∷ rest) ≡ Some rest
 unfolding after_number
@@ -91,7 +92,7 @@ number_none mark bs is other = elim (option_cases (after_number mark bs)) [
 ]
 
 -- ---- parts that may be left out
-pub part_takes : (mark : ℕ) (p rest : List ℕ) → IsMark mark → IsPart mark p → (first_mark rest ≡ Some mark → ⊥) → after_part mark (p ++ rest) ≡ rest
+pub part_takes : (mark : ℕ) (p rest : List ℕ) → IsMark mark → IsDurationPart mark p → (first_mark rest ≡ Some mark → ⊥) → after_part mark (p ++ rest) ≡ rest
 unfolding after_part
 part_takes mark p rest is (inl none) other =
     ap (λ (l : List ℕ). unwrap_or (after_number mark (l ++ rest)) (l ++ rest)) none
@@ -101,7 +102,7 @@ part_takes mark p rest is (inr (count, c, e)) other =
     ap (λ (o : Option (List ℕ)). unwrap_or o (p ++ rest)) (ap (after_number mark) whole ∙ number_takes mark count rest is c)
 
 -- a part in front brings its own mark
-part_mark : (mark other : ℕ) (p rest : List ℕ) → IsMark mark → IsPart mark p → (mark ≡ other → ⊥) → (first_mark rest ≡ Some other → ⊥) → first_mark (p ++ rest) ≡ Some other → ⊥
+part_mark : (mark other : ℕ) (p rest : List ℕ) → IsMark mark → IsDurationPart mark p → (mark ≡ other → ⊥) → (first_mark rest ≡ Some other → ⊥) → first_mark (p ++ rest) ≡ Some other → ⊥
 part_mark mark other p rest is (inl none) differ other_mark h = other_mark (ap (λ (l : List ℕ). first_mark (l ++ rest)) (sym none) ∙ h)
 part_mark mark other p rest is (inr (count, c, e)) differ other_mark h =
     let whole : p ++ rest ≡ count ++ mark ∷ rest = ap (λ (l : List ℕ). l ++ rest) e ∙ append_assoc count (mark ∷ []) rest in
@@ -110,7 +111,7 @@ part_mark mark other p rest is (inr (count, c, e)) differ other_mark h =
 
 pub record Parted (mark : ℕ) (bs rest : List ℕ) : Type 0 where
   pub part : List ℕ
-  pub is_part : IsPart mark part
+  pub is_part : IsDurationPart mark part
   pub split : bs ≡ part ++ rest
 
 parted_step : (mark : ℕ) (bs : List ℕ) (o : Option (List ℕ)) → after_number mark bs ≡ o → Parted mark bs (unwrap_or o bs)
@@ -212,7 +213,7 @@ seconds_mark s other (inr (count, more, c, m, e)) a b h =
     let f : Some 46 ≡ Some other = sym (mark_behind 46 count (more ++ 83 ∷ []) refl c.digits) ∙ (ap first_mark (sym e) ∙ h) in b cc
 
 -- ---- times
-clock_takes : (h m s : List ℕ) → IsPart 72 h → IsPart 77 m → IsSeconds s → after_clock (h ++ (m ++ s)) ≡ []
+clock_takes : (h m s : List ℕ) → IsDurationPart 72 h → IsDurationPart 77 m → IsSeconds s → after_clock (h ++ (m ++ s)) ≡ []
 unfolding after_clock
 clock_takes h m s ph pm ps =
     let one = part_takes 72 h (m ++ s) refl ph (part_mark 77 72 m s refl pm (λ e. omega (arith, e)) (seconds_mark s 72 ps (λ e. omega (arith, e)) (λ e. omega (arith, e)))) in
@@ -262,17 +263,9 @@ time_step t (Some rest) is h =
     let u = used_gives rest (after_clock rest) h in
     subst IsTimePart (sym (byte_gives 84 t rest is)) (time_of rest u.0 u.1)
 
-either_true : (a b : Bool) → (a || b) ≡ true → (a ≡ true) ⊎ (b ≡ true)
-either_true true b h = inl refl
-either_true false b h = inr h
-
-or_right : (a b : Bool) → b ≡ true → (a || b) ≡ true
-or_right true b h = refl
-or_right false b h = h
-
 time_gives : (t : List ℕ) → ends_with_time t ≡ true → (t ≡ []) ⊎ IsTimePart t
 unfolding ends_with_time
-time_gives t h = elim (either_true (is_nothing t) (is_time_part (after_byte 84 t)) h) [
+time_gives t h = elim (or_cases (is_nothing t) (is_time_part (after_byte 84 t)) h) [
   | inl none ↦ inl (nothing_left t none)
   | inr some ↦ inr (time_step t (after_byte 84 t) refl some)
 ]
@@ -283,7 +276,7 @@ unfolding first_mark
 time_mark t other (inl none) a h = let f : None ≡ Some other = ap first_mark (sym none) ∙ h in cc
 time_mark t other (inr p) a h = let f : Some 84 ≡ Some other = ap first_mark (sym p.spelled) ∙ h in a cc
 
-days_take : (y m d t : List ℕ) → IsPart 89 y → IsPart 77 m → IsPart 68 d → (t ≡ []) ⊎ IsTimePart t → after_days (y ++ (m ++ (d ++ t))) ≡ t
+days_take : (y m d t : List ℕ) → IsDurationPart 89 y → IsDurationPart 77 m → IsDurationPart 68 d → (t ≡ []) ⊎ IsTimePart t → after_days (y ++ (m ++ (d ++ t))) ≡ t
 unfolding after_days
 days_take y m d t py pm pd pt =
     let three = part_takes 68 d t refl pd (time_mark t 68 pt (λ e. omega (arith, e))) in
@@ -339,7 +332,7 @@ rest_take bs (inl p) = or_right (is_whole (after_number 87 bs)) (are_parts bs) (
 rest_take bs (inr w) = ap (λ (b : Bool). b || are_parts bs) (weeks_take bs w)
 
 rest_give : (bs : List ℕ) → is_rest (Some bs) ≡ true → IsDateAndTime bs ⊎ IsWeeks bs
-rest_give bs h = elim (either_true (is_whole (after_number 87 bs)) (are_parts bs) h) [
+rest_give bs h = elim (or_cases (is_whole (after_number 87 bs)) (are_parts bs) h) [
   | inl w ↦ inr (weeks_step bs (after_number 87 bs) refl w)
   | inr p ↦ inl (parts_give bs p)
 ]

@@ -4,8 +4,9 @@ use Rattle.std.proofs.Math.Seq.{drop-append_seam}
 use Rattle.std.specs.List.{AllByRecursion}
 use Rattle.std.specs.Option.{option_and_then, option_or}
 use Rattle.std.specs.Char.{is_ascii_digit}
-use Rattle.value_texts.specs.Clock.{IsDigit, IsFraction, IsOffset, IsTime, IsDateTime, two_digits}
-use Rattle.value_texts.specs.Machinery.Reading.{lead, is_whole, after_byte, after_either, read_two, after_within, after_colon, after_digits, after_fraction, after_offset, after_time, after_date, after_date_time}
+use Rattle.value_texts.specs.Clock.{IsFraction, IsOffset, IsTime, IsDateTime, two_digits}
+use Rattle.json_decimal.specs.Literal.{IsDigit}
+use Rattle.value_texts.specs.Machinery.Reading.{leading_digits, is_whole, after_byte, after_either, read_two, after_within, after_colon, after_digits, after_fraction, after_offset, after_time, after_date, after_date_time}
 use Rattle.value_texts.proofs.Digits.{lead_digits, led, byte_takes, byte_gives}
 use Rattle.value_texts.proofs.Numbers.{two_takes, two_gives, ReadTwo}
 use Rattle.value_texts.proofs.Dates.{date_takes, date_gives, Dated, nothing_left, append_nothing}
@@ -84,12 +85,12 @@ some_digits : (ds : List ℕ) → 1 ≤ length ds → AllByRecursion IsDigit ds 
 some_digits [] some all = absurd (omega (arith, some))
 some_digits (d ∷ ds) some all = inr (d, ds, all.0, all.1, refl)
 
-digits_of : (bs rest : List ℕ) (t : Bool) → nat_le 1 (lead bs) ≡ t → cond t (Some (drop (lead bs) bs)) None ≡ Some rest → Fractioned (46 ∷ bs) rest
+digits_of : (bs rest : List ℕ) (t : Bool) → nat_le 1 (leading_digits bs) ≡ t → cond t (Some (drop (leading_digits bs) bs)) None ≡ Some rest → Fractioned (46 ∷ bs) rest
 digits_of bs rest false is e = absurd cc
 digits_of bs rest true is e =
     let l = led bs in
-    let same : drop (lead bs) bs ≡ rest = cc in
-    let low = le_of 1 (lead bs) is in
+    let same : drop (leading_digits bs) bs ≡ rest = cc in
+    let low = le_of 1 (leading_digits bs) is in
     let count = l.count in
     record {
       fraction = 46 ∷ l.digits;
@@ -100,7 +101,7 @@ digits_of bs rest true is e =
 fraction_of : (b : ℕ) (bs rest : List ℕ) (t : Bool) → nat_eq b 46 ≡ t → cond t (after_digits bs) (Some (b ∷ bs)) ≡ Some rest → Fractioned (b ∷ bs) rest
 fraction_of b bs rest true is e =
     let same : b ≡ 46 = search rules in
-    subst (λ (x : ℕ). Fractioned (x ∷ bs) rest) (sym same) (digits_of bs rest (nat_le 1 (lead bs)) refl e)
+    subst (λ (x : ℕ). Fractioned (x ∷ bs) rest) (sym same) (digits_of bs rest (nat_le 1 (leading_digits bs)) refl e)
 fraction_of b bs rest false is e = let same : b ∷ bs ≡ rest = cc in record { fraction = []; is_fraction = inl refl; split = same }
 
 fraction_gives : (bs rest : List ℕ) → after_fraction bs ≡ Some rest → Fractioned bs rest
@@ -125,8 +126,8 @@ offset_plain o (inl z) = record { first = 90; more = []; digit = refl; point = r
 offset_plain o (inr (inl z)) = record { first = 122; more = []; digit = refl; point = refl; split = z }
 offset_plain o (inr (inr n)) = plain_sign o n.sign (two_digits n.hour ++ 58 ∷ two_digits n.minute) n.signed n.spelled
 
-plain_lead : (bs : List ℕ) → IsPlain bs → lead bs ≡ 0
-plain_lead bs p = ap lead p.split ∙ ap (λ (t : Bool). cond t (suc (lead p.more)) 0) p.digit
+plain_lead : (bs : List ℕ) → IsPlain bs → leading_digits bs ≡ 0
+plain_lead bs p = ap leading_digits p.split ∙ ap (λ (t : Bool). cond t (suc (leading_digits p.more)) 0) p.digit
 
 fraction_takes : (f rest : List ℕ) → IsFraction f → IsPlain rest → after_fraction (f ++ rest) ≡ Some rest
 unfolding after_fraction
@@ -134,10 +135,10 @@ fraction_takes f rest (inl none) p =
     ap (λ (l : List ℕ). after_fraction (l ++ rest)) none ∙ ap after_fraction p.split
     ∙ ap (λ (t : Bool). cond t (after_digits p.more) (Some (p.first ∷ p.more))) p.point ∙ ap (λ (l : List ℕ). Some l) (sym p.split)
 fraction_takes f rest (inr (first, more, d, ds, e)) p =
-    let count : lead (first ∷ (more ++ rest)) ≡ suc (length more) = lead_digits (first ∷ more) rest (d, ds) (plain_lead rest p) in
-    let some : nat_le 1 (lead (first ∷ (more ++ rest))) ≡ true = le_test 1 (lead (first ∷ (more ++ rest))) (omega (arith, count)) in
+    let count : leading_digits (first ∷ (more ++ rest)) ≡ suc (length more) = lead_digits (first ∷ more) rest (d, ds) (plain_lead rest p) in
+    let some : nat_le 1 (leading_digits (first ∷ (more ++ rest))) ≡ true = le_test 1 (leading_digits (first ∷ (more ++ rest))) (omega (arith, count)) in
     ap (λ (l : List ℕ). after_fraction (l ++ rest)) e
-    ∙ ap (λ (t : Bool). cond t (Some (drop (lead (first ∷ (more ++ rest))) (first ∷ (more ++ rest)))) None) some
+    ∙ ap (λ (t : Bool). cond t (Some (drop (leading_digits (first ∷ (more ++ rest))) (first ∷ (more ++ rest)))) None) some
     ∙ ap (λ (n : ℕ). Some (drop n (first ∷ (more ++ rest)))) count
     ∙ ap (λ (l : List ℕ). Some l) (drop-append_seam (first ∷ more) rest)
 

@@ -2,6 +2,7 @@
 use Rattle.std.specs.Prelude.{◌≡◌, ℕ, ◌+◌, ◌/◌, ◌%◌, ◌≤◌, ◌⊎◌, List, [], ◌∷◌, ◌++◌}
 use Rattle.std.specs.List.{AllByRecursion}
 use Rattle.value_texts.specs.Calendar.{HasDay}
+use Rattle.json_decimal.specs.Literal.{IsDigit}
 
 -- A number below 100, and one below 10,000, in decimal digits with zeros in front.
 abbrev pub two_digits : ℕ → List ℕ
@@ -9,10 +10,6 @@ two_digits n = (48 + n / 10) ∷ (48 + n % 10) ∷ []
 
 abbrev pub four_digits : ℕ → List ℕ
 four_digits n = two_digits (n / 100) ++ two_digits (n % 100)
-
-pub record IsDigit (b : ℕ) : Type 0 where
-  pub low : 48 ≤ b
-  pub high : b ≤ 57
 
 -- `full-date`: a day that there is.
 pub record IsDate (bytes : List ℕ) : Type 0 where

@@ -1,7 +1,7 @@
 -- Durations: `P`, parts in this order, each a number and its mark, or weeks alone.
 use Rattle.std.specs.Prelude.{◌≡◌, ℕ, ◌≤◌, ◌<◌, ◌⊎◌, List, [], ◌∷◌, ◌++◌, length}
 use Rattle.std.specs.List.{AllByRecursion}
-use Rattle.value_texts.specs.Clock.{IsDigit}
+use Rattle.json_decimal.specs.Literal.{IsDigit}
 
 -- From one digit to nine.
 pub record IsCount (bytes : List ℕ) : Type 0 where
@@ -10,12 +10,12 @@ pub record IsCount (bytes : List ℕ) : Type 0 where
   pub digits : AllByRecursion IsDigit bytes
 
 -- Nothing, or a number and a mark.
-abbrev pub IsPart : ℕ → List ℕ → Type 0
-IsPart mark bytes = (bytes ≡ []) ⊎ ((count : List ℕ) × IsCount count × (bytes ≡ count ++ mark ∷ []))
+abbrev pub IsDurationPart : ℕ → List ℕ → Type 0
+IsDurationPart mark bytes = (bytes ≡ []) ⊎ ((count : List ℕ) × IsCount count × (bytes ≡ count ++ mark ∷ []))
 
 -- The same for seconds, which may have a point and up to nine digits more.
 abbrev pub IsSeconds : List ℕ → Type 0
-IsSeconds bytes = IsPart 83 bytes
+IsSeconds bytes = IsDurationPart 83 bytes
     ⊎ ((count more : List ℕ) × IsCount count × IsCount more × (bytes ≡ count ++ 46 ∷ (more ++ 83 ∷ [])))
 
 -- `T`, and hours, minutes and seconds, at least one of them.
@@ -23,8 +23,8 @@ pub record IsTimePart (bytes : List ℕ) : Type 0 where
   pub hours : List ℕ
   pub minutes : List ℕ
   pub seconds : List ℕ
-  pub are_hours : IsPart 72 hours
-  pub are_minutes : IsPart 77 minutes
+  pub are_hours : IsDurationPart 72 hours
+  pub are_minutes : IsDurationPart 77 minutes
   pub are_seconds : IsSeconds seconds
   pub some : 0 < length (hours ++ (minutes ++ seconds))
   pub spelled : bytes ≡ 84 ∷ (hours ++ (minutes ++ seconds))
@@ -35,9 +35,9 @@ pub record IsDateAndTime (bytes : List ℕ) : Type 0 where
   pub months : List ℕ
   pub days : List ℕ
   pub time : List ℕ
-  pub are_years : IsPart 89 years
-  pub are_months : IsPart 77 months
-  pub are_days : IsPart 68 days
+  pub are_years : IsDurationPart 89 years
+  pub are_months : IsDurationPart 77 months
+  pub are_days : IsDurationPart 68 days
   pub is_time : (time ≡ []) ⊎ IsTimePart time
   pub some : 0 < length bytes
   pub spelled : bytes ≡ years ++ (months ++ (days ++ time))

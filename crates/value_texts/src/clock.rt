@@ -3,7 +3,7 @@
 ghost use Rattle.std.specs.Prelude.{◌≡◌, ◌<◌, ◌≤◌, ◌↔◌, IsTrue, length};
 ghost use Rattle.std.specs.Option.{option_map, IfSome};
 ghost use Rattle.value_texts.specs.Clock.{IsDate, IsTime, IsDateTime};
-ghost use Rattle.value_texts.specs.Machinery.Reading.{is_day, is_whole, after_hyphen, after_date, after_within, after_colon, lead, after_digits, after_fraction, after_offset, after_time, after_date_time};
+ghost use Rattle.value_texts.specs.Machinery.Reading.{is_day, is_whole, after_hyphen, after_date, after_within, after_colon, leading_digits, after_digits, after_fraction, after_offset, after_time, after_date_time};
 
 use crate::calendar::has_day;
 use crate::readers::{after_byte, after_either, read_four, read_two};
@@ -93,7 +93,7 @@ fn after_colon(bytes: &[u8], most: u8) -> Option<&[u8]>
 
 /// How many digits stand at the front.
 pub fn lead(bytes: &[u8]) -> usize
-    ensures count { result ≡ lead bytes.now }
+    ensures count { result ≡ leading_digits bytes.now }
     ensures within { result ≤ length bytes.now }
 {
     let mut count = 0;

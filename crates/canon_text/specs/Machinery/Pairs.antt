@@ -1,11 +1,12 @@
 -- Values beside their names.
-use Rattle.std.specs.Prelude.{ℕ, List}
+use Rattle.std.specs.Prelude.{◌≡◌, ℕ, List, [], ◌∷◌, ◌++◌, Option}
 use Rattle.std.specs.Borrow.{Bor}
 use Rattle.json_tree.specs.Values.{Json}
 use Rattle.dtdl_terms.specs.TermViews.{payload_term, content_term}
 use Rattle.dtdl_terms.specs.declared.schema.Payload.{Payload}
 use Rattle.dtdl_terms.specs.declared.content.Content.{Content}
 use Rattle.dtdl_terms.specs.declared.interface.Interface.{Interface}
+use Rattle.canon_text.specs.Objects.{present}
 use Rattle.canon_text.specs.Canonical.{payload_value, content_value, interface_pair}
 
 abbrev pub pair_name : List ℕ × Json → List ℕ
@@ -23,3 +24,7 @@ content_named c = (c.name, content_value (content_term c))
 -- an interface where it is
 abbrev pub pair_at : Bor Interface → List ℕ × Json
 pair_at i = interface_pair i.now
+
+-- Members to which one was added, where it has a value.
+abbrev pub IsPut : List (List ℕ × Json) → List (List ℕ × Json) → List ℕ → Option Json → Type 0
+IsPut before now key v = (parts : List (List ℕ × Option Json)) → before ≡ present parts → now ≡ present (parts ++ (key, v) ∷ [])

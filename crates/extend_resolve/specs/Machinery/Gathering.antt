@@ -3,7 +3,7 @@ use Rattle.std.specs.Prelude.{◌≡◌, ℕ, List, [], ◌∷◌, ◌++◌, Boo
 use Rattle.std.specs.Option.{is_some, option_to_list}
 use Rattle.std.specs.Ordering.{is_eq}
 use Rattle.std.specs.List.{AllByRecursion, IsDistinct, filter_map}
-use Rattle.dtmi_name.specs.Grammar.{Identifier, id_cmp}
+use Rattle.dt_base.specs.names.Grammar.{Identifier, id_cmp}
 use Rattle.dtdl_terms.specs.Sets.{interface_at}
 use Rattle.dtdl_terms.specs.Terms.{KindTerm, component}
 use Rattle.dtdl_terms.specs.TermViews.{kind_term}

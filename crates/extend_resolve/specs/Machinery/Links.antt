@@ -22,8 +22,8 @@ abbrev pub Arrives : List (List ℕ) → ℕ → ℕ → Type 0
 Arrives links x y = (ys : List ℕ) × IsWay links x ys × (way_end x ys ≡ y)
 
 -- each link is one of the numbers
-abbrev pub AreWithin : List (List ℕ) → Type 0
-AreWithin links = (x y : ℕ) → IsIn y (links_at links x) → y < length links
+abbrev pub AreLinksWithin : List (List ℕ) → Type 0
+AreLinksWithin links = (x y : ℕ) → IsIn y (links_at links x) → y < length links
 
 -- with a number, where it is not there
 abbrev pub push_new : List ℕ → ℕ → List ℕ

@@ -27,54 +27,54 @@ unfoldable pub first_bytes : List ℕ → ℕ
 first_bytes name = fold then_byte 0 (take 8 name)
 
 -- the contents of all interfaces in one list
-abbrev pub contents_of : List (Bor Interface) → List Content
-contents_of nodes = flat_map (λ n. n.now.contents) nodes
+abbrev pub all_contents : List (Bor Interface) → List Content
+all_contents nodes = flat_map (λ n. n.now.contents) nodes
 
 -- what is sorted of a content: the first bytes of its name, its name, and where it stands in the list of all contents
-abbrev pub Entry : Type 0
-Entry = ℕ × Bor (List ℕ) × ℕ
+abbrev pub SortedName : Type 0
+SortedName = ℕ × Bor (List ℕ) × ℕ
 
 -- an entry tells of the content at its place
-pub record Tells (contents : List Content) (e : Entry) : Type 0 where
+pub record PlacesContent (contents : List Content) (e : SortedName) : Type 0 where
   pub content : Content
   pub placed : slice_get contents e.2 ≡ Some content
   pub name : e.1.now ≡ content.name
   pub first : e.0 ≡ first_bytes content.name
 
 -- these are the entries of the contents, each at the place that it tells
-pub record AreEntries (contents : List Content) (entries : List Entry) : Type 0 where
+pub record AreEntries (contents : List Content) (entries : List SortedName) : Type 0 where
   pub size : length entries ≡ length contents
-  pub each : (k : ℕ) (e : Entry) → slice_get entries k ≡ Some e → Tells contents e
-  pub places : (k : ℕ) (e : Entry) → slice_get entries k ≡ Some e → e.2 ≡ k
+  pub each : (k : ℕ) (e : SortedName) → slice_get entries k ≡ Some e → PlacesContent contents e
+  pub places : (k : ℕ) (e : SortedName) → slice_get entries k ≡ Some e → e.2 ≡ k
 
 -- the entries of these contents stand behind those that were there
-abbrev pub AddsEntries : List Entry → List Entry → List Content → Type 0
+abbrev pub AddsEntries : List SortedName → List SortedName → List Content → Type 0
 AddsEntries old new contents = (before : List Content) → AreEntries before old → AreEntries (before ++ contents) new
 
 -- the order of entries
-abbrev pub entry_cmp : Entry → Entry → Ordering
+abbrev pub entry_cmp : SortedName → SortedName → Ordering
 entry_cmp d e = ordering_then (ordering_then (nat_cmp d.0 e.0) (slice_cmp nat_cmp d.1.now e.1.now)) (nat_cmp d.2 e.2)
 
 -- entries in their order, with places among so many contents
-pub record AreOrdered (entries : List Entry) (size : ℕ) : Type 0 where
+pub record AreOrdered (entries : List SortedName) (size : ℕ) : Type 0 where
   pub contents : List Content
   pub count : length contents ≡ size
-  pub each : (k : ℕ) (e : Entry) → slice_get entries k ≡ Some e → Tells contents e
+  pub each : (k : ℕ) (e : SortedName) → slice_get entries k ≡ Some e → PlacesContent contents e
   pub sorted : IsSorted entry_cmp entries
 
 -- the number of a name: the place of the first entry that has it
-abbrev pub number_in : List Entry → List ℕ → Option ℕ
-number_in [] name = None
-number_in (e ∷ es) name = cond (is_eq (slice_cmp nat_cmp e.1.now name)) (Some e.2) (number_in es name)
+abbrev pub number_named : List SortedName → List ℕ → Option ℕ
+number_named [] name = None
+number_named (e ∷ es) name = cond (is_eq (slice_cmp nat_cmp e.1.now name)) (Some e.2) (number_named es name)
 
 -- the entry at an index has the name of the one before
-pub record Repeats (entries : List Entry) (index : ℕ) : Type 0 where
+pub record Repeats (entries : List SortedName) (index : ℕ) : Type 0 where
   pub behind : 0 < index
-  pub same : (d e : Entry) → slice_get entries (index - 1) ≡ Some d → slice_get entries index ≡ Some e → (d.0 ≡ e.0) × (d.1.now ≡ e.1.now)
+  pub same : (d e : SortedName) → slice_get entries (index - 1) ≡ Some d → slice_get entries index ≡ Some e → (d.0 ≡ e.0) × (d.1.now ≡ e.1.now)
 
 -- the numbers stand at the places of these first entries
-abbrev pub AreNumbered : List Entry → ℕ → List ℕ → Type 0
-AreNumbered entries count numbers = (k x : ℕ) (e : Entry) → k < count → slice_get entries k ≡ Some e → slice_get numbers e.2 ≡ Some x → number_in entries e.1.now ≡ Some x
+abbrev pub HoldNumbers : List SortedName → ℕ → List ℕ → Type 0
+HoldNumbers entries count numbers = (k x : ℕ) (e : SortedName) → k < count → slice_get entries k ≡ Some e → slice_get numbers e.2 ≡ Some x → number_named entries e.1.now ≡ Some x
 
 -- the numbers of each interface's contents, out of those of all contents
 abbrev pub rows_of : List (Bor Interface) → List ℕ → List (List ℕ)

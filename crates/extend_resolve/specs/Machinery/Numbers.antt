@@ -5,7 +5,7 @@ use Rattle.std.specs.Ordering.{is_eq}
 use Rattle.std.specs.List.{filter_map, position_from}
 use Rattle.std.specs.Map.{lookup}
 use Rattle.std.specs.BTreeMap.{is_at}
-use Rattle.dtmi_name.specs.Grammar.{Identifier, id_cmp}
+use Rattle.dt_base.specs.names.Grammar.{Identifier, id_cmp}
 use Rattle.dtdl_terms.specs.declared.interface.Interface.{Interface}
 
 -- the number of the first interface with an identifier

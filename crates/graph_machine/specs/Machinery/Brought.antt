@@ -7,12 +7,12 @@ use Rattle.rel_graph.specs.declared.edge.Edge.{Edge}
 use Rattle.twin_value.specs.declared.twin.Twin.{Twin}
 use Rattle.graph_asks.specs.declared.ask.Ask.{Ask}
 use Rattle.graph_asks.specs.declared.refusal.Refusal.{Refusal}
-use Rattle.graph_bodies.specs.Kept.{twin_view}
+use Rattle.graph_steps.specs.bodies.Kept.{twin_view}
 use Rattle.graph_steps.specs.LinkAsks.{with_link}
 use Rattle.graph_steps.specs.States.{State, link_value, with_twin}
 use Rattle.graph_steps.specs.Steps.{Refuses, changed}
-use Rattle.graph_held.specs.Held.{link_of, IsHeldTwin, IsHeldLink}
-use Rattle.graph_held.specs.declared.stored.Stored.{Stored}
+use Rattle.graph_steps.specs.held.Held.{link_of, IsHeldTwin, IsHeldLink}
+use Rattle.graph_steps.specs.declared.held.stored.Stored.{Stored}
 
 -- a twin of this id, with how many bytes its text has
 pub record BringsTwin (s : State) (ask : Ask) (id : List ℕ) (twin : Twin) (bytes : ℕ) : Type 0 where

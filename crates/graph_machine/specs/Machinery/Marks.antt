@@ -1,7 +1,7 @@
 -- Models as lists name them: by identifier and mark.
 use Rattle.std.specs.Prelude.{ℕ, List, Bool, false, Option, codes}
 use Rattle.std.specs.Option.{option_map, unwrap_or}
-use Rattle.dtmi_name.specs.Grammar.{Identifier, dtmi_text}
+use Rattle.dt_base.specs.names.Grammar.{Identifier, dtmi_text}
 use Rattle.json_tree.specs.Values.{Json, text, truth, object, no_members, member}
 use Rattle.dtdl_terms.specs.declared.interface.Interface.{Interface}
 use Rattle.model_life.specs.Models.{Model, model_at}
@@ -16,12 +16,12 @@ unmarked id = mark_json (dtmi_text id) false
 abbrev pub mark_of : Option Model → Bool
 mark_of m = unwrap_or (option_map (λ (n : Model). n.decommissioned) m) false
 
-abbrev pub is_marked : List Model → Identifier → Bool
-is_marked ms id = mark_of (model_at id ms)
+abbrev pub is_model_marked : List Model → Identifier → Bool
+is_model_marked ms id = mark_of (model_at id ms)
 
 -- An entry of the set, with the mark of its model.
 abbrev pub entry_json : List Model → Identifier × Interface → Json
-entry_json ms e = mark_json (dtmi_text e.0) (is_marked ms e.0)
+entry_json ms e = mark_json (dtmi_text e.0) (is_model_marked ms e.0)
 
 abbrev pub id_text_of : Model → List ℕ
 id_text_of m = dtmi_text m.interface.id

@@ -2,7 +2,6 @@
 use Rattle.std.specs.Prelude.{◌≡◌, ℕ, ◌⊎◌, List, Option, Result, Ok, Err}
 use Rattle.json_tree.specs.Values.{Json}
 use Rattle.json_tree.specs.Grammar.{Spells}
-use Rattle.json_tree.specs.Places.{StandsAt}
 use Rattle.json_tree.specs.Pointers.{IsPointerOf}
 use Rattle.twin_patch.specs.Operations.{operations_of}
 use Rattle.twin_patch.specs.Reading.{IsPatch}
@@ -19,13 +18,9 @@ use Rattle.graph_routes.specs.declared.differences.PathIds.{PathIds}
 use Rattle.graph_routes.specs.declared.differences.PathIds.TheVariants as ids
 
 -- The body is this patch, or is refused by this.
-abbrev pub ReadsPatch : PatchOf → List ℕ → Result Patch Refusal → Type 0
-ReadsPatch of body (Ok patch) = (v : Json) × Spells body v × IsPatch of v (operations_of patch.ops)
-ReadsPatch of body (Err refusal) = RefusesJson body refusal ⊎ ((v : Json) × Spells body v × RefusesPatch of v refusal)
-
--- Something stands at the place.
-abbrev pub IsSomewhere : Json → List ℕ → Type 0
-IsSomewhere v place = (part : Json) × StandsAt v place part
+abbrev pub ReadsPatchBody : PatchOf → List ℕ → Result Patch Refusal → Type 0
+ReadsPatchBody of body (Ok patch) = (v : Json) × Spells body v × IsPatch of v (operations_of patch.ops)
+ReadsPatchBody of body (Err refusal) = RefusesJson body refusal ⊎ ((v : Json) × Spells body v × RefusesPatch of v refusal)
 
 -- The refusal names this place and this code.
 abbrev pub NamesFault : Json → List ℕ → BodyCode → Refusal → Type 0

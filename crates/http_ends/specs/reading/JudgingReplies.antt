@@ -20,9 +20,9 @@ reply_size spans fields =
     else None
 
 -- The first of the values stands there, if there is one.
-abbrev pub FindsFirst : List ℕ → ℕ → Option Span → List (List ℕ) → Type 0
-FindsFirst bytes len None values = values ≡ []
-FindsFirst bytes len (Some s) values = IsWithin len s × ((others : List (List ℕ)) × (values ≡ span_bytes bytes s ∷ others))
+abbrev pub FindsFirstValue : List ℕ → ℕ → Option Span → List (List ℕ) → Type 0
+FindsFirstValue bytes len None values = values ≡ []
+FindsFirstValue bytes len (Some s) values = IsWithin len s × ((others : List (List ℕ)) × (values ≡ span_bytes bytes s ∷ others))
 
 -- What is kept as the value of `Allow` that stands there.
 abbrev pub AllowIs : List ℕ → Option Span → Option (List ℕ) → Type 0
@@ -38,7 +38,7 @@ pub record IsReplyHeadAt (bytes : List ℕ) (head : ReplyHead) (h : ResponseHead
   pub size : reply_length h ≡ Some head.body
   pub small : head.body ≤ 134217728
   pub status : head.status ≡ status_code h
-  pub allow : FindsFirst bytes (length bytes) head.allow (values_named (codes "allow") (reply_fields h))
+  pub allow : FindsFirstValue bytes (length bytes) head.allow (values_named (codes "allow") (reply_fields h))
 
 -- What a judgement of the bytes says.
 abbrev pub JudgesReply : List ℕ → Judged ReplyHead → Type 0

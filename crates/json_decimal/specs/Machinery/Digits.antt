@@ -6,9 +6,9 @@ abbrev pub is_digit : ℕ → Bool
 is_digit b = nat_le 48 b && nat_le b 57
 
 -- the digits at the front
-abbrev pub run : List ℕ → List ℕ
-run [] = []
-run (b ∷ bs) = if is_digit b then b ∷ run bs else []
+abbrev pub digits_at_front : List ℕ → List ℕ
+digits_at_front [] = []
+digits_at_front (b ∷ bs) = if is_digit b then b ∷ digits_at_front bs else []
 
 -- what follows them
 abbrev pub after : List ℕ → List ℕ
@@ -23,7 +23,7 @@ StartsNoDigit (b ∷ bs) = IsDigit b → ⊥
 -- the digits behind a point, where one stands first
 abbrev pub fraction_at : List ℕ → List ℕ
 fraction_at [] = []
-fraction_at (b ∷ bs) = if b == 46 then run bs else []
+fraction_at (b ∷ bs) = if b == 46 then digits_at_front bs else []
 
 -- what follows them
 abbrev pub rest_at : List ℕ → List ℕ
@@ -33,7 +33,7 @@ rest_at (b ∷ bs) = if b == 46 then after bs else b ∷ bs
 -- a point stands first, and behind it no digit or, with the count before them, too many
 abbrev pub HasNoFraction : ℕ → List ℕ → Type 0
 HasNoFraction count [] = ⊥
-HasNoFraction count (b ∷ bs) = (b ≡ 46) × ((run bs ≡ []) ⊎ (38 < count + length (run bs)))
+HasNoFraction count (b ∷ bs) = (b ≡ 46) × ((digits_at_front bs ≡ []) ⊎ (38 < count + length (digits_at_front bs)))
 
 -- the bytes without a minus in front
 abbrev pub unsigned : List ℕ → List ℕ

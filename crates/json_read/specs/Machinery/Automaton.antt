@@ -296,19 +296,19 @@ pub data Outcome : Type 0 where
   cut : Outcome
   gives : Raw → Outcome
 
-abbrev pub at_end : Option Raw → Outcome
-at_end None = cut
-at_end (Some raw) = gives raw
+abbrev pub outcome_at_end : Option Raw → Outcome
+outcome_at_end None = cut
+outcome_at_end (Some raw) = gives raw
 
 -- the outcome where a step gives nothing, or a state that has its own
-abbrev pub followed : Option State → ℕ → (State → Outcome) → Outcome
-followed None at next = wrong at
-followed (Some s) at next = next s
+abbrev pub followed_step : Option State → ℕ → (State → Outcome) → Outcome
+followed_step None at next = wrong at
+followed_step (Some s) at next = next s
 
 -- the outcome of bytes from this state on, of which the first stands at this position
 abbrev pub outcome : State → ℕ → List ℕ → Outcome
-outcome s at [] = at_end (end s)
-outcome s at (b ∷ bytes) = followed (step s b) at (λ t. outcome t (at + 1) bytes)
+outcome s at [] = outcome_at_end (end s)
+outcome s at (b ∷ bytes) = followed_step (step s b) at (λ t. outcome t (at + 1) bytes)
 
 -- the outcome of the bytes from a position on
 unfoldable pub reading : List ℕ → State → ℕ → Outcome

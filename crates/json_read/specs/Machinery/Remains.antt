@@ -2,7 +2,7 @@
 use Rattle.std.specs.Prelude.{◌≡◌, ℕ, suc, ◌+◌, ◌*◌, ◌≤◌, ◌⊎◌, List, [], ◌∷◌, ◌++◌, length, Option, Some, None, IfSome, encode_utf8}
 use Rattle.json_decimal.specs.Literal.{Sign, Exponent, IsInteger, IsPower, IsExponent, AreDigits, sign_bytes, fraction_bytes, exponent_bytes}
 use Rattle.json_tree.specs.Values.{Raw, number, text, array, object, Elements, element, Members, member}
-use Rattle.json_tree.specs.Grammar.{AreWithin, IsHexDigit, AreHexDigits, IsLowSurrogate, IsUnicode, IsEscape, IsCharacters, IsString, IsSpaces, IsValue, IsElements, IsMoreElements, IsMembers, IsMoreMembers, paired}
+use Rattle.json_tree.specs.Grammar.{AreInRanges, IsHexDigit, AreHexDigits, IsLowSurrogate, IsUnicode, IsEscape, IsCharacters, IsString, IsSpaces, IsValue, IsElements, IsMoreElements, IsMembers, IsMoreMembers, paired}
 use Rattle.json_read.specs.Machinery.Automaton.{Pairs, Use, as_value, as_key, Frame, in_array, in_object, Part, behind_minus, behind_zero, in_integer, behind_point, in_fraction, behind_mark, behind_sign, in_power, Point, escaped, first_digit, behind_d, digits, high_digits, low_escape, low_letter, low_first, low_second, low_digits, in_sequence, ranges, State, value, first_element, first_key, next_key, colon, after, in_word, in_number, in_text, in_character}
 
 -- elements and members with others before them
@@ -75,7 +75,7 @@ IsCharacterRest (low_second high) from bytes to = (y second low : ℕ) × (mid :
     × IsHexDigit y second × (12 ≤ second) × AreHexDigits 2 (13 * 16 + second) mid low to × (bytes ≡ paired high low)
 IsCharacterRest (low_digits n high before) from bytes to = (low : ℕ)
     × AreHexDigits (suc n) before from low to × (bytes ≡ paired high low)
-IsCharacterRest (in_sequence s) from bytes to = AreWithin (ranges s) bytes × (from ≡ bytes ++ to)
+IsCharacterRest (in_sequence s) from bytes to = AreInRanges (ranges s) bytes × (from ≡ bytes ++ to)
 
 -- The bytes `from` may remain, and the text then has the value `whole`.
 abbrev pub Remains : State → List ℕ → Raw → Type 0

@@ -4,7 +4,7 @@ use Rattle.std.specs.Prelude.{◌≡◌, ℕ, zero, suc, ◌+◌, ◌*◌, ◌<�
 use Rattle.std.specs.List.{slice_range, slice_index}
 use Rattle.std.specs.Str.{IsUtf8}
 use Rattle.json_read.specs.declared.fault.JsonFault.{JsonFault}
-use Rattle.json_tree.specs.Grammar.{AreWithin, IsNumber}
+use Rattle.json_tree.specs.Grammar.{AreInRanges, IsNumber}
 use Rattle.json_read.specs.Machinery.Remains.{IsNumberRest}
 use Rattle.json_read.specs.Machinery.Automaton.{Frame, Use, State, in_text, in_character, in_number, Part, value, behind_minus, behind_point, behind_mark, in_power, at_digit, number_step, may_end, at_mark, Sequence, in_sequence, Point, Move, dead, on, at_hex, point_step, sequence_step, moved, step, end, Outcome, reading}
 use Rattle.json_read.specs.Machinery.Leads.{IsOutcome}
@@ -16,15 +16,15 @@ Faults bytes at fault = (s : State) → (at < length bytes → step s (slice_ind
 
 -- ---- numbers
 -- The bytes lead from one part of a number to another.
-abbrev pub Passes : Part → List ℕ → Part → Type 0
-Passes from [] to = from ≡ to
-Passes from (b ∷ bytes) to = (next : Part) × (number_step from b ≡ Some next) × Passes next bytes to
+abbrev pub NumberPasses : Part → List ℕ → Part → Type 0
+NumberPasses from [] to = from ≡ to
+NumberPasses from (b ∷ bytes) to = (next : Part) × (number_step from b ≡ Some next) × NumberPasses next bytes to
 
 -- The bytes between two positions do so.
-pub record Reaches (bytes : List ℕ) (from : Part) (at : ℕ) (to : Part) (stop : ℕ) : Type 0 where
+pub record NumberReaches (bytes : List ℕ) (from : Part) (at : ℕ) (to : Part) (stop : ℕ) : Type 0 where
   pub forward : at ≤ stop
   pub within : stop ≤ length bytes
-  pub passes : Passes from (slice_range bytes at stop) to
+  pub passes : NumberPasses from (slice_range bytes at stop) to
 
 -- The fault is the outcome of a number of which this part comes next.
 abbrev pub Fails : List ℕ → Part → ℕ → JsonFault → Type 0
@@ -37,8 +37,8 @@ point_or_mark zero b = at_mark b
 point_or_mark (suc n) b = if b == 46 then Some (behind_point n) else at_mark b
 
 -- The number may end, or go on with this byte only as told.
-abbrev pub Ends : Part → (ℕ → Option Part) → ℕ → Type 0
-Ends part next b = (may_end part ≡ true) × (number_step part b ≡ next b)
+abbrev pub MayEndOrGoOn : Part → (ℕ → Option Part) → ℕ → Type 0
+MayEndOrGoOn part next b = (may_end part ≡ true) × (number_step part b ≡ next b)
 
 -- These many digits lead down through the parts.
 abbrev pub CountsDown : (ℕ → Part) → Type 0
@@ -46,7 +46,7 @@ CountsDown part = (n b : ℕ) → 48 ≤ b → b ≤ 57 → number_step (part (s
 
 -- A number goes on from a part to one that this is said of, or has this fault.
 abbrev pub Continues : List ℕ → Part → ℕ → (Part → ℕ → Type 0) → Result ℕ JsonFault → Type 0
-Continues bytes from at says (Ok stop) = (to : Part) × Reaches bytes from at to stop × says to (slice_index bytes stop)
+Continues bytes from at says (Ok stop) = (to : Part) × NumberReaches bytes from at to stop × says to (slice_index bytes stop)
 Continues bytes from at says (Err fault) = Fails bytes from at fault
 
 -- no byte follows
@@ -63,13 +63,13 @@ pub record IsMinusEnd (bytes : List ℕ) (at stop : ℕ) : Type 0 where
 
 -- Behind an exponent's mark and its sign, if any: a digit must come.
 abbrev pub IsSignEnd : List ℕ → ℕ → ℕ → Type 0
-IsSignEnd bytes at stop = (to : Part) × Reaches bytes behind_mark at to stop × (may_end to ≡ false)
+IsSignEnd bytes at stop = (to : Part) × NumberReaches bytes behind_mark at to stop × (may_end to ≡ false)
     × (number_step to (slice_index bytes stop) ≡ at_digit (slice_index bytes stop) (in_power 2) None)
 
 -- An integer, of which no more than a minus was read before, ends so, or it has this fault.
 abbrev pub IsIntegerEnd : List ℕ → ℕ → Result (ℕ × ℕ) JsonFault → Type 0
-IsIntegerEnd bytes at (Ok (stop, left)) = (to : Part) × Reaches bytes behind_minus at to stop
-    × Ends to (point_or_mark left) (slice_index bytes stop)
+IsIntegerEnd bytes at (Ok (stop, left)) = (to : Part) × NumberReaches bytes behind_minus at to stop
+    × MayEndOrGoOn to (point_or_mark left) (slice_index bytes stop)
 IsIntegerEnd bytes at (Err fault) = Fails bytes behind_minus at fault
 
 -- ---- texts
@@ -92,15 +92,15 @@ abbrev pub StopsRun : ℕ → Type 0
 StopsRun b = (b < 32) ⊎ (b ≡ 34) ⊎ (b ≡ 92)
 
 -- The byte at a position lies in a range, or this is the fault where one must stand.
-abbrev pub IsWithin : List ℕ → ℕ → ℕ → ℕ → Result ℕ JsonFault → Type 0
-IsWithin bytes at low high (Ok stop) = (stop ≡ at + 1) × (at < length bytes)
+abbrev pub IsByteWithin : List ℕ → ℕ → ℕ → ℕ → Result ℕ JsonFault → Type 0
+IsByteWithin bytes at low high (Ok stop) = (stop ≡ at + 1) × (at < length bytes)
     × (low ≤ slice_index bytes at) × (slice_index bytes at ≤ high)
-IsWithin bytes at low high (Err fault) = Faults bytes at fault
+IsByteWithin bytes at low high (Err fault) = Faults bytes at fault
     × (at < length bytes → (slice_index bytes at < low) ⊎ (high < slice_index bytes at))
 
 -- Bytes in these ranges stand here and end a character, or it has this fault.
 abbrev pub EndsSequence : List ℕ → Sequence → List (ℕ × ℕ) → ℕ → Result ℕ JsonFault → Type 0
-EndsSequence bytes s ranges at (Ok stop) = (at ≤ stop) × AreWithin ranges (slice_range bytes at stop)
+EndsSequence bytes s ranges at (Ok stop) = (at ≤ stop) × AreInRanges ranges (slice_range bytes at stop)
     × ((u : Use) (content : List ℕ) (d : ℕ) (k : List Frame) → reading bytes (in_character (in_sequence s) u content d k) at
     ≡ reading bytes (in_text u (content ++ slice_range bytes at stop) d k) stop)
 EndsSequence bytes s ranges at (Err fault) = (u : Use) (content : List ℕ) (d : ℕ) (k : List Frame)

@@ -19,11 +19,11 @@ abbrev pub EndsBackward : State → Type 0
 EndsBackward s = (whole : Raw) → end s ≡ Some whole → Remains s [] whole
 
 -- The rest of a character behind a byte, by where that byte leads.
-abbrev pub Moves : Move → List ℕ → List ℕ → List ℕ → Type 0
-Moves dead from bytes to = ⊥
-Moves (on p) from bytes to = IsCharacterRest p from bytes to
-Moves (on_with b p) from bytes to = (rest : List ℕ) × (bytes ≡ b ∷ rest) × IsCharacterRest p from rest to
-Moves (done these) from bytes to = (bytes ≡ these) × (from ≡ to)
+abbrev pub RestMoves : Move → List ℕ → List ℕ → List ℕ → Type 0
+RestMoves dead from bytes to = ⊥
+RestMoves (on p) from bytes to = IsCharacterRest p from bytes to
+RestMoves (on_with b p) from bytes to = (rest : List ℕ) × (bytes ≡ b ∷ rest) × IsCharacterRest p from rest to
+RestMoves (done these) from bytes to = (bytes ≡ these) × (from ≡ to)
 
 -- Some bytes may remain in the state behind these.
 abbrev pub GoesOn : State → List ℕ → Type 0

@@ -27,10 +27,10 @@ first_way None (Some up) position = Some (up ++ position ∷ [])
 first_way None None position = None
 
 -- Whether a place is before another.
-abbrev pub is_before : List ℕ → List ℕ → Bool
-is_before place [] = false
-is_before [] (j ∷ other) = true
-is_before (i ∷ place) (j ∷ other) = if i == j then is_before place other else nat_lt i j
+abbrev pub place_is_before : List ℕ → List ℕ → Bool
+place_is_before place [] = false
+place_is_before [] (j ∷ other) = true
+place_is_before (i ∷ place) (j ∷ other) = if i == j then place_is_before place other else nat_lt i j
 
 -- Keys that stand twice, found from left to right.
 abbrev pub has_key : List (List ℕ) → List ℕ → Bool

@@ -3,7 +3,7 @@ use Rattle.std.specs.Prelude.{◌≡◌, ℕ, suc, ◌<◌, ◌≤◌, List, tru
 use Rattle.json_decimal.specs.Number.{Number}
 use Rattle.json_tree.specs.Values.{Json, object, Members}
 use Rattle.local_rules.specs.Levels.{HasLevel, ReachesWithin}
-use Rattle.local_faults.specs.Machinery.Named.{schemas_in}
+use Rattle.local_faults.specs.Machinery.Named.{schema_entries}
 use Rattle.local_faults.specs.declared.measures.Measure.{Measure}
 
 -- The level is right as far as this number of steps tells, and 6 stands for each level from there on. An array that
@@ -25,7 +25,7 @@ pub record ArePartsMeasured (ms : Members Number) (n : ℕ) (parts : List Json) 
 
 -- Each entry of `schemas` that is an object has its measure.
 abbrev pub AreMeasured : Members Number → ℕ → List Measure → Type 0
-AreMeasured ms n table = (i : ℕ) (os : Members Number) → slice_get (schemas_in ms) i ≡ Some (object os)
+AreMeasured ms n table = (i : ℕ) (os : Members Number) → slice_get (schema_entries ms) i ≡ Some (object os)
     → (m : Measure) × (slice_get table i ≡ Some m) × IsMeasure ms n (object os) m
 
 -- What is measured by a table is right as far as the table is. An object is right by one step more.

@@ -26,7 +26,7 @@ BreaksMarked ms IsEarlier broken r v = (BreaksAlone broken r.role v ⊎ BreaksMa
     ⊎ (BreaksBySchemas ms broken r.role v ⊎ BreaksById IsEarlier broken r.role v)
 
 -- This text stands as an `@id` in a value that stands in a marked role.
-pub record HasId (r : MarkedRole) (v : Json) (bytes : List ℕ) : Type 0 where
+pub record HasIdInside (r : MarkedRole) (v : Json) (bytes : List ℕ) : Type 0 where
   pub place : List ℕ
   pub within : MarkedRole
   pub stands : HasMarkedRole r v place within (text bytes)
@@ -48,7 +48,7 @@ pub record HasIdInPartBefore (r : MarkedRole) (v : Json) (at : ℕ) (bytes : Lis
   pub part : Json
   pub is_part : IsPart v position part
   pub has_role : part_marked r v position ≡ Some within
-  pub id : HasId within part bytes
+  pub id : HasIdInside within part bytes
 
 -- A rule is broken at a place of a value that stands in a role, in an interface with these members, where these
 -- `@id`s stand before the value.
@@ -80,7 +80,7 @@ pub record IsNoted (ids : BTreeSet (Bor (List ℕ))) (bytes : List ℕ) : Type 0
 -- the set afterwards has the value's too.
 pub record Walks (ms : Members Number) (before after : BTreeSet (Bor (List ℕ))) (r : MarkedRole) (v : Json) (found : Option Found) : Type 0 where
   pub first : FindsFirst (IsBrokenFrom ms (IsNoted before) r v) found
-  pub ids : found ≡ None → (bytes : List ℕ) → IsNoted after bytes ↔ (IsNoted before bytes ⊎ HasId r v bytes)
+  pub ids : found ≡ None → (bytes : List ℕ) → IsNoted after bytes ↔ (IsNoted before bytes ⊎ HasIdInside r v bytes)
 
 -- The same of a part; what has no role has no breach, and its `@id`s are none.
 abbrev pub WalksPart : Members Number → BTreeSet (Bor (List ℕ)) → BTreeSet (Bor (List ℕ)) → Option MarkedRole → Json → Option Found → Type 0
@@ -106,7 +106,7 @@ pub record IsId (r : Role) (v : Json) (bytes : List ℕ) : Type 0 where
   pub is_text : v ≡ text bytes
 
 -- The first rule that the value itself breaks; where there is none, the set afterwards has the `@id` that it is.
-pub record Judges (ms : Members Number) (before after : BTreeSet (Bor (List ℕ))) (r : MarkedRole) (v : Json) (found : Option LocalRule) : Type 0 where
+pub record JudgesMarked (ms : Members Number) (before after : BTreeSet (Bor (List ℕ))) (r : MarkedRole) (v : Json) (found : Option LocalRule) : Type 0 where
   pub first : IsFirstOf (λ broken. BreaksMarked ms (IsNoted before) broken r v) found
   pub ids : found ≡ None → (bytes : List ℕ) → IsNoted after bytes ↔ (IsNoted before bytes ⊎ IsId r.role v bytes)
 
@@ -116,12 +116,12 @@ pub record JudgesId (before after : BTreeSet (Bor (List ℕ))) (r : Role) (v : J
   pub ids : found ≡ None → (bytes : List ℕ) → IsNoted after bytes ↔ (IsNoted before bytes ⊎ IsId r v bytes)
 
 -- The text that a value is as an `@id`.
-abbrev pub id_in : Role → Json → Option (List ℕ)
-id_in role.InterfaceId v = text_in v
-id_in role.ElementId v = text_in v
-id_in other v = None
+abbrev pub id_in_role : Role → Json → Option (List ℕ)
+id_in_role role.InterfaceId v = text_in v
+id_in_role role.ElementId v = text_in v
+id_in_role other v = None
 
 -- The text stood in the set and breaks the rule, or it did not, and the set afterwards has it too.
-abbrev pub Adds : BTreeSet (Bor (List ℕ)) → BTreeSet (Bor (List ℕ)) → List ℕ → Option LocalRule → Type 0
-Adds before after id None = (IsNoted before id → ⊥) × ((bytes : List ℕ) → IsNoted after bytes ↔ (IsNoted before bytes ⊎ (id ≡ bytes)))
-Adds before after id (Some broken) = IsNoted before id × (broken ≡ rule.RepeatedId)
+abbrev pub NotesId : BTreeSet (Bor (List ℕ)) → BTreeSet (Bor (List ℕ)) → List ℕ → Option LocalRule → Type 0
+NotesId before after id None = (IsNoted before id → ⊥) × ((bytes : List ℕ) → IsNoted after bytes ↔ (IsNoted before bytes ⊎ (id ≡ bytes)))
+NotesId before after id (Some broken) = IsNoted before id × (broken ≡ rule.RepeatedId)

@@ -38,8 +38,8 @@ abbrev pub IsPlaced : ℕ → ℕ × Json → Uploaded → Type 0
 IsPlaced nth e u = (whole : Elements Number) → element_at whole e.0 ≡ Some e.1 → IsUploadedAt (array whole) nth e u
 
 -- The value breaks no local rule, and declares these interfaces as the nth document.
-abbrev pub Declares : Json → ℕ → List Uploaded → Type 0
-Declares v nth uploads = BreaksNoLocalRule v × AreUploaded v nth uploads
+abbrev pub DeclaresUploads : Json → ℕ → List Uploaded → Type 0
+DeclaresUploads v nth uploads = BreaksNoLocalRule v × AreUploaded v nth uploads
 
 -- The bytes are the text of an array that has these elements, some, and no fault, and that declares these interfaces.
 pub record IsBatch (bytes : List ℕ) (nth : ℕ) (vs : List Json) (uploads : List Uploaded) : Type 0 where
@@ -49,14 +49,14 @@ pub record IsBatch (bytes : List ℕ) (nth : ℕ) (vs : List Json) (uploads : Li
   pub declares : AreUploaded (array (elements_of vs)) nth uploads
 
 -- The text between two positions, of which the later one is that of a comma or the end, is such a text of an array.
-pub record IsNext (bytes : List ℕ) (nth at end : ℕ) (uploads : List Uploaded) : Type 0 where
+pub record IsNextBatch (bytes : List ℕ) (nth at end : ℕ) (uploads : List Uploaded) : Type 0 where
   pub forward : at ≤ end
   pub within : end ≤ length bytes
   pub comma : end < length bytes → slice_index bytes end ≡ 44
   pub read : (vs : List Json) × IsBatch (batch_text bytes at end) nth vs uploads
 
 -- These elements, the first ones of a document, break no rule and declare these interfaces.
-pub record AreRead (nth : ℕ) (vs : List Json) (uploads : List Uploaded) : Type 0 where
+pub record AreReadElements (nth : ℕ) (vs : List Json) (uploads : List Uploaded) : Type 0 where
   pub unbroken : AllByRecursion IsUnbrokenElement vs
   pub placed : AllZip (IsPlaced nth) (enumerate_from 0 vs) uploads
 

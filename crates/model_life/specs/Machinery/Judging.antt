@@ -5,7 +5,7 @@ use Rattle.dtdl_terms.specs.Sets.{interface_at}
 use Rattle.dtdl_terms.specs.declared.interface.Interface.{Interface}
 use Rattle.dtdl_terms.specs.declared.limit.Limit.TheVariants as limits
 use Rattle.dtdl_terms.specs.declared.uploaded.Uploaded.{Uploaded}
-use Rattle.extend_resolve.specs.Breaches.{IsFirstBreach, IsSound}
+use Rattle.extend_resolve.specs.Breaches.{IsFirstSetBreach, IsSound}
 use Rattle.model_life.specs.declared.ends.AddEnd.{AddEnd}
 use Rattle.model_life.specs.declared.ends.AddEnd.TheVariants as adds
 
@@ -17,6 +17,6 @@ IsFirstIn set us index = (u : Uploaded) × (slice_get us index ≡ Some u) × Is
 
 abbrev pub RefusesIn : List Interface → List Uploaded → AddEnd → Type 0
 RefusesIn set us (adds.ModelExists index) = IsFirstIn set us index
-RefusesIn set us (adds.ModelFault index spot rule) = AreAbsent set us × IsFirstBreach set us (record { index = index; rule = rule; spot = spot })
+RefusesIn set us (adds.ModelFault index spot rule) = AreAbsent set us × IsFirstSetBreach set us (record { index = index; rule = rule; spot = spot })
 RefusesIn set us (adds.Full limit) = AreAbsent set us × IsSound set us × (limit ≡ limits.Models) × (10000 < length set + length us)
 RefusesIn set us adds.OutOfMemory = Unit {0}

@@ -5,12 +5,12 @@ use Rattle.std.specs.List.{AllByRecursion, sum_by}
 use Rattle.std.specs.Map.{lookup}
 use Rattle.std.specs.BTreeMap.{is_at}
 use Rattle.ordered_table.specs.Rows.{pair_cmp}
-use Rattle.dtmi_name.specs.Grammar.{Identifier, dtmi_text, id_cmp}
+use Rattle.dt_base.specs.names.Grammar.{Identifier, dtmi_text, id_cmp}
 use Rattle.dtdl_terms.specs.Distinct.{HasDeclaration}
 use Rattle.dtdl_terms.specs.Sets.{InOrder, interface_at}
 use Rattle.dtdl_terms.specs.declared.interface.Interface.{Interface}
 use Rattle.extend_resolve.specs.Breaches.{BreaksNoRule}
-use Rattle.model_resolve.specs.Machinery.Reaching.{ancestors_in, parts_in}
+use Rattle.model_life.specs.resolution.Machinery.Reaching.{ancestors_in, parts_in}
 use Rattle.model_life.specs.Models.{Model, model_of, uses}
 use Rattle.model_life.specs.Sums.{text_bytes, bytes_of}
 use Rattle.model_life.specs.declared.records.Record.{Record}
@@ -24,15 +24,15 @@ is_marked None = false
 is_marked (Some r) = r.decommissioned
 
 -- the models: each interface with the mark of its record
-abbrev pub mark_at : Identifier → List (Identifier × Record) → Bool
-mark_at id es = is_marked (record_at id es)
+abbrev pub record_mark_at : Identifier → List (Identifier × Record) → Bool
+record_mark_at id es = is_marked (record_at id es)
 
 abbrev pub models_of : List Interface → List (Identifier × Record) → List Model
-models_of set es = map (λ i. model_of i (mark_at i.id es)) set
+models_of set es = map (λ i. model_of i (record_mark_at i.id es)) set
 
 -- the record of an interface that comes
-abbrev pub fresh : Interface → Record
-fresh i = record { text = dtmi_text i.id; decommissioned = false; bytes = text_bytes i }
+abbrev pub fresh_record : Interface → Record
+fresh_record i = record { text = dtmi_text i.id; decommissioned = false; bytes = text_bytes i }
 
 pub record IsRecord (i : Interface) (r : Record) : Type 0 where
   pub text : r.text ≡ dtmi_text i.id
@@ -71,7 +71,7 @@ UsersAreWithin set us = (used user : Identifier) → use_of used (interface_at u
 abbrev pub AreRecorded : List Interface → List (Identifier × Record) → Type 0
 AreRecorded set es = (id : Identifier) → RecordOf (interface_at id set) (record_at id es)
 
-pub record Fits (set : List Interface) (es : List (Identifier × Record)) (us : Users) : Type 0 where
+pub record RecordsFit (set : List Interface) (es : List (Identifier × Record)) (us : Users) : Type 0 where
   pub records : AreRecorded set es
   pub users : (used user : Identifier) → user_at used user us ≡ use_of used (interface_at user set)
 
@@ -111,12 +111,12 @@ share_at set id = share_in set (interface_at id set)
 abbrev pub Written : Type 0
 Written = List (Identifier × ℕ)
 
-abbrev pub number_in : Option ℕ → ℕ
-number_in None = 0
-number_in (Some n) = n
+abbrev pub record_number : Option ℕ → ℕ
+record_number None = 0
+record_number (Some n) = n
 
 abbrev pub written_at : Identifier → Written → ℕ
-written_at id ws = number_in (lookup (is_at (id_cmp id)) ws)
+written_at id ws = record_number (lookup (is_at (id_cmp id)) ws)
 
 abbrev pub AreWritten : List Interface → Written → Type 0
 AreWritten set ws = (id : Identifier) → written_at id ws ≡ share_at set id
@@ -126,7 +126,7 @@ pub record IsKept (set : List Interface) (es : List (Identifier × Record)) (us 
   pub rules : BreaksNoRule set
   pub ordered : InOrder set
   pub declared : AllByRecursion HasDeclaration set
-  pub fits : Fits set es us
+  pub fits : RecordsFit set es us
   pub written : AreWritten set ws
   pub sum : bytes ≡ sum_by text_bytes set
   pub total : resolved ≡ sum_by (share_of set) set

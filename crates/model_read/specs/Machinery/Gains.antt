@@ -8,7 +8,8 @@ use Rattle.dtdl_terms.specs.declared.content.Content.{Content}
 use Rattle.dtdl_terms.specs.declared.content.ContentKind.{ContentKind}
 use Rattle.local_rules.specs.declared.role.Element.{Element}
 use Rattle.local_rules.specs.declared.role.Position.{Position}
-use Rattle.model_read.specs.Declarations.{AreKind, type_of_kind}
+use Rattle.model_read.specs.Declarations.{AreKind}
+use Rattle.local_rules.specs.Typed.{type_of_kind}
 
 -- One more stands at the end, and this holds of it.
 pub record Gains {A : Type 0} (P : A → Type 0) (before after : List A) : Type 0 where

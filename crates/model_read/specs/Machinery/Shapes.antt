@@ -5,12 +5,12 @@ use Rattle.std.specs.Prelude.{◌≡◌, ◌≢◌, ℕ, ◌⊎◌, List, Bool, 
 use Rattle.json_decimal.specs.Number.{Number}
 use Rattle.json_tree.specs.Values.{Json, truth, text, array, object, Elements, Members}
 use Rattle.json_tree.specs.Places.{element_at, member_at}
-use Rattle.dtmi_name.specs.Grammar.{Identifier}
+use Rattle.dt_base.specs.names.Grammar.{Identifier}
 use Rattle.local_rules.specs.Members.{list_of, value_at}
 use Rattle.local_rules.specs.Roles.{HasRole, type_of}
-use Rattle.local_rules.specs.Types.{IsName, MayHaveBeside, further}
-use Rattle.local_rules.specs.Quantities.{IsInteger, IsString, IsMultiplicity}
-use Rattle.local_rules.specs.Levels.{IsPrimitive}
+use Rattle.local_rules.specs.Types.{IsNameValue, MayHaveBeside, further}
+use Rattle.local_rules.specs.Quantities.{IsInteger32, IsStringValue, IsMultiplicity}
+use Rattle.local_rules.specs.Levels.{IsPrimitiveName}
 use Rattle.local_rules.specs.Breaches.{BreaksAlone}
 use Rattle.local_rules.specs.declared.rule.LocalRule.{LocalRule}
 use Rattle.local_rules.specs.declared.role.Element.{Element}
@@ -43,13 +43,13 @@ abbrev pub CanBeId : Json → Type 0
 CanBeId v = CanBe ((id : Identifier) × IsIdentifier v id)
 
 abbrev pub CanBeName : Json → Type 0
-CanBeName v = CanBe (IsName v)
+CanBeName v = CanBe (IsNameValue v)
 
 abbrev pub CanBeMultiplicity : Json → Type 0
 CanBeMultiplicity v = CanBe (IsMultiplicity v)
 
 abbrev pub CanBeEnumValue : Json → Type 0
-CanBeEnumValue v = CanBe (IsInteger v ⊎ IsString v)
+CanBeEnumValue v = CanBe (IsInteger32 v ⊎ IsStringValue v)
 
 abbrev pub CanBeValueSchema : Json → Type 0
 CanBeValueSchema v = CanBe ((v ≡ text (codes "string")) ⊎ (v ≡ text (codes "integer")))
@@ -65,15 +65,15 @@ IsListOf P v = (vs : Elements Number) × (v ≡ array vs) × EachIs P vs
 abbrev pub MayHave : (Json → Type 0) → List ℕ → Members Number → Type 0
 MayHave P key ms = (v : Json) → value_at key ms ≡ Some v → P v
 
-abbrev pub Has : (Json → Type 0) → List ℕ → Members Number → Type 0
-Has P key ms = (value_at key ms ≢ None) × MayHave P key ms
+abbrev pub HasMember : (Json → Type 0) → List ℕ → Members Number → Type 0
+HasMember P key ms = (value_at key ms ≢ None) × MayHave P key ms
 
 -- A text, or an object of texts.
-abbrev pub AreWords : Members Number → Type 0
-AreWords ms = (i : ℕ) (key : List ℕ) (v : Json) → member_at ms i ≡ Some (key, v) → IsString v
+abbrev pub HaveStrings : Members Number → Type 0
+HaveStrings ms = (i : ℕ) (key : List ℕ) (v : Json) → member_at ms i ≡ Some (key, v) → IsStringValue v
 
 abbrev pub IsWords : Json → Type 0
-IsWords v = IsString v ⊎ ((ms : Members Number) × (v ≡ object ms) × AreWords ms)
+IsWords v = IsStringValue v ⊎ ((ms : Members Number) × (v ≡ object ms) × HaveStrings ms)
 
 -- A list `@type` has at most one entry beside the type, which is a name.
 abbrev pub CanBeTypes : Position → Json → Type 0
@@ -87,7 +87,7 @@ IsParents v = CanBeId v
 -- ---- values in their roles
 -- A text in the role of a schema that is no primitive's name can be an identifier.
 abbrev pub NamesSchema : Role → Json → Type 0
-NamesSchema r v = (part : SchemaUse) (bytes : List ℕ) → r ≡ role.Schema part → v ≡ text bytes → (IsPrimitive bytes → ⊥) → CanBeId v
+NamesSchema r v = (part : SchemaUse) (bytes : List ℕ) → r ≡ role.Schema part → v ≡ text bytes → (IsPrimitiveName bytes → ⊥) → CanBeId v
 
 -- In a value that stands in this role, and in its parts, no rule is broken that the role and the value alone decide,
 -- and each schema is named that is used.
@@ -116,37 +116,37 @@ IsValidInterface v = IsValid role.Interface v
 -- ---- the shapes of elements, by their members
 pub record CommonShape (ms : Members Number) : Type 0 where
   pub id : MayHave CanBeId (codes "@id") ms
-  pub comment : MayHave IsString (codes "comment") ms
+  pub comment : MayHave IsStringValue (codes "comment") ms
   pub description : MayHave IsWords (codes "description") ms
   pub display_name : MayHave IsWords (codes "displayName") ms
 
 pub record EnumEntryShape (ms : Members Number) : Type 0 where
-  pub name : Has CanBeName (codes "name") ms
+  pub name : HasMember CanBeName (codes "name") ms
   pub common : CommonShape ms
-  pub value : Has CanBeEnumValue (codes "enumValue") ms
+  pub value : HasMember CanBeEnumValue (codes "enumValue") ms
 
 pub record ArrayShape (ms : Members Number) : Type 0 where
   pub common : CommonShape ms
-  pub element : Has IsValidSchema (codes "elementSchema") ms
+  pub element : HasMember IsValidSchema (codes "elementSchema") ms
 
 pub record EnumerationShape (ms : Members Number) : Type 0 where
   pub common : CommonShape ms
-  pub value_schema : Has CanBeValueSchema (codes "valueSchema") ms
-  pub values : Has (IsListOf IsValidEnumEntry) (codes "enumValues") ms
+  pub value_schema : HasMember CanBeValueSchema (codes "valueSchema") ms
+  pub values : HasMember (IsListOf IsValidEnumEntry) (codes "enumValues") ms
 
 pub record MapShape (ms : Members Number) : Type 0 where
   pub common : CommonShape ms
-  pub key : Has IsValidPayload (codes "mapKey") ms
-  pub value : Has IsValidPayload (codes "mapValue") ms
+  pub key : HasMember IsValidPayload (codes "mapKey") ms
+  pub value : HasMember IsValidPayload (codes "mapValue") ms
 
 pub record ObjectShape (ms : Members Number) : Type 0 where
   pub common : CommonShape ms
-  pub fields : Has (IsListOf IsValidPayload) (codes "fields") ms
+  pub fields : HasMember (IsListOf IsValidPayload) (codes "fields") ms
 
 pub record PayloadShape (ms : Members Number) : Type 0 where
-  pub name : Has CanBeName (codes "name") ms
+  pub name : HasMember CanBeName (codes "name") ms
   pub common : CommonShape ms
-  pub schema : Has IsValidSchema (codes "schema") ms
+  pub schema : HasMember IsValidSchema (codes "schema") ms
 
 -- The shape of a schema, by what its `@type` names.
 abbrev pub SchemaShape : Option Element → Members Number → Type 0
@@ -157,12 +157,12 @@ SchemaShape (Some element_kind.Object) ms = ObjectShape ms
 SchemaShape other ms = ⊥
 
 pub record TelemetryShape (p : Position) (ms : Members Number) : Type 0 where
-  pub schema : Has IsValidSchema (codes "schema") ms
+  pub schema : HasMember IsValidSchema (codes "schema") ms
   pub semantic : MayHave (CanBeTypes p) (codes "@type") ms
   pub unit : MayHave CanBeName (codes "unit") ms
 
 pub record PropertyShape (p : Position) (ms : Members Number) : Type 0 where
-  pub schema : Has IsValidSchema (codes "schema") ms
+  pub schema : HasMember IsValidSchema (codes "schema") ms
   pub semantic : MayHave (CanBeTypes p) (codes "@type") ms
   pub unit : MayHave CanBeName (codes "unit") ms
   pub writable : MayHave IsTruth (codes "writable") ms
@@ -178,7 +178,7 @@ pub record RelationshipShape (ms : Members Number) : Type 0 where
   pub writable : MayHave IsTruth (codes "writable") ms
 
 pub record ComponentShape (ms : Members Number) : Type 0 where
-  pub of : Has CanBeId (codes "schema") ms
+  pub of : HasMember CanBeId (codes "schema") ms
 
 -- The shape of a content, by what its `@type` names.
 abbrev pub KindShape : Option Element → Members Number → Type 0
@@ -190,19 +190,19 @@ KindShape (Some element_kind.Component) ms = ComponentShape ms
 KindShape other ms = ⊥
 
 pub record ContentShape (ms : Members Number) : Type 0 where
-  pub name : Has CanBeName (codes "name") ms
+  pub name : HasMember CanBeName (codes "name") ms
   pub common : CommonShape ms
   pub kind : KindShape (type_of position.Content ms) ms
 
 -- An entry of a relationship's `properties`.
 pub record RelationshipPropertyShape (ms : Members Number) : Type 0 where
-  pub name : Has CanBeName (codes "name") ms
+  pub name : HasMember CanBeName (codes "name") ms
   pub common : CommonShape ms
   pub kind : PropertyShape position.Property ms
 
 pub record InterfaceShape (ms : Members Number) : Type 0 where
-  pub id : Has CanBeId (codes "@id") ms
-  pub comment : MayHave IsString (codes "comment") ms
+  pub id : HasMember CanBeId (codes "@id") ms
+  pub comment : MayHave IsStringValue (codes "comment") ms
   pub description : MayHave IsWords (codes "description") ms
   pub display_name : MayHave IsWords (codes "displayName") ms
   pub parents : MayHave IsParents (codes "extends") ms

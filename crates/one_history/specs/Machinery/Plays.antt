@@ -8,7 +8,7 @@ use Rattle.one_history.specs.declared.history.Member.{Member}
 use Rattle.one_history.specs.declared.history.Turn.TheVariants.{Idle, Waits, Serves}
 use Rattle.one_history.specs.declared.history.View.{View}
 use Rattle.one_history.specs.Histories.{state_after, IsHistory, GrowsByOthers, entry}
-use Rattle.one_history.specs.Machinery.Rules.{Has, saw, view, alone}
+use Rattle.one_history.specs.Machinery.Rules.{StandsIn, saw, view, alone}
 
 module _ {O A R : Type 0} where
   -- a ticket was drawn where the word was the one expected, and otherwise nothing changed
@@ -38,7 +38,7 @@ module _ {O S A R : Type 0} (state : O → S) (sound : A → Type 0) (allowed : 
   -- the pass has seen all of the history, which begins with each list that it was told
   abbrev pub looked : Step (Option O) → Me (Option O) (View O A R) → ℕ → Me (Option O) (View O A R) → Type 0
   looked st me found me' = (m : Member O A R) (older : List (List (Entry A R))) → me ≡ (view (m ∷ []) older Idle, []) →
-      (log : List (Entry A R)) × Learns m log × ((es : List (Entry A R)) → Has older es → IsPrefix es log) × (me' ≡ (alone (saw m log), []))
+      (log : List (Entry A R)) × Learns m log × ((es : List (Entry A R)) → StandsIn older es → IsPrefix es log) × (me' ≡ (alone (saw m log), []))
 
   -- what the pass has seen is a history
   abbrev pub checked : Step (Option O) → Me (Option O) (View O A R) → ℕ → Me (Option O) (View O A R) → Type 0

@@ -15,8 +15,8 @@ use Rattle.one_history.specs.declared.history.View.{View}
 use Rattle.one_history.specs.Histories.{state_after, IsHistory, GrowsByOthers}
 
 -- x stands at some place of the list
-abbrev pub Has : {X : Type 0} → List X → X → Type 0
-Has xs x = (k : ℕ) × (get_elem? xs k ≡ some x)
+abbrev pub StandsIn : {X : Type 0} → List X → X → Type 0
+StandsIn xs x = (k : ℕ) × (get_elem? xs k ≡ some x)
 
 module _ {O A R : Type 0} where
   -- the first pass, which has seen nothing
@@ -63,11 +63,11 @@ module _ {O A R : Type 0} where
 
   -- a pass m that the seat j stands for
   abbrev pub Stands : List (View O A R) → ℕ → Member O A R → Type 0
-  Stands views j m = (d : View O A R) × (get_elem? views j ≡ some d) × Has d.members m
+  Stands views j m = (d : View O A R) × (get_elem? views j ≡ some d) × StandsIn d.members m
 
   -- a list that some seat was told
   abbrev pub WasTold : List (View O A R) → List (Entry A R) → Type 0
-  WasTold views es = (j : ℕ) × (d : View O A R) × (get_elem? views j ≡ some d) × Has d.older es
+  WasTold views es = (j : ℕ) × (d : View O A R) × (get_elem? views j ≡ some d) × StandsIn d.older es
 
 module _ {O A R : Type 0} (has : ℕ → Member O A R → Type 0) where
   -- the number was made: it is that of the first pass, or the pass that it was split off from says so
@@ -100,7 +100,7 @@ module _ {O S A R : Type 0} (state : O → S) (sound : A → Type 0) (allowed : 
     pub older : (es : List (Entry A R)) → told es → IsPrefix es log
     pub apart : (i j : ℕ) (m n : Member O A R) → has i m → has j n → m.number ≡ n.number → i ≡ j
     pub made : (j : ℕ) (m : Member O A R) → has j m → WasMade has m.number
-    pub written : (e : Entry A R) → Has log e → (j : ℕ) × (m : Member O A R) × has j m × (m.number ≡ e.number)
+    pub written : (e : Entry A R) → StandsIn log e → (j : ℕ) × (m : Member O A R) × has j m × (m.number ≡ e.number)
     pub whole : (j : ℕ) × (m : Member O A R) × has j m × (m.seen ≡ log)
 
   -- What the tickets and the slot are to the seats

@@ -1,6 +1,6 @@
 -- What may remain of a query in each state, by the grammar.
 use Rattle.std.specs.Prelude.{ℕ, zero, List, [], ◌∷◌, ◌++◌, length, Bool, true, false, Option, Some, None}
-use Rattle.dtmi_name.specs.Grammar.{Identifier}
+use Rattle.dt_base.specs.names.Grammar.{Identifier}
 use Rattle.json_decimal.specs.Decimals.{number_of}
 use Rattle.query_terms.specs.declared.operand.Operand.{Operand}
 use Rattle.query_terms.specs.declared.operand.Operand.TheVariants as operands
@@ -10,8 +10,8 @@ use Rattle.query_terms.specs.declared.query.Projection.TheVariants as projection
 use Rattle.query_terms.specs.declared.query.Item.{Item}
 use Rattle.query_terms.specs.Conditions.{Condition, compared, is_kind, has_part, of_model, among, not_among}
 use Rattle.query_terms.specs.Queries.{Asked}
-use Rattle.query_tokens.specs.declared.token.Word.TheVariants as words
-use Rattle.query_tokens.specs.declared.token.Mark.TheVariants as marks
+use Rattle.query_terms.specs.declared.tokens.token.Word.TheVariants as words
+use Rattle.query_terms.specs.declared.tokens.token.Mark.TheVariants as marks
 use Rattle.query_grammar.specs.declared.names.Notes.{Notes}
 use Rattle.query_grammar.specs.declared.names.Referent.TheVariants as referents
 use Rattle.query_grammar.specs.declared.state.State.{State}
@@ -23,7 +23,7 @@ use Rattle.query_grammar.specs.declared.state.Goal.{Goal}
 use Rattle.query_grammar.specs.declared.state.Goal.TheVariants as goals
 use Rattle.query_grammar.specs.Phrases.{Placed, PlacedName, Rest, Phrase, ◌>>=◌, ◌>>◌, pure, choice, only_some, word, alias, field, mark, compare_mark, number, note_alias, note_output, note_use}
 use Rattle.query_grammar.specs.Grammar.{steps, path, item, more_items, top_size, whole_or_items, select, alias_here, more_joins, literal, operand, more_literals, literal_list, exact, model_and_exact, more_factors, more_terms, factor, condition_here, relationships, twins, query, no_notes, at_end}
-use Rattle.query_grammar.specs.Machinery.Steps.{asked_of, head_of, joined, with_both, with_either, negations, membership, path_of}
+use Rattle.query_grammar.specs.Machinery.Steps.{asked_of, head_of, with_join, with_both, with_either, negations, membership, operand_path}
 
 -- What is asked for, and the names.
 abbrev pub Whole : Type 0
@@ -53,7 +53,7 @@ abbrev pub joins_rest : ℕ → Head → Whole → Rest
 joins_rest k h w = more_joins k h.joins (λ joins. condition_rest (record h { joins = joins }) w)
 
 abbrev pub behind_name : ℕ → Head → Whole → List ℕ → List ℕ → List ℕ → Rest
-behind_name k h w target source name = alias_here (λ rel. joins_rest k (joined h target source name rel) w)
+behind_name k h w target source name = alias_here (λ rel. joins_rest k (with_join h target source name rel) w)
 
 abbrev pub behind_source : ℕ → Head → Whole → List ℕ → List ℕ → Rest
 behind_source k h w target source = mark marks.Dot (λ _. field (λ name. behind_name k h w target source name.0))
@@ -96,7 +96,7 @@ behind_left left = choice
 abbrev pub goal_rest : Goal → (Condition → Rest) → Operand → Rest
 goal_rest goals.Left K o = behind_left o K
 goal_rest (goals.Right left compare) K o = K (compared left compare o)
-goal_rest (goals.Is kind) K o = mark marks.Close (λ _. K (is_kind kind (path_of o)))
+goal_rest (goals.Is kind) K o = mark marks.Close (λ _. K (is_kind kind (operand_path o)))
 goal_rest (goals.First kind) K o = mark marks.Comma (λ _. operand (λ part. mark marks.Close (λ _. K (has_part kind o part))))
 goal_rest (goals.Second kind whole) K o = mark marks.Close (λ _. K (has_part kind whole o))
 

@@ -12,6 +12,6 @@ asked_by s [] = end s
 asked_by s ((at, t) ∷ ts) = option_and_then (λ u. asked_by u ts) (step s at t)
 
 -- The state behind tokens, if each of them may stand where it does.
-abbrev pub behind : State → List Placed → Option State
-behind s [] = Some s
-behind s ((at, t) ∷ ts) = option_and_then (λ u. behind u ts) (step s at t)
+abbrev pub state_behind : State → List Placed → Option State
+state_behind s [] = Some s
+state_behind s ((at, t) ∷ ts) = option_and_then (λ u. state_behind u ts) (step s at t)

@@ -1,6 +1,6 @@
 -- The state behind one more token.
 use Rattle.std.specs.Prelude.{ℕ, suc, zero, List, [], ◌∷◌, ◌++◌, length, ◌==◌, nat_lt, Bool, true, false, Option, Some, None, if◌then◌else◌, codes}
-use Rattle.dtmi_name.specs.Grammar.{Identifier}
+use Rattle.dt_base.specs.names.Grammar.{Identifier}
 use Rattle.json_decimal.specs.Decimals.{number_of}
 use Rattle.query_terms.specs.declared.operand.Operand.{Operand}
 use Rattle.query_terms.specs.declared.operand.Operand.TheVariants as operands
@@ -11,13 +11,13 @@ use Rattle.query_terms.specs.declared.query.Projection.TheVariants as projection
 use Rattle.query_terms.specs.declared.query.Item.{Item}
 use Rattle.query_terms.specs.Conditions.{Condition, either, both, negated, compared, among, not_among, is_kind, has_part, of_model}
 use Rattle.query_terms.specs.Queries.{Asked}
-use Rattle.query_tokens.specs.Words.{same_letters}
-use Rattle.query_tokens.specs.declared.token.Word.TheVariants as words
-use Rattle.query_tokens.specs.declared.token.Word.{Word}
-use Rattle.query_tokens.specs.declared.token.Mark.{Mark}
-use Rattle.query_tokens.specs.declared.token.Mark.TheVariants as marks
-use Rattle.query_tokens.specs.declared.token.Token.{Token}
-use Rattle.query_tokens.specs.declared.token.Token.TheVariants as tokens
+use Rattle.query_terms.specs.tokens.Words.{same_letters}
+use Rattle.query_terms.specs.declared.tokens.token.Word.TheVariants as words
+use Rattle.query_terms.specs.declared.tokens.token.Word.{Word}
+use Rattle.query_terms.specs.declared.tokens.token.Mark.{Mark}
+use Rattle.query_terms.specs.declared.tokens.token.Mark.TheVariants as marks
+use Rattle.query_terms.specs.declared.tokens.token.Token.{Token}
+use Rattle.query_terms.specs.declared.tokens.token.Token.TheVariants as tokens
 use Rattle.query_grammar.specs.declared.names.Notes.{Notes}
 use Rattle.query_grammar.specs.declared.names.Referent.{Referent}
 use Rattle.query_grammar.specs.declared.names.Referent.TheVariants as referents
@@ -119,12 +119,12 @@ item_as_step n top items path at (tokens.Name words.Alias name) =
 item_as_step n top items path at other = None
 
 -- ---- where rows come from
-abbrev pub fresh : ℕ → Chain
-fresh room = record { either = None; both = None; nots = 0; room = room }
+abbrev pub fresh_chain : ℕ → Chain
+fresh_chain room = record { either = None; both = None; nots = 0; room = room }
 
 -- the condition begins
 abbrev pub condition_begun : Notes → Head → State
-condition_begun n h = states.Factor n (record { head = h; chain = fresh 64; chains = []; room = 64 })
+condition_begun n h = states.Factor n (record { head = h; chain = fresh_chain 64; chains = []; room = 64 })
 
 abbrev pub source_step : Notes → Projection → Token → Option State
 source_step n p (tokens.Name words.Relationships name) = Some (states.RelationshipsAlias n p)
@@ -170,14 +170,14 @@ join_name_step n h target source (tokens.Name v name) = Some (states.JoinAlias n
 join_name_step n h target source other = None
 
 -- one join more
-abbrev pub joined : Head → List ℕ → List ℕ → List ℕ → Option (List ℕ) → Head
-joined h target source name rel = record h { joins = h.joins ++ (record { target = target; from = source; name = name; rel = rel }) ∷ [] }
+abbrev pub with_join : Head → List ℕ → List ℕ → List ℕ → Option (List ℕ) → Head
+with_join h target source name rel = record h { joins = h.joins ++ (record { target = target; from = source; name = name; rel = rel }) ∷ [] }
 
 abbrev pub join_alias_step : Notes → Head → List ℕ → List ℕ → List ℕ → ℕ → Token → Option State
 join_alias_step n h target source name at (tokens.Name words.Alias rel) =
-    Some (states.BehindTwins (noting_alias n (at, rel)) (joined h target source name (Some rel)))
-join_alias_step n h target source name at (tokens.Name words.Join w) = Some (states.JoinTarget n (joined h target source name None))
-join_alias_step n h target source name at (tokens.Name words.Where w) = Some (condition_begun n (joined h target source name None))
+    Some (states.BehindTwins (noting_alias n (at, rel)) (with_join h target source name (Some rel)))
+join_alias_step n h target source name at (tokens.Name words.Join w) = Some (states.JoinTarget n (with_join h target source name None))
+join_alias_step n h target source name at (tokens.Name words.Where w) = Some (condition_begun n (with_join h target source name None))
 join_alias_step n h target source name at other = None
 
 -- ---- conditions
@@ -207,7 +207,7 @@ abbrev pub negating : Around → ℕ → Around
 negating a room = record { head = a.head; chain = record { either = a.chain.either; both = a.chain.both; nots = suc a.chain.nots; room = a.chain.room }; chains = a.chains; room = room }
 
 abbrev pub inside : Around → ℕ → Around
-inside a room = record { head = a.head; chain = fresh room; chains = a.chain ∷ a.chains; room = room }
+inside a room = record { head = a.head; chain = fresh_chain room; chains = a.chain ∷ a.chains; room = room }
 
 abbrev pub path_begun : Notes → Around → Goal → ℕ → List ℕ → State
 path_begun n a g at name = states.Path (noting_use n (at, name) referents.Path) a g (name ∷ [])
@@ -265,14 +265,14 @@ behind_left_step n a o (tokens.Name words.Nin name) = Some (states.ListOpen n a 
 behind_left_step n a o other = None
 
 -- the path of an operand, and none for a literal
-abbrev pub path_of : Operand → List (List ℕ)
-path_of (operands.Path path) = path
-path_of (operands.Value l) = []
+abbrev pub operand_path : Operand → List (List ℕ)
+operand_path (operands.Path path) = path
+operand_path (operands.Value l) = []
 
 abbrev pub behind_step : Notes → Around → Goal → Operand → Token → Option State
 behind_step n a goals.Left o t = behind_left_step n a o t
 behind_step n a (goals.Right left compare) o t = closed_step n a (compared left compare o) t
-behind_step n a (goals.Is kind) o t = when (is_mark marks.Close t) (closed n a (is_kind kind (path_of o)))
+behind_step n a (goals.Is kind) o t = when (is_mark marks.Close t) (closed n a (is_kind kind (operand_path o)))
 behind_step n a (goals.First kind) o t = when (is_mark marks.Comma t) (states.Operand n a (goals.Second kind o))
 behind_step n a (goals.Second kind first) o t = when (is_mark marks.Close t) (closed n a (has_part kind first o))
 
@@ -386,7 +386,7 @@ end (states.RelationshipsAlias n p) = Some (asked_of (head_of p true None) None,
 end (states.BehindRelationships n h) = Some (asked_of h None, n)
 end (states.TwinsAlias n p) = Some (asked_of (head_of p false None) None, n)
 end (states.BehindTwins n h) = Some (asked_of h None, n)
-end (states.JoinAlias n h target source name) = Some (asked_of (joined h target source name None) None, n)
+end (states.JoinAlias n h target source name) = Some (asked_of (with_join h target source name None) None, n)
 end (states.Path n a g path) = end_behind n a g (operands.Path path)
 end (states.Behind n a g o) = end_behind n a g o
 end (states.BehindFactor n h before c chains room) = end_of_chain n h before c chains

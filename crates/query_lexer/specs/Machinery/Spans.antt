@@ -5,8 +5,8 @@ use Rattle.json_decimal.specs.Decimals.{number_of}
 use Rattle.json_decimal.specs.Literal.{IsLiteralOf}
 use Rattle.query_terms.specs.declared.operand.Compare.{Compare}
 use Rattle.query_terms.specs.declared.operand.Compare.TheVariants as compares
-use Rattle.query_tokens.specs.declared.token.Mark.{Mark}
-use Rattle.query_tokens.specs.declared.token.Mark.TheVariants as marks
+use Rattle.query_terms.specs.declared.tokens.token.Mark.{Mark}
+use Rattle.query_terms.specs.declared.tokens.token.Mark.TheVariants as marks
 use Rattle.query_lexer.specs.Spellings.{is_number_start, escape}
 
 -- a byte that stands in literals
@@ -71,5 +71,5 @@ content_in false (b ∷ bs) =
     if nat_le 32 b then prepend (b ∷ []) (content_in false bs) else
     None
 
-abbrev pub content_at : List ℕ → Option (List ℕ × List ℕ)
-content_at bytes = content_in false bytes
+abbrev pub quoted_content : List ℕ → Option (List ℕ × List ℕ)
+quoted_content bytes = content_in false bytes

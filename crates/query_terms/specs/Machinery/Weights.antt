@@ -27,6 +27,6 @@ weight (conds.Is kind path) = 1
 weight (conds.Part kind whole part) = 1
 weight (conds.OfModel twin model exact) = 1
 
-abbrev pub total : List Cond → ℕ
-total [] = 0
-total (c ∷ cs) = weight c + total cs
+abbrev pub total_weight : List Cond → ℕ
+total_weight [] = 0
+total_weight (c ∷ cs) = weight c + total_weight cs

@@ -1,6 +1,6 @@
 -- Lists that were printed in part.
 use Rattle.std.specs.Prelude.{◌≡◌, ℕ, zero, suc, ◌⊎◌, List, [], ◌∷◌}
-use Rattle.query_text.specs.Printed.{each_behind, separated, escaped_byte}
+use Rattle.query_text.specs.Printed.{each_behind, separated, escaped_query_byte}
 
 -- what stands before the text at a position
 abbrev pub mark_before : List ℕ → ℕ → List ℕ
@@ -13,9 +13,9 @@ left mark text zero xs = separated mark text xs
 left mark text (suc n) xs = each_behind mark text xs
 
 -- a byte that is printed as it is
-abbrev pub IsPlain : ℕ → Type 0
-IsPlain b = escaped_byte b ≡ b ∷ []
+abbrev pub IsPlainInQuery : ℕ → Type 0
+IsPlainInQuery b = escaped_query_byte b ≡ b ∷ []
 
 -- a byte that is printed behind a backslash
-abbrev pub IsEscaped : ℕ → Type 0
-IsEscaped b = (b ≡ 92) ⊎ ((b ≡ 39) ⊎ ((b ≡ 10) ⊎ ((b ≡ 13) ⊎ (b ≡ 9))))
+abbrev pub IsEscapedInQuery : ℕ → Type 0
+IsEscapedInQuery b = (b ≡ 92) ⊎ ((b ≡ 39) ⊎ ((b ≡ 10) ⊎ ((b ≡ 13) ⊎ (b ≡ 9))))

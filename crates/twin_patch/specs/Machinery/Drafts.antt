@@ -9,7 +9,7 @@ use Rattle.json_tree.specs.Values.{Json, object, Members, no_members, member}
 use Rattle.json_tree.specs.View.{view, members_view}
 use Rattle.json_tree.specs.declared.tree.Member.{Member}
 use Rattle.twin_patch.specs.Objects.{with_member, without_member}
-use Rattle.twin_patch.specs.Machinery.Orders.{compared, IsBefore}
+use Rattle.twin_patch.specs.Machinery.Orders.{compared_keys, IsBeforeAll}
 use Rattle.twin_patch.specs.declared.base.Base.{Base}
 use Rattle.twin_patch.specs.declared.draft.Draft.{Draft, fold-Draft}
 use Rattle.twin_patch.specs.declared.draft.Draft.TheOpen.{Draft-F}
@@ -41,9 +41,9 @@ abbrev pub both : Base → BTreeMap (List ℕ) Draft → Members Number
 both base edits = overlaid draft_view edits.entries (members_view base.members.items)
 
 -- Members behind those of a list.
-abbrev pub behind : List Member → Members Number → Members Number
-behind [] ms = ms
-behind (m ∷ out) ms = member m.key (view m.value) (behind out ms)
+abbrev pub members_behind : List Member → Members Number → Members Number
+members_behind [] ms = ms
+members_behind (m ∷ out) ms = member m.key (view m.value) (members_behind out ms)
 
 -- Members behind the one of a key, where it has a value.
 abbrev pub front : List ℕ → Option Json → Members Number → Members Number
@@ -52,7 +52,7 @@ front key None ms = ms
 
 abbrev pub IsFrontBefore : List ℕ → Members Number → Type 0
 IsFrontBefore key no_members = ⊥
-IsFrontBefore key (member k v ms) = compared k key ≡ Less
+IsFrontBefore key (member k v ms) = compared_keys k key ≡ Less
 
 abbrev pub IsFrontAt : List ℕ → Members Number → Type 0
 IsFrontAt key no_members = ⊥
@@ -63,4 +63,4 @@ IsPast key ms = IsFrontBefore key ms → ⊥
 
 -- The keys of entries come after a key.
 abbrev pub AreAfter : {X : Type 0} → List ℕ → List (List ℕ × X) → Type 0
-AreAfter key es = AllByRecursion (λ k. compared key k ≡ Less) (keys_of es)
+AreAfter key es = AllByRecursion (λ k. compared_keys key k ≡ Less) (keys_of es)

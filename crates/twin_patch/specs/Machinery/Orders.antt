@@ -7,27 +7,27 @@ use Rattle.std.specs.Cmp.Lexicographic.{slice_cmp}
 use Rattle.json_decimal.specs.Number.{Number}
 use Rattle.json_tree.specs.Values.{Json, null, truth, number, text, array, object, Elements, no_elements, element, Members, no_members, member}
 
-abbrev pub compared : List ℕ → List ℕ → Ordering
-compared = slice_cmp nat_cmp
+abbrev pub compared_keys : List ℕ → List ℕ → Ordering
+compared_keys = slice_cmp nat_cmp
 
 -- The key comes before all keys of the members.
-abbrev pub IsBefore : List ℕ → Members Number → Type 0
-IsBefore key no_members = Unit {0}
-IsBefore key (member k v ms) = (compared key k ≡ Less) × IsBefore key ms
+abbrev pub IsBeforeAll : List ℕ → Members Number → Type 0
+IsBeforeAll key no_members = Unit {0}
+IsBeforeAll key (member k v ms) = (compared_keys key k ≡ Less) × IsBeforeAll key ms
 
 -- The keys rise.
 abbrev pub KeysRise : Members Number → Type 0
 KeysRise no_members = Unit {0}
-KeysRise (member key v ms) = IsBefore key ms × KeysRise ms
+KeysRise (member key v ms) = IsBeforeAll key ms × KeysRise ms
 
 -- The same as a test.
-abbrev pub is_before : List ℕ → Members Number → Bool
-is_before key no_members = true
-is_before key (member k v ms) = is_lt (compared key k) && is_before key ms
+abbrev pub is_before_all : List ℕ → Members Number → Bool
+is_before_all key no_members = true
+is_before_all key (member k v ms) = is_lt (compared_keys key k) && is_before_all key ms
 
 abbrev pub rises : Members Number → Bool
 rises no_members = true
-rises (member key v ms) = is_before key ms && rises ms
+rises (member key v ms) = is_before_all key ms && rises ms
 
 -- The keys of each object, at every depth, rise.
 abbrev mutual
@@ -45,20 +45,20 @@ abbrev mutual
 
   pub AreInOrder : Members Number → Type 0
   AreInOrder no_members = Unit {0}
-  AreInOrder (member key v ms) = IsBefore key ms × IsInOrder v × AreInOrder ms
+  AreInOrder (member key v ms) = IsBeforeAll key ms × IsInOrder v × AreInOrder ms
 
 -- The key stands at a position: behind lesser ones.
 abbrev pub IsFoundAt : List ℕ → Members Number → ℕ → Type 0
 IsFoundAt key no_members at = ⊥
 IsFoundAt key (member k v ms) zero = key ≡ k
-IsFoundAt key (member k v ms) (suc at) = (compared key k ≡ Greater) × IsFoundAt key ms at
+IsFoundAt key (member k v ms) (suc at) = (compared_keys key k ≡ Greater) × IsFoundAt key ms at
 
 -- It would stand there: behind lesser ones, and before greater ones.
 abbrev pub IsMissingAt : List ℕ → Members Number → ℕ → Type 0
 IsMissingAt key no_members zero = Unit {0}
 IsMissingAt key no_members (suc at) = ⊥
-IsMissingAt key (member k v ms) zero = IsBefore key (member k v ms)
-IsMissingAt key (member k v ms) (suc at) = (compared key k ≡ Greater) × IsMissingAt key ms at
+IsMissingAt key (member k v ms) zero = IsBeforeAll key (member k v ms)
+IsMissingAt key (member k v ms) (suc at) = (compared_keys key k ≡ Greater) × IsMissingAt key ms at
 
 -- What a search for a key answers.
 abbrev pub Stands : List ℕ → Members Number → Result ℕ ℕ → Type 0

@@ -6,7 +6,7 @@ use Rattle.std.specs.Option.{option_map}
 use Rattle.std.specs.Ordering.{nat_cmp}
 use Rattle.std.specs.Cmp.Lexicographic.{slice_cmp}
 use Rattle.std.specs.BTreeMap.{BTreeMap, get_by}
-use Rattle.dtmi_name.specs.Grammar.{dtmi_text}
+use Rattle.dt_base.specs.names.Grammar.{dtmi_text}
 use Rattle.dtdl_terms.specs.declared.schema.Schema.{Schema}
 use Rattle.dtdl_terms.specs.declared.resolved.NamedIn.{NamedIn}
 use Rattle.twin_value.specs.Named.{is_called}
@@ -16,8 +16,8 @@ abbrev pub is_there : {T : Type 0} → List ℕ → Option (List ℕ) → T → 
 is_there q name x = if is_called q name then Some x else None
 
 -- Each name leads to the first item that has it.
-abbrev pub IsIndex : {T : Type 0} → (T → Option (List ℕ)) → List T → BTreeMap (Bor (List ℕ)) (Bor T) → Type 0
-IsIndex {T} key xs index = (q : List ℕ)
+abbrev pub IsIndexByName : {T : Type 0} → (T → Option (List ℕ)) → List T → BTreeMap (Bor (List ℕ)) (Bor T) → Type 0
+IsIndexByName {T} key xs index = (q : List ℕ)
     → option_map (λ (x : Bor T). x.now) (get_by (λ (k : Bor (List ℕ)). slice_cmp nat_cmp q k.now) index) ≡ find (λ (x : T). is_called q (key x)) xs
 
 -- Each interface's identifier leads to the schemas of the first that has it.

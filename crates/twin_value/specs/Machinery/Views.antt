@@ -27,14 +27,14 @@ role_view (role.Link library from properties) = r.link_body library.now (option_
 role_view (role.Value named schema) = r.value (map schema_term named.now) (option_map (λ s. schema_term s.now) schema)
 
 -- A field of declared type, by its name.
-abbrev pub field_role : List Schema → Option Payload → r.Role
-field_role ns None = r.undeclared
-field_role ns (Some p) = r.value_of (map schema_term ns) (schema_term p.schema)
+abbrev pub payload_role : List Schema → Option Payload → r.Role
+payload_role ns None = r.undeclared
+payload_role ns (Some p) = r.value_of (map schema_term ns) (schema_term p.schema)
 
 abbrev pub keys_role : Keys → List ℕ → r.Role
 keys_role (keys.Same s) key = role_view s
-keys_role keys.Metadata key = r.member_role r.twin_metadata key
+keys_role keys.Metadata key = r.body_member_role r.twin_metadata key
 keys_role (keys.Twin library contents) key = r.twin_role library.now contents key
-keys_role (keys.Part library contents) key = r.part_role library.now contents key
+keys_role (keys.Part library contents) key = r.body_part_role library.now contents key
 keys_role (keys.Link library from properties) key = r.link_role library.now (option_map (λ f. f.now) from) (contents_term properties) key
-keys_role (keys.Fields named fields) key = field_role named.now (find (λ (p : Payload). is_called key (Some p.name)) fields)
+keys_role (keys.Fields named fields) key = payload_role named.now (find (λ (p : Payload). is_called key (Some p.name)) fields)

@@ -48,13 +48,13 @@ unfoldable pub after_colon : ℕ → List ℕ → Option (List ℕ)
 after_colon most bs = option_and_then (after_within most) (after_byte 58 bs)
 
 -- how many digits stand at the front
-abbrev pub lead : List ℕ → ℕ
-lead [] = 0
-lead (b ∷ bs) = cond (is_ascii_digit b) (suc (lead bs)) 0
+abbrev pub leading_digits : List ℕ → ℕ
+leading_digits [] = 0
+leading_digits (b ∷ bs) = cond (is_ascii_digit b) (suc (leading_digits bs)) 0
 
 -- behind the digits that follow a point
 abbrev pub after_digits : List ℕ → Option (List ℕ)
-after_digits bs = cond (nat_le 1 (lead bs)) (Some (drop (lead bs) bs)) None
+after_digits bs = cond (nat_le 1 (leading_digits bs)) (Some (drop (leading_digits bs) bs)) None
 
 unfoldable pub after_fraction : List ℕ → Option (List ℕ)
 after_fraction [] = Some []
@@ -77,7 +77,7 @@ after_date_time bs = option_and_then after_time (option_and_then (after_either 8
 -- ---- durations
 -- behind one digit to nine
 unfoldable pub after_count : List ℕ → Option (List ℕ)
-after_count bs = cond (nat_le 1 (lead bs) && nat_le (lead bs) 9) (Some (drop (lead bs) bs)) None
+after_count bs = cond (nat_le 1 (leading_digits bs) && nat_le (leading_digits bs) 9) (Some (drop (leading_digits bs) bs)) None
 
 -- behind a number and a mark
 unfoldable pub after_number : ℕ → List ℕ → Option (List ℕ)

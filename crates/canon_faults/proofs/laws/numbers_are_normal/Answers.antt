@@ -1,4 +1,5 @@
-use Rattle.canon_faults.proofs.NormalForms.{spelled_distinct, spelled_normal}
+use Rattle.json_tree.proofs.DistinctKeys.{spelled_distinct}
+use Rattle.canon_faults.proofs.NormalForms.{spelled_normal}
 use Rattle.canon_faults.proofs.laws.numbers_are_normal.Goals as goal
 
 pub returns-clause-numbers : goal.returns-clause-numbers

@@ -1,9 +1,9 @@
 use Rattle.std.proofs.Common.{subst}
 use Rattle.dtdl_terms.specs.Distinct.{HasDeclaration}
-use Rattle.model_read.specs.Limits.{IsWithinLimits}
+use Rattle.local_rules.specs.Limits.{IsWithinLimits}
 use Rattle.canon_text.specs.Canonical.{set_value, set_text}
 use Rattle.canon_text.proofs.Told.{all_with}
-use Rattle.canon_laws.specs.Typed.{IsTyped}
+use Rattle.local_rules.specs.Typed.{IsTyped}
 use Rattle.local_rules.specs.Breaches.{BreaksNoLocalRule}
 use Rattle.canon_faults.specs.Declared.{IsSoundlyDeclared}
 use Rattle.canon_faults.proofs.texts.without_faults.Goals as goal

@@ -1,15 +1,15 @@
-use Rattle.std.proofs.Common.{◌≡◌, ◌≤◌, ℕ, List, [], ◌∷◌, ◌++◌, false, Option, Some, OnOk, string_bytes, arith, subst, refl, sym, ap, ◌∙◌}
+use Rattle.std.proofs.Common.{◌≡◌, ◌≤◌, ℕ, List, [], ◌∷◌, ◌++◌, false, Option, OnOk, string_bytes, arith, subst, refl, sym, ap, ◌∙◌}
 use Rattle.std.specs.Prelude.{codes}
 use Rattle.std.specs.Option.{option_map}
 use denote.Param.Weighed.{most}
-use Rattle.json_tree.specs.Values.{Json, text}
+use Rattle.json_tree.specs.Values.{Json}
 use Rattle.json_tree.specs.Printing.{printed}
 use Rattle.dtdl_terms.specs.Terms.{ContentTerm, KindTerm, content, relationship}
 use Rattle.dtdl_terms.specs.TermViews.{kind_term, content_term, contents_term}
 use Rattle.dtdl_terms.specs.declared.content.Content.{Content}
 use Rattle.dtdl_terms.proofs.TermViews.{term-Relationship}
 use Rattle.dtdl_terms.proofs.content.Content.TheLaws.{the_size}
-use Rattle.canon_text.specs.Canonical.{id_value, content_value, writable_value, most_value, content_pairs}
+use Rattle.canon_text.specs.Canonical.{id_value, content_value, writable_value, content_pairs}
 use Rattle.canon_text.specs.Objects.{list_in_order, unless_empty}
 use Rattle.canon_text.specs.Machinery.Pairs.{content_named}
 use Rattle.canon_text.proofs.Pairs.{named_contents}
@@ -25,14 +25,11 @@ push_relationship-returns t c =
     let writable : List (List ℕ × Option Json) = (codes "writable", writable_value c.args.writable) ∷ [] in
     let target : List (List ℕ × Option Json) = (codes "target", option_map id_value c.args.target.now) ∷ writable in
     let properties : List (List ℕ × Option Json) = (codes "properties", unless_empty list_in_order (content_pairs (contents_term c.args.properties.now))) ∷ target in
-    let name : List (List ℕ × Option Json) = (codes "name", Some (text c.args.name.now)) ∷ properties in
     c.in_ok-push_str.ensures.bytes ∙ sym (
-    c.in_ok-first.ensures (text (codes "Relationship")) refl ((codes "maxMultiplicity", option_map most_value c.args.most) ∷ name)
-    ∙ c.in_ok-first-2.ensures name
-    ∙ c.in_ok-push_name.ensures (codes "name") refl properties
-    ∙ ap (λ (ps : List (List ℕ × Json)). string_bytes c.push_name.new.out ++ parts_left false ((codes "properties", unless_empty list_in_order ps) ∷ target)) (named_contents c.args.properties.now)
-    ∙ c.in_ok-first-3.ensures (codes "properties") refl target
-    ∙ c.in_ok-first-4.ensures (codes "target") refl writable
+    c.in_ok-push_relationship_head.ensures properties
+    ∙ ap (λ (ps : List (List ℕ × Json)). string_bytes c.push_relationship_head.new.out ++ parts_left false ((codes "properties", unless_empty list_in_order ps) ∷ target)) (named_contents c.args.properties.now)
+    ∙ c.in_ok-first.ensures (codes "properties") refl target
+    ∙ c.in_ok-first-2.ensures (codes "target") refl writable
     ∙ c.in_ok-push_writable.ensures []
     ∙ parts_ended _ _)
 

@@ -1,20 +1,7 @@
-use Rattle.std.proofs.Common.{ℕ, List, [], ◌∷◌, false, Option, Some, refl, sym, ◌∙◌}
+use Rattle.std.proofs.Common.{[], refl, sym, ◌∙◌}
 use Rattle.std.specs.Prelude.{codes}
-use Rattle.std.specs.Option.{option_map}
-use Rattle.json_tree.specs.Values.{Json, text}
-use Rattle.dtdl_terms.specs.TermViews.{schema_term}
-use Rattle.canon_text.specs.Canonical.{schema_value}
-use Rattle.canon_print.proofs.Parts.{part_printed, parts_ended}
+use Rattle.canon_print.proofs.Parts.{parts_ended}
 use Rattle.canon_print.proofs.kinds.push_telemetry.Goals as goal
 
 pub returns : goal.returns
-returns c =
-    let kind = schema_value (schema_term c.args.kind.now) in
-    let units : List (List ℕ × Option Json) = (codes "unit", option_map text c.args.unit.now) ∷ [] in
-    let rest : List (List ℕ × Option Json) = (codes "schema", Some kind) ∷ units in
-    c.in_ok-push_str.ensures.bytes ∙ sym (
-    c.in_ok-first.ensures (codes "Telemetry") refl ((codes "name", Some (text c.args.item.now.name)) ∷ rest)
-    ∙ c.in_ok-push_name.ensures (codes "name") refl rest
-    ∙ part_printed _ _ _ false _ (codes "schema") kind c.in_ok-push_head.ensures refl c.in_ok-push_schema.ensures units
-    ∙ c.in_ok-push_optional_name.ensures (codes "unit") refl []
-    ∙ parts_ended _ _)
+returns c = c.in_ok-push_str.ensures.bytes ∙ sym (c.in_ok-push_measured.ensures (codes "Telemetry") refl [] ∙ parts_ended _ _)

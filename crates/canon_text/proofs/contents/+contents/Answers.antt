@@ -1,10 +1,10 @@
 use Rattle.std.proofs.Common.{◌∙◌, ℕ, List, [], ◌∷◌, ◌++◌, Option, Some, ap, sym}
 use Rattle.std.specs.Prelude.{codes}
 use Rattle.std.specs.Option.{option_map}
-use Rattle.json_tree.specs.Values.{Json, text, object, members_of}
+use Rattle.json_tree.specs.Values.{Json, text}
 use Rattle.dtdl_terms.specs.TermViews.{contents_term}
 use Rattle.canon_text.specs.Objects.{list_in_order, unless_empty}
-use Rattle.canon_text.specs.Canonical.{id_value, element_parts, writable_value, most_value, content_pairs}
+use Rattle.canon_text.specs.Canonical.{element_parts, most_value, content_pairs}
 use Rattle.std.proofs.Common.{◌≡◌, IfOk, subst}
 use Rattle.json_tree.specs.View.{view}
 use Rattle.dtdl_terms.specs.Terms.{ContentTerm, KindTerm, content, relationship}
@@ -17,18 +17,11 @@ use Rattle.canon_text.proofs.contents.+contents.Goals as goal
 
 pub relationship-returns : goal.relationship-returns
 relationship-returns t c =
-    let p0 : List (List ℕ × Option Json) = element_parts (Some (text (codes "Relationship"))) c.args.common.now in
-    let e0 = c.in_ok-members.ensures (Some (text (codes "Relationship"))) (ap Some c.in_ok-typed.ensures) in
-    let e1 = c.in_ok-put.ensures p0 (option_map most_value c.args.bound) (c.most.ensures) e0 in
-    let p1 : List (List ℕ × Option Json) = p0 ++ (codes "maxMultiplicity", option_map most_value c.args.bound) ∷ [] in
-    let e2 = c.in_ok-put-2.ensures p1 (Some (text c.args.name.now)) (ap Some c.in_ok-name.ensures) e1 in
-    let p2 : List (List ℕ × Option Json) = p1 ++ (codes "name", Some (text c.args.name.now)) ∷ [] in
-    let e3 = c.in_ok-put-3.ensures p2 (unless_empty list_in_order (content_pairs (contents_term c.args.properties.now))) (c.in_ok-properties-2.ensures ∙ ap (unless_empty list_in_order) (c.in_ok-properties.ensures ∙ sym (named_contents c.args.properties.now))) e2 in
-    let p3 : List (List ℕ × Option Json) = p2 ++ (codes "properties", unless_empty list_in_order (content_pairs (contents_term c.args.properties.now))) ∷ [] in
-    let e4 = c.in_ok-put-4.ensures p3 (option_map id_value c.args.target.now) (c.in_ok-target.ensures) e3 in
-    let p4 : List (List ℕ × Option Json) = p3 ++ (codes "target", option_map id_value c.args.target.now) ∷ [] in
-    let e5 = c.in_ok-put-5.ensures p4 (writable_value c.args.marked) (c.writable.ensures) e4 in
-    c.object.ensures ∙ ap (λ (ms : List (List ℕ × Json)). object (members_of ms)) e5
+    let properties = unless_empty list_in_order (content_pairs (contents_term c.args.properties.now)) in
+    let parts : List (List ℕ × Option Json) = element_parts (Some (text (codes "Relationship"))) c.args.common.now
+    ++ (codes "maxMultiplicity", option_map most_value c.args.bound) ∷ (codes "name", Some (text c.args.name.now)) ∷ [] in
+    let told = c.in_ok-properties-2.ensures ∙ ap (unless_empty list_in_order) (c.in_ok-properties.ensures ∙ sym (named_contents c.args.properties.now)) in
+    c.in_ok-tree.ensures parts properties told c.in_ok-head.ensures
 
 pub content-returns-in-Relationship : goal.content-returns-in-Relationship
 content-returns-in-Relationship t c =

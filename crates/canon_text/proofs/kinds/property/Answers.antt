@@ -8,13 +8,7 @@ use Rattle.canon_text.proofs.kinds.property.Goals as goal
 
 pub returns : goal.returns
 returns c =
-    let p0 : List (List ℕ × Option Json) = element_parts (Some (typed (codes "Property") c.args.semantic.now)) c.args.item.now.common in
-    let e0 = c.in_ok-members.ensures (Some (typed (codes "Property") c.args.semantic.now)) (ap Some c.in_ok-typed.ensures) in
-    let e1 = c.in_ok-put.ensures p0 (Some (text c.args.item.now.name)) (ap Some (c.in_ok-name.ensures ∙ ap text c.as_str.ensures.same)) e0 in
-    let p1 : List (List ℕ × Option Json) = p0 ++ (codes "name", Some (text c.args.item.now.name)) ∷ [] in
-    let e2 = c.in_ok-put-2.ensures p1 (Some (schema_value (schema_term c.args.kind.now))) (ap Some c.in_ok-kind.ensures) e1 in
-    let p2 : List (List ℕ × Option Json) = p1 ++ (codes "schema", Some (schema_value (schema_term c.args.kind.now))) ∷ [] in
-    let e3 = c.in_ok-put-3.ensures p2 (option_map text c.args.unit.now) (c.in_ok-unit.ensures) e2 in
-    let p3 : List (List ℕ × Option Json) = p2 ++ (codes "unit", option_map text c.args.unit.now) ∷ [] in
-    let e4 = c.in_ok-put-4.ensures p3 (writable_value c.args.marked) (c.writable.ensures) e3 in
-    c.object.ensures ∙ ap (λ (ms : List (List ℕ × Json)). object (members_of ms)) e4
+    let own : List (List ℕ × Option Json) = (codes "name", Some (text c.args.item.now.name)) ∷ (codes "schema", Some (schema_value (schema_term c.args.kind.now))) ∷ (codes "unit", option_map text c.args.unit.now) ∷ [] in
+    let p0 : List (List ℕ × Option Json) = element_parts (Some (typed (codes "Property") c.args.semantic.now)) c.args.item.now.common ++ own in
+    let e1 = c.in_ok-put.ensures p0 (writable_value c.args.marked) c.writable.ensures c.in_ok-members.ensures in
+    c.object.ensures ∙ ap (λ (ms : List (List ℕ × Json)). object (members_of ms)) e1

@@ -32,9 +32,9 @@ pub payload-returns : goal.payload-returns
 payload-returns t c =
     let p0 : List (List ℕ × Option Json) = element_parts None c.args.item.now.common in
     let e0 = c.in_ok-members.ensures None refl in
-    let e1 = c.in_ok-put.ensures p0 (Some (text c.args.item.now.name)) (ap Some (c.in_ok-name.ensures ∙ ap text c.as_str.ensures.same)) e0 in
+    let e1 = rw c.as_str.ensures.same at c.in_ok-put_text.ensures p0 e0 in
     let p1 : List (List ℕ × Option Json) = p0 ++ (codes "name", Some (text c.args.item.now.name)) ∷ [] in
-    let e2 = c.in_ok-put-2.ensures p1 (Some (schema_value (schema_term c.args.item.now.schema))) (ap Some c.in_ok-kind.ensures) e1 in
+    let e2 = c.in_ok-put.ensures p1 (Some (schema_value (schema_term c.args.item.now.schema))) (ap Some c.in_ok-kind.ensures) e1 in
     c.object.ensures ∙ ap (λ (ms : List (List ℕ × Json)). object (members_of ms)) e2
 
 pub schema-returns-in-Object : goal.schema-returns-in-Object

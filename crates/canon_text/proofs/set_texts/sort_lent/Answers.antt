@@ -4,7 +4,7 @@ use Rattle.std.specs.Cmp.Lexicographic.{lists_total}
 use Rattle.std.specs.Ordering.{is_lt}
 use Rattle.std.proofs.lemmas.Fn.{always_returns_same}
 use Rattle.std.proofs.lemmas.List.Sorted.{ranks_by}
-use Rattle.dtmi_name.specs.Grammar.{dtmi_text}
+use Rattle.dt_base.specs.names.Grammar.{dtmi_text}
 use Rattle.dtdl_terms.specs.declared.interface.Interface.{Interface}
 use Rattle.canon_text.specs.Sorting.{is_before}
 use Rattle.canon_text.specs.Machinery.Pairs.{pair_name, pair_at}

@@ -2,8 +2,8 @@ use Rattle.std.proofs.Common.{List, map, sym, subst}
 use Rattle.std.specs.List.{AllByRecursion}
 use Rattle.dtdl_terms.specs.Distinct.{AreDistinct, HasDeclaration}
 use Rattle.dtdl_terms.specs.declared.interface.Interface.{Interface}
-use Rattle.model_read.specs.Limits.{IsWithinLimits}
-use Rattle.canon_laws.specs.Typed.{IsTyped}
+use Rattle.local_rules.specs.Limits.{IsWithinLimits}
+use Rattle.local_rules.specs.Typed.{IsTyped}
 use Rattle.dtdl_cmd.proofs.laws.equal_texts.Goals as goal
 
 abbrev Whole : List Interface → Type 0

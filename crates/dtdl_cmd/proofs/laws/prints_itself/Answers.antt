@@ -1,9 +1,9 @@
 use Rattle.std.proofs.Common.{sym, subst}
 use Rattle.std.specs.List.{AllByRecursion}
 use Rattle.dtdl_terms.specs.Distinct.{HasDeclaration}
-use Rattle.model_read.specs.Limits.{IsWithinLimits}
+use Rattle.local_rules.specs.Limits.{IsWithinLimits}
 use Rattle.canon_text.specs.Canonical.{set_value}
-use Rattle.canon_laws.specs.Typed.{IsTyped}
+use Rattle.local_rules.specs.Typed.{IsTyped}
 use Rattle.canon_faults.specs.Declared.{IsSoundlyDeclared}
 use Rattle.dtdl_cmd.proofs.PrintsItself.{declared_soundly, prints_itself}
 use Rattle.dtdl_cmd.proofs.laws.prints_itself.Goals as goal

@@ -1,7 +1,7 @@
 use Rattle.std.proofs.Common.{◌≡◌, ℕ, ◌++◌, List, [], ◌∷◌, map, length, Bor, sym, ap, ◌∙◌, subst, arith}
 use Rattle.std.specs.Option.{option_or}
 use Rattle.std.proofs.lemmas.List.{length-map, map_push}
-use Rattle.dtmi_name.specs.Grammar.{Identifier}
+use Rattle.dt_base.specs.names.Grammar.{Identifier}
 use Rattle.dtdl_terms.specs.declared.interface.Interface.{Interface}
 use Rattle.extend_resolve.specs.Machinery.Numbers.{kept_at, number_for}
 use Rattle.extend_resolve.specs.Machinery.Gathering.{AreNumbered}

@@ -1,6 +1,6 @@
 use Rattle.std.proofs.Common.{◌≡◌, ◌++◌, map}
 use Rattle.json_tree.specs.View.{view}
-use Rattle.dtmi_name.specs.Grammar.{Identifier}
+use Rattle.dt_base.specs.names.Grammar.{Identifier}
 use Rattle.dtdl_terms.specs.Sets.{keyed}
 use Rattle.dtdl_terms.specs.declared.interface.Interface.{Interface}
 use Rattle.canon_text.specs.Canonical.{interface_value}

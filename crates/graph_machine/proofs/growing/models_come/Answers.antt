@@ -1,13 +1,13 @@
 use Rattle.std.proofs.Common.{◌≡◌, ◌∙◌, ℕ, List, map, Option, refl, sym, ap, subst}
-use Rattle.dtmi_name.specs.Grammar.{Identifier, dtmi_text}
+use Rattle.dt_base.specs.names.Grammar.{Identifier, dtmi_text}
 use Rattle.dtdl_terms.specs.Distinct.{AreDistinct}
-use Rattle.graph_fits.specs.Ill.{IsLeastMisfit}
+use Rattle.graph_judges.specs.fits.Ill.{IsLeastMisfit}
 use Rattle.graph_steps.specs.ModelAsks.{after_uploads}
-use Rattle.graph_held.specs.Held.{Holding, holding, state_of}
+use Rattle.graph_steps.specs.held.Held.{Holding, holding, state_of}
 use Rattle.graph_steps.specs.States.{set_of}
 use Rattle.model_life.specs.Models.{Model, interfaces_of, without_models}
-use Rattle.model_resolve.specs.Resolving.{HoldsRight}
-use Rattle.set_laws.specs.Changing.{AreFree}
+use Rattle.model_life.specs.resolution.Resolving.{HoldsRight}
+use Rattle.model_life.specs.sets.Changing.{AreFree}
 use Rattle.graph_machine.proofs.Answered.{misfit, uploads_free}
 use Rattle.graph_machine.proofs.Taken.{upload_id, taken_distinct, taken_within, taken_whole, taken_free, taken_back}
 use Rattle.graph_machine.proofs.growing.models_come.Goals as goal

@@ -1,6 +1,6 @@
 use Rattle.std.proofs.Common.{◌∙◌, [], ◌∷◌}
 use Rattle.graph_steps.specs.States.{Link, link_value}
-use Rattle.graph_held.specs.Held.{link_of}
+use Rattle.graph_steps.specs.held.Held.{link_of}
 use Rattle.graph_machine.proofs.Pages.{rows_on_page}
 use Rattle.graph_machine.proofs.Told.{weaker}
 use Rattle.graph_machine.proofs.list_in.into_tree.Goals as goal

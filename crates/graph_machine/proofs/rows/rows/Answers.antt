@@ -1,10 +1,10 @@
 use Rattle.std.proofs.Common.{Bor, drop, arith}
 use Rattle.rel_graph.specs.declared.edge.Edge.{Edge}
-use Rattle.graph_held.specs.declared.stored.Stored.{Stored}
+use Rattle.graph_steps.specs.declared.held.stored.Stored.{Stored}
 use Rattle.std.proofs.Math.ListN.{drop_of_length-le}
 use Rattle.json_tree.specs.View.{view}
 use Rattle.graph_steps.specs.States.{link_value}
-use Rattle.graph_held.specs.Held.{link_of}
+use Rattle.graph_steps.specs.held.Held.{link_of}
 use Rattle.graph_machine.proofs.Pages.{first_page, whole_page}
 use Rattle.graph_machine.proofs.rows.rows.Goals as goal
 

@@ -1,7 +1,7 @@
 use Rattle.std.proofs.Common.{◌≡◌, ◌≤◌, ◌++◌, map, drop, length}
 use Rattle.json_tree.specs.View.{view}
 use Rattle.graph_steps.specs.States.{link_value}
-use Rattle.graph_held.specs.Held.{link_of}
+use Rattle.graph_steps.specs.held.Held.{link_of}
 use Rattle.graph_machine.proofs.rows.rows.Given as goal
 
 -- the trees so far, and those that are still to come

@@ -1,10 +1,10 @@
 use Rattle.json_tree.specs.View.{view}
-use Rattle.twin_value.specs.Breaches.{IsFirst, IsOuterLinkBreach}
+use Rattle.twin_value.specs.Breaches.{IsFirstBodyBreach, IsOuterLinkBreach}
 use Rattle.graph_routes.proofs.OuterBreaches.{link_somewhere}
 use Rattle.graph_routes.proofs.outer.link_refusal.Goals as goal
 
 pub fault_at-requires : goal.fault_at-requires
 fault_at-requires c =
     let v = view c.args.tree.now in
-    let first : IsFirst (IsOuterLinkBreach v) c.in-Some.place.steps c.in-Some.code = rw c.in-Some.is at c.in_ok-place.ensures in
+    let first : IsFirstBodyBreach (IsOuterLinkBreach v) c.in-Some.place.steps c.in-Some.code = rw c.in-Some.is at c.in_ok-place.ensures in
     link_somewhere v c.in-Some.place.steps c.in-Some.code first.breach

@@ -1,5 +1,5 @@
 use Rattle.std.specs.Prelude.{IsTrue, false}
-use Rattle.dtmi_name.proofs.Exact.{dtmi_refused}
+use Rattle.dt_base.proofs.names.Exact.{dtmi_refused}
 use Rattle.graph_routes.proofs.parts.read_model.Goals as goal
 
 pub returns-else-is_want_of_memory : goal.returns-else-is_want_of_memory

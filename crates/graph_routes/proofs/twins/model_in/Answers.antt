@@ -1,6 +1,6 @@
 use Rattle.std.proofs.Common.{◌≡◌, ℕ, ◌≤◌, List, length, Option, Some, Bor, codes, sym, ap, ◌∙◌}
 use Rattle.std.specs.Option.{option_map, option_and_then}
-use Rattle.dtmi_name.specs.Grammar.{Identifier, OwnDtmiText}
+use Rattle.dt_base.specs.names.Grammar.{Identifier, OwnDtmiText}
 use Rattle.json_decimal.specs.Number.{Number}
 use Rattle.json_tree.specs.Values.{Members}
 use Rattle.json_tree.specs.View.{view}

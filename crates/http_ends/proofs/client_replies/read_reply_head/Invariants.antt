@@ -2,14 +2,14 @@ use Rattle.std.proofs.Common.{◌≡◌, length}
 use Rattle.std.specs.Io.KnownBytes.{IsAtEnd}
 use Rattle.dt_base.specs.Faults.{Rose}
 use Rattle.http_ends.specs.declared.buffer.Filled.TheVariants.{Ended, Failed}
-use Rattle.http_ends.specs.reading.Reads.{Reads}
+use Rattle.http_ends.specs.reading.Reads.{ReadsMore}
 use Rattle.http_ends.specs.reading.Judging.{turns_left}
 use Rattle.http_ends.proofs.client_replies.read_reply_head.Given as goal
 
 -- nothing but reads happened
 abbrev pub invariant-judging : goal.invariant-judging
 invariant-judging g l = record {
-  read : Reads g.S.Source.left g.S.Source.aside g.S.Source.faults l.fn.link l.link l.fn.buffer l.buffer;
+  read : ReadsMore g.S.Source.left g.S.Source.aside g.S.Source.faults l.fn.link l.link l.fn.buffer l.buffer;
   ended : l.filled ≡ Ended → IsAtEnd (g.S.Source.left l.link);
   failed : l.filled ≡ Failed → Rose (g.S.Source.faults l.fn.link) (g.S.Source.faults l.link);
 }

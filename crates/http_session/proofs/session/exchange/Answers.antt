@@ -1,6 +1,6 @@
 use Rattle.std.proofs.Common.{[], ◌||◌, take, Err, refl, sym, ap, ◌∙◌, inr, option_to_list}
 use Rattle.std.proofs.KnownBytes.{Appends-nil}
-use Rattle.http_session.specs.Answers.{text_of}
+use Rattle.http_session.specs.Answers.{answer_text}
 use Rattle.http_session.proofs.Stretches.{in_hand}
 use Rattle.http_session.proofs.session.exchange.Goals as goal
 
@@ -8,7 +8,7 @@ pub returns-in-Err-WriteFault-clause-exchanges : goal.returns-in-Err-WriteFault-
 returns-in-Err-WriteFault-clause-exchanges g c =
     let told = c.in-Ok.ensures.answers in
     let short = rw (c.is_closing-closing.ensures, c.asks_head-head_only.ensures) at (c.write_response.ensures.part (c.in-Err-WriteFault.is ∙ ap Err c.in-Err-WriteFault.field-0-is)) in
-    let text = text_of c.args.request.now c.in-Ok.answer.response (c.args.request.now.close || c.args.last) in (
+    let text = answer_text c.args.request.now c.in-Ok.answer.response (c.args.request.now.close || c.args.last) in (
       option_to_list told.0,
       take short.0 text,
       record { goes_by = told.1; appended = short.2 },

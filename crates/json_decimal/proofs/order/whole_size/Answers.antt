@@ -1,7 +1,7 @@
 use Rattle.std.proofs.Common.{◌≡◌, ◌<◌, ◌^◌, ◌<ℤ◌, ◌≤ℤ◌, ℤ, pos, neg_ℤ, true, false, to_z, of_z, w32, FitsSigned, arith}
 use lib.Signed.{lt_z}
 use Rattle.std.proofs.lemmas.Int.{ints}
-use Rattle.json_decimal.specs.Halves.{joined}
+use Rattle.json_decimal.specs.Halves.{joined_halves}
 use Rattle.json_decimal.specs.Decimals.{number_of}
 use Rattle.json_decimal.proofs.ReadsBack.{is_decimal}
 use Rattle.json_decimal.proofs.Wholes.{no_size_below, no_size_far, no_size_above}
@@ -33,5 +33,5 @@ returns-then-exponent-lt0 c = λ n few h.
 pub returns-then-coefficient-gt-LEAST_I64_SIZE : goal.returns-then-coefficient-gt-LEAST_I64_SIZE
 returns-then-coefficient-gt-LEAST_I64_SIZE c = λ n few h.
     let d = c.args.decimal.now in
-    let large : 2 ^ 63 < joined d.high d.low = rw (← c.coefficient-coefficient.ensures) c.if-coefficient-gt-LEAST_I64_SIZE.true in
+    let large : 2 ^ 63 < joined_halves d.high d.low = rw (← c.coefficient-coefficient.ensures) c.if-coefficient-gt-LEAST_I64_SIZE.true in
     no_size_above (number_of c.args.decimal.now) n (not_below d.exponent (pos 0) (decimal_fits d.exponent d.least d.most) c.if-exponent-lt0.false) large few h

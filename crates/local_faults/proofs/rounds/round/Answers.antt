@@ -3,7 +3,7 @@ use Rattle.std.proofs.lemmas.List.{length-map}
 use Rattle.json_tree.specs.Values.{Json}
 use Rattle.local_faults.specs.Machinery.Measured.{IsMeasure}
 use Rattle.json_tree.specs.View.{view, members_view}
-use Rattle.local_faults.specs.Machinery.Named.{schemas_in}
+use Rattle.local_faults.specs.Machinery.Named.{schema_entries}
 use Rattle.local_faults.proofs.Tabled.{mixed_first, mixed_right, mixed_more, mixed_last, entry_object}
 use Rattle.local_faults.proofs.rounds.round.Goals as goal
 
@@ -23,7 +23,7 @@ loop-at-preserved c =
           let mixed = c.loop-at.invariant.right n all in
           mixed_more ms n at c.loop-at.table c.put-changed.new.table c.measure_of-measure.result within c.put-changed.ensures.after
           (λ os e.
-          let is = entry_object (schemas_in ms) c.args.entries.now at c.index-entries-at.result os c.requires.entries c.loop-at-test.true c.index-entries-at.is e in
+          let is = entry_object (schema_entries ms) c.args.entries.now at c.index-entries-at.result os c.requires.entries c.loop-at-test.true c.index-entries-at.is e in
           let P : Json → Type 0 = λ v. IsMeasure ms (suc n) v c.measure_of-measure.result in
           subst P is (c.measure_of-measure.ensures.whole n os (mixed_right ms n at c.loop-at.table mixed) is))
           mixed;
@@ -33,5 +33,5 @@ loop-at-preserved c =
 pub returns-clause-right : goal.returns-clause-right
 returns-clause-right c = λ n all.
     let ms = members_view c.args.names.now in
-    let size : length (schemas_in ms) ≡ length c.args.entries.now = ap length (sym c.requires.entries) ∙ length-map c.args.entries.now view in
+    let size : length (schema_entries ms) ≡ length c.args.entries.now = ap length (sym c.requires.entries) ∙ length-map c.args.entries.now view in
     mixed_last ms n c.loop-at.at c.loop-at.table (omega (arith, size, c.loop-at-test.false)) (c.loop-at.invariant.right n all)

@@ -2,7 +2,7 @@ use Rattle.std.proofs.Common.{◌≡◌, sym, ◌∙◌, Some, None}
 use Rattle.json_tree.specs.Values.{object}
 use Rattle.json_tree.specs.View.{members_view}
 use Rattle.local_rules.specs.Levels.{has_id}
-use Rattle.local_faults.specs.Machinery.Named.{schemas_in}
+use Rattle.local_faults.specs.Machinery.Named.{schema_entries}
 use Rattle.local_faults.proofs.Tabled.{named_at, found_none}
 use Rattle.local_faults.proofs.schemas.is_unknown_name.Goals as goal
 
@@ -13,5 +13,5 @@ returns-in-Some c =
 
 pub returns-in-None : goal.returns-in-None
 returns-in-None c =
-    let none = found_none (has_id c.args.name.now) (schemas_in (members_view c.args.names.now)) (sym c.in-None.ensures) in
+    let none = found_none (has_id c.args.name.now) (schema_entries (members_view c.args.names.now)) (sym c.in-None.ensures) in
     (λ on. (λ p. let off = c.if-is_primitive.ensures.1 p in cc, none), λ h. cc)

@@ -1,6 +1,6 @@
 use Rattle.std.proofs.Common.{refl}
 use Rattle.json_tree.specs.View.{view}
-use Rattle.canon_faults.proofs.NormalForms.{spelled_distinct}
+use Rattle.json_tree.proofs.DistinctKeys.{spelled_distinct}
 use Rattle.machine_tests.proofs.asks.uploads.Goals as goal
 
 pub returns : goal.returns

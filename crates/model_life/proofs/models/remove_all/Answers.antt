@@ -1,6 +1,6 @@
 use Rattle.std.proofs.Common.{take, cond, sym, ap, ◌∙◌}
-use Rattle.dtmi_name.specs.Grammar.{id_eq}
-use Rattle.set_laws.specs.Changing.{is_one_of}
+use Rattle.dt_base.specs.names.Grammar.{id_eq}
+use Rattle.model_life.specs.sets.Changing.{is_one_of}
 use Rattle.model_life.specs.Machinery.Keeping.{written_at}
 use Rattle.model_life.proofs.Using.{any_next}
 use Rattle.model_life.proofs.Recorded.{gone_next_number, gone_number}

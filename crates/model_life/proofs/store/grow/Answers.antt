@@ -1,7 +1,7 @@
 use Rattle.std.proofs.Common.{◌≡◌, map, false, refl, sym, ap, ◌∙◌, subst}
-use Rattle.dtmi_name.specs.Grammar.{Identifier}
+use Rattle.dt_base.specs.names.Grammar.{Identifier}
 use Rattle.dtdl_terms.specs.Sets.{interface_at}
-use Rattle.set_laws.specs.Changing.{with_uploads, is_one_of}
+use Rattle.model_life.specs.sets.Changing.{with_uploads, is_one_of}
 use Rattle.model_life.specs.Machinery.Keeping.{models_of, HaveTexts, UsersAreWithin}
 use Rattle.model_life.proofs.Growing.{AreRecords, rolled_back, records_back, models_same, fits_same, users_back, texts_of, joined_records, within_joined, joined_models}
 use Rattle.model_life.proofs.store.grow.Goals as goal

@@ -1,8 +1,8 @@
 use Rattle.std.proofs.Common.{take, cond, None, sym, ap, ◌∙◌, subst, arith}
-use Rattle.dtmi_name.specs.Grammar.{id_eq}
+use Rattle.dt_base.specs.names.Grammar.{id_eq}
 use Rattle.dtdl_terms.specs.Sets.{InOrder, interface_at}
-use Rattle.set_laws.specs.Changing.{without_interfaces, is_one_of}
-use Rattle.set_laws.proofs.Looking.{at_without, ordered_without, ordered_without_one, same_set}
+use Rattle.model_life.specs.sets.Changing.{without_interfaces, is_one_of}
+use Rattle.model_life.proofs.sets.Looking.{at_without, ordered_without, ordered_without_one, same_set}
 use Rattle.model_life.specs.Machinery.Keeping.{record_at}
 use Rattle.model_life.proofs.Using.{any_next, any_all}
 use Rattle.model_life.proofs.Recorded.{gone_next, gone_interface, gone_entry}

@@ -1,7 +1,7 @@
 use Rattle.std.proofs.Common.{◌≡◌, take, cond, None}
-use Rattle.dtmi_name.specs.Grammar.{Identifier}
+use Rattle.dt_base.specs.names.Grammar.{Identifier}
 use Rattle.dtdl_terms.specs.Sets.{InOrder, interface_at}
-use Rattle.set_laws.specs.Changing.{is_one_of}
+use Rattle.model_life.specs.sets.Changing.{is_one_of}
 use Rattle.model_life.specs.Machinery.Keeping.{record_at}
 use Rattle.model_life.proofs.store.leave_all.Given as goal
 

@@ -1,5 +1,5 @@
 use Rattle.std.proofs.Common.{sym, arith}
-use Rattle.model_resolve.proofs.ByKey.{contains_map}
+use Rattle.model_life.proofs.resolution.ByKey.{contains_map}
 use Rattle.model_life.proofs.sums.lines_bytes.Goals as goal
 
 pub line_bytes-requires-clause-there : goal.line_bytes-requires-clause-there

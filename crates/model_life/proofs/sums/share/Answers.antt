@@ -2,11 +2,11 @@ use Rattle.std.proofs.Common.{◌↔◌, List, map, sym, ap, ◌∙◌, subst}
 use Rattle.std.specs.Prelude.{Contains}
 use Rattle.std.specs.List.{sum_by}
 use Rattle.dtdl_terms.specs.declared.interface.Interface.{Interface}
-use Rattle.model_resolve.specs.Machinery.Families.{IsThere}
+use Rattle.model_life.specs.resolution.Machinery.Families.{IsThere}
 use Rattle.extend_resolve.specs.Chains.{IsAncestor}
-use Rattle.model_resolve.proofs.Assembly.{parts_there}
+use Rattle.model_life.proofs.resolution.Assembly.{parts_there}
 use Rattle.model_life.specs.Machinery.Keeping.{capped, line_of}
-use Rattle.model_resolve.specs.Machinery.Reaching.{parts_in}
+use Rattle.model_life.specs.resolution.Machinery.Reaching.{parts_in}
 use Rattle.model_life.proofs.Summing.{capped_both}
 use Rattle.model_life.proofs.Taking.{line_recorded, lines_found, found_line, found_parts}
 use Rattle.model_life.proofs.sums.share.Goals as goal

@@ -1,7 +1,7 @@
 use Rattle.std.proofs.Common.{◌≡◌, sym, ap, ◌∙◌}
 use Rattle.std.specs.Option.{option_copied}
 use Rattle.std.specs.BTreeMap.{insert_entry}
-use Rattle.dtmi_name.specs.Grammar.{dtmi_text, id_cmp}
+use Rattle.dt_base.specs.names.Grammar.{dtmi_text, id_cmp}
 use Rattle.ordered_table.specs.Rows.{pair_cmp}
 use Rattle.model_life.proofs.Using.{user_put}
 use Rattle.model_life.proofs.Linking.{text_of}

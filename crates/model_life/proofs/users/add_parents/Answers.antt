@@ -1,6 +1,6 @@
 use Rattle.std.proofs.Common.{◌&&◌, take, Some, ap, ◌∙◌}
 use Rattle.std.specs.List.{list_any}
-use Rattle.dtmi_name.specs.Grammar.{id_eq}
+use Rattle.dt_base.specs.names.Grammar.{id_eq}
 use Rattle.model_life.specs.Machinery.Keeping.{user_at}
 use Rattle.model_life.proofs.Using.{none_at, none_taken}
 use Rattle.model_life.proofs.users.add_parents.Goals as goal

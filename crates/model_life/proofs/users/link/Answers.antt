@@ -1,7 +1,7 @@
 use Rattle.std.proofs.Common.{cond, ◌||◌, ◌&&◌, Some, sym, ap, ◌∙◌, subst}
 use Rattle.std.specs.List.{AllByRecursion, list_any}
 use Rattle.std.proofs.lemmas.Result.{on_ok_weaker}
-use Rattle.dtmi_name.specs.Grammar.{id_eq}
+use Rattle.dt_base.specs.names.Grammar.{id_eq}
 use Rattle.dtdl_terms.specs.TermViews.{kind_term}
 use Rattle.model_life.specs.Models.{is_component}
 use Rattle.model_life.specs.Machinery.Keeping.{HasText, user_at}

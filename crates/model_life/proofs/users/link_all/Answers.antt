@@ -1,10 +1,10 @@
 use Rattle.std.proofs.Common.{◌≡◌, ◌+◌, ◌∷◌, false, drop, None, Some, sym, ap, ◌∙◌, subst}
 use Rattle.std.specs.Option.{option_copied}
-use Rattle.dtmi_name.specs.Grammar.{Identifier, id_eq}
+use Rattle.dt_base.specs.names.Grammar.{Identifier, id_eq}
 use Rattle.dtdl_terms.specs.Sets.{interface_at}
 use Rattle.dtdl_terms.specs.declared.interface.Interface.{Interface}
-use Rattle.model_resolve.proofs.Families.{stands}
-use Rattle.set_laws.specs.Changing.{is_one_of}
+use Rattle.model_life.proofs.resolution.Families.{stands}
+use Rattle.model_life.specs.sets.Changing.{is_one_of}
 use Rattle.model_life.specs.Machinery.Keeping.{UsersAreWithin, user_at, use_of}
 use Rattle.model_life.proofs.Using.{drop_next, not_there}
 use Rattle.model_life.proofs.Linking.{others_apart, within_step, linked_step, linked_over}

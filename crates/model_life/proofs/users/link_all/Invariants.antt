@@ -1,7 +1,7 @@
 use Rattle.std.proofs.Common.{◌≡◌, drop, false}
-use Rattle.dtmi_name.specs.Grammar.{Identifier}
+use Rattle.dt_base.specs.names.Grammar.{Identifier}
 use Rattle.dtdl_terms.specs.Sets.{interface_at}
-use Rattle.set_laws.specs.Changing.{is_one_of}
+use Rattle.model_life.specs.sets.Changing.{is_one_of}
 use Rattle.model_life.specs.Machinery.Keeping.{UsersAreWithin, user_at, use_of}
 use Rattle.model_life.proofs.users.link_all.Given as goal
 

@@ -1,6 +1,6 @@
 use Rattle.std.proofs.Common.{◌≡◌, sym, ap, ◌∙◌}
 use Rattle.std.specs.Option.{option_copied}
-use Rattle.dtmi_name.specs.Grammar.{dtmi_text}
+use Rattle.dt_base.specs.names.Grammar.{dtmi_text}
 use Rattle.model_life.proofs.Using.{user_taken}
 use Rattle.model_life.proofs.Linking.{text_of}
 use Rattle.model_life.proofs.users.take.Goals as goal

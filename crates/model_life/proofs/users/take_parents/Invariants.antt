@@ -1,6 +1,6 @@
 use Rattle.std.proofs.Common.{◌≡◌, cond, ◌&&◌, take, None}
 use Rattle.std.specs.List.{list_any}
-use Rattle.dtmi_name.specs.Grammar.{Identifier, id_eq}
+use Rattle.dt_base.specs.names.Grammar.{Identifier, id_eq}
 use Rattle.model_life.specs.Machinery.Keeping.{user_at}
 use Rattle.model_life.proofs.users.take_parents.Given as goal
 

@@ -1,9 +1,9 @@
 use Rattle.std.proofs.Common.{◌≡◌, ◌+◌, ◌||◌, take, cond, None, sym, ap, ◌∙◌}
 use Rattle.std.specs.Option.{option_copied}
-use Rattle.dtmi_name.specs.Grammar.{Identifier, id_eq}
+use Rattle.dt_base.specs.names.Grammar.{Identifier, id_eq}
 use Rattle.dtdl_terms.specs.declared.interface.Interface.{Interface}
-use Rattle.model_resolve.proofs.Families.{stands}
-use Rattle.set_laws.specs.Changing.{is_one_of}
+use Rattle.model_life.proofs.resolution.Families.{stands}
+use Rattle.model_life.specs.sets.Changing.{is_one_of}
 use Rattle.model_life.specs.Machinery.Keeping.{user_at}
 use Rattle.model_life.proofs.Using.{any_next}
 use Rattle.model_life.proofs.Linking.{unlinked_step, unlinked_over}

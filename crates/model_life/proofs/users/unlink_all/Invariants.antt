@@ -1,6 +1,6 @@
 use Rattle.std.proofs.Common.{◌≡◌, take, cond, None}
-use Rattle.dtmi_name.specs.Grammar.{Identifier}
-use Rattle.set_laws.specs.Changing.{is_one_of}
+use Rattle.dt_base.specs.names.Grammar.{Identifier}
+use Rattle.model_life.specs.sets.Changing.{is_one_of}
 use Rattle.model_life.specs.Machinery.Keeping.{user_at}
 use Rattle.model_life.proofs.users.unlink_all.Given as goal
 

@@ -10,7 +10,7 @@ use Rattle.local_faults.proofs.Sizes.{size, part_smaller, item_smaller}
 use Rattle.model_read.specs.Declarations.{IsSchema, ArePayloads}
 use Rattle.model_read.proofs.Grown.{step, payloads_more}
 use Rattle.model_read.proofs.Seen.{of_members, seen_members, seen_text}
-use Rattle.model_read.specs.Machinery.Shapes.{Has, IsValidPayload, IsValidSchema}
+use Rattle.model_read.specs.Machinery.Shapes.{HasMember, IsValidPayload, IsValidSchema}
 use Rattle.model_read.proofs.Readings.{each, entries}
 use Rattle.model_read.proofs.Shaped.{no_schema, payload_object, payload_shape, schema_shape, schema_text}
 use Rattle.model_read.proofs.schemas.+schemas.Goals as goal
@@ -25,7 +25,7 @@ object_in-payloads_of-requires t c =
 pub payload_at-payload_of-requires : goal.payload_at-payload_of-requires
 payload_at-payload_of-requires t c =
     let less = part_smaller (Some (view c.wanted-value.result.now)) c.args.key.now (object (members_view c.args.members.now)) (sym c.wanted-value.ensures) in
-    let asked : Has IsValidPayload c.args.key.now (members_view c.args.members.now) = c.requires.1.1 in
+    let asked : HasMember IsValidPayload c.args.key.now (members_view c.args.members.now) = c.requires.1.1 in
     (omega (arith, less), asked.1 (view c.wanted-value.result.now) c.wanted-value.ensures)
 
 pub payload_of-schema_at-requires : goal.payload_of-schema_at-requires
@@ -36,7 +36,7 @@ payload_of-schema_at-requires t c =
 pub schema_at-schema_of-requires : goal.schema_at-schema_of-requires
 schema_at-schema_of-requires t c =
     let less = part_smaller (Some (view c.wanted-value.result.now)) c.args.key.now (object (members_view c.args.members.now)) (sym c.wanted-value.ensures) in
-    let asked : Has IsValidSchema c.args.key.now (members_view c.args.members.now) = c.requires.1.1 in
+    let asked : HasMember IsValidSchema c.args.key.now (members_view c.args.members.now) = c.requires.1.1 in
     (omega (arith, less), asked.1 (view c.wanted-value.result.now) c.wanted-value.ensures)
 
 pub payloads_of-payload_of-requires : goal.payloads_of-payload_of-requires

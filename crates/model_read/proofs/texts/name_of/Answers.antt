@@ -1,5 +1,5 @@
 use Rattle.json_tree.specs.View.{view}
-use Rattle.dtmi_name.specs.Grammar.{NameText}
+use Rattle.dt_base.specs.names.Grammar.{NameText}
 use Rattle.model_read.proofs.Readings.{word_of}
 use Rattle.model_read.proofs.texts.name_of.Goals as goal
 

@@ -1,6 +1,6 @@
 use Rattle.std.proofs.Common.{◌≡◌, drop}
 use Rattle.graph_steps.specs.QueryAsks.{item_members}
-use Rattle.query_paths.specs.Rows.{row_view}
+use Rattle.query_eval.specs.values.Rows.{row_view}
 use Rattle.query_eval.specs.Machinery.Seen.{values_view}
 use Rattle.query_eval.proofs.projection.item_values.Given as goal
 

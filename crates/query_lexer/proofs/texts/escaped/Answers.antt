@@ -1,6 +1,6 @@
 use Rattle.std.proofs.Common.{◌≡◌, ℕ, List, ◌∷◌, [], get_or, Option, Some, None, sym, ap, ◌∙◌, subst}
 use Rattle.query_lexer.specs.Spellings.{escape}
-use Rattle.query_lexer.specs.Machinery.Spans.{prepend, content_at}
+use Rattle.query_lexer.specs.Machinery.Spans.{prepend, quoted_content}
 use Rattle.query_lexer.proofs.TextSpans.{escape_cut, escape_front, escape_none}
 use Rattle.query_lexer.proofs.texts.escaped.Goals as goal
 
@@ -14,7 +14,7 @@ split_at-requires c =
 
 pub returns-in-Some-clause-same : goal.returns-in-Some-clause-same
 returns-in-Some-clause-same c =
-    subst (λ (l : List ℕ). content_at c.args.text.now ≡ prepend (c.in-Some.character ∷ []) (content_at l)) (sym c.split_at.ensures.back)
+    subst (λ (l : List ℕ). quoted_content c.args.text.now ≡ prepend (c.in-Some.character ∷ []) (quoted_content l)) (sym c.split_at.ensures.back)
     (escape_front c.args.text.now c.in-Some.character c.requires
     (second c.args.text.now c.as_bytes.result.now c.byte_at.result (Some c.in-Some.character) c.as_bytes.ensures.value c.byte_at.ensures c.in-Some.ensures))
 

@@ -1,4 +1,4 @@
-use Rattle.dtmi_name.proofs.Exact.{dtmi_refused}
+use Rattle.dt_base.proofs.names.Exact.{dtmi_refused}
 use Rattle.query_lexer.proofs.texts.model_of.Goals as goal
 
 pub returns-in_default : goal.returns-in_default

@@ -1,5 +1,5 @@
 use Rattle.std.proofs.Common.{◌≡◌, ◌<◌, ◌≤◌, ℕ, List, length, get_or, true, sym, subst}
-use Rattle.query_lexer.specs.Spellings.{is_space, IsSpaces}
+use Rattle.query_lexer.specs.Spellings.{is_space, SkipsSpaces}
 use Rattle.query_lexer.proofs.Cuts.{behind_ascii, space_low, spaces_in_front}
 use Rattle.query_lexer.proofs.tokenizing.behind_spaces.Goals as goal
 
@@ -17,4 +17,4 @@ returns-clause-spaces c =
     let same = c.as_bytes.ensures.value in
     let within = subst (λ (l : List ℕ). n ≤ length l) same c.space_len.ensures.within in
     let all = subst (λ (l : List ℕ). (k : ℕ) → k < n → is_space (get_or l k 0) ≡ true) same c.space_len.ensures.all in
-    subst (λ (l : List ℕ). IsSpaces c.args.text.now l) (sym c.split_at.ensures.back) (spaces_in_front c.args.text.now n within all)
+    subst (λ (l : List ℕ). SkipsSpaces c.args.text.now l) (sym c.split_at.ensures.back) (spaces_in_front c.args.text.now n within all)

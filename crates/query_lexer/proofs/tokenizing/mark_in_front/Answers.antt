@@ -1,7 +1,7 @@
 use Rattle.std.proofs.Common.{◌≡◌, ℕ, List, drop, get_or, Option, Some, None, sym, ap, ◌∙◌, subst}
 use Rattle.std.specs.Str.{IsCharBoundary}
-use Rattle.query_tokens.specs.declared.token.Mark.{Mark}
-use Rattle.query_tokens.specs.declared.token.Token.TheVariants as tokens
+use Rattle.query_terms.specs.declared.tokens.token.Mark.{Mark}
+use Rattle.query_terms.specs.declared.tokens.token.Token.TheVariants as tokens
 use Rattle.query_lexer.specs.Spellings.{IsLongest}
 use Rattle.query_lexer.specs.Machinery.Spans.{mark_at}
 use Rattle.query_lexer.proofs.MarkSpans.{mark_cut, mark_longest, mark_none}

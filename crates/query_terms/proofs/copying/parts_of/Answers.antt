@@ -1,14 +1,14 @@
 use Rattle.std.proofs.Common.{◌≡◌, ◌<◌, ◌∷◌, map, sym, ap, ◌∙◌, arith}
-use Rattle.query_terms.specs.Machinery.Weights.{total}
+use Rattle.query_terms.specs.Machinery.Weights.{total_weight}
 use Rattle.query_terms.specs.Machinery.Parts.{rebuilt, stacked}
 use Rattle.query_terms.proofs.Parts.{now, rebuilt_more, stacked_more, total_more}
 use Rattle.query_terms.proofs.copying.parts_of.Goals as goal
 
 pub waiting-smaller : goal.waiting-smaller
 waiting-smaller c =
-    let whole = ap (λ xs. total (map now xs)) c.in-Some.ensures.items ∙ total_more c.pop.new.self.items c.in-Some.next in
+    let whole = ap (λ xs. total_weight (map now xs)) c.in-Some.ensures.items ∙ total_more c.pop.new.self.items c.in-Some.next in
     let lighter = c.in_ok-wait_for_parts.ensures.lighter in
-    let smaller : total (map now c.wait_for_parts.new.waiting.items) < total (map now c.waiting.waiting.items) = omega (arith, whole, lighter) in
+    let smaller : total_weight (map now c.wait_for_parts.new.waiting.items) < total_weight (map now c.waiting.waiting.items) = omega (arith, whole, lighter) in
     smaller
 
 pub waiting-preserved : goal.waiting-preserved

@@ -1,12 +1,12 @@
 use Rattle.std.proofs.Common.{◌≡◌, ◌++◌, ◌-◌, length, take, string_bytes}
 use Rattle.std.specs.Str.{IsCharBoundary}
-use Rattle.query_text.specs.Printed.{escaped}
+use Rattle.query_text.specs.Printed.{escaped_query}
 use Rattle.query_text.proofs.escapes.push_escaped.Given as goal
 
 abbrev pub invariant-runs : goal.invariant-runs
 invariant-runs l = record {
   boundary : IsCharBoundary l.bytes l.at;
-  escaped : string_bytes l.out ≡ string_bytes l.fn.out ++ escaped (take l.at l.bytes);
+  escaped_query : string_bytes l.out ≡ string_bytes l.fn.out ++ escaped_query (take l.at l.bytes);
 }
 
 abbrev pub decreases-runs : goal.decreases-runs

@@ -1,5 +1,5 @@
 use Rattle.std.proofs.Common.{◌≡◌, List, [], ◌∷◌, ◌++◌, sym, ap, ◌∙◌, subst}
-use Rattle.dtmi_name.specs.Grammar.{Identifier}
+use Rattle.dt_base.specs.names.Grammar.{Identifier}
 use Rattle.resolved_table.specs.Tables.{ResolvesOthers}
 use Rattle.set_tests.proofs.Soles.{lone_others}
 use Rattle.set_tests.proofs.lone.keeps_the_entry_of_a_lone_interface.Goals as goal

@@ -6,7 +6,7 @@ use Rattle.json_tree.specs.View.{view, members_view}
 use Rattle.json_tree.specs.declared.tree.Member.{Member}
 use Rattle.twin_patch.specs.Objects.{value_under}
 use Rattle.twin_patch.specs.Operations.{change_of}
-use Rattle.twin_patch.specs.Patched.{changed}
+use Rattle.twin_patch.specs.Patched.{changed_value}
 use Rattle.twin_patch.specs.declared.draft.Draft.{Draft}
 use Rattle.twin_patch.specs.Machinery.Orders.{IsInOrder, AreInOrder}
 use Rattle.twin_patch.specs.Machinery.Drafts.{overlaid, draft_view, both}
@@ -25,7 +25,7 @@ changed-changed_object-requires t c =
 pub changed-returns-in-Edited : goal.changed-returns-in-Edited
 changed-returns-in-Edited t c =
     let is = ap draft_view c.in-Edited.is ∙ view_edited c.in-Edited.base c.in-Edited.edits in
-    subst (λ (x : Option Json). IfOk c.changed_object.result (λ (d : Draft). draft_view d ≡ option_and_then (changed (change_of c.args.kind.now) c.args.key.now c.args.rest.now) x)) (sym is) c.changed_object.ensures
+    subst (λ (x : Option Json). IfOk c.changed_object.result (λ (d : Draft). draft_view d ≡ option_and_then (changed_value (change_of c.args.kind.now) c.args.key.now c.args.rest.now) x)) (sym is) c.changed_object.ensures
 
 found_order : (key : List ℕ) (ms : Members Number) (x : Option Json) → AreInOrder ms → x ≡ value_under key ms → IfSome x IsInOrder
 found_order key ms None o h = tt
@@ -49,4 +49,4 @@ changed_tree-returns-in-Members t c =
     let ms = members_view c.members.inside.items.items in
     let is : view c.args.tree ≡ object ms = ap view c.in-Members.is ∙ view_object c.in-Members.members ∙ ap (λ (l : List Member). object (members_view l)) (sym c.members.view_is) in
     let same : object (overlaid draft_view c.new.result.entries ms) ≡ view c.args.tree = ap (λ (es : List (List ℕ × Draft)). object (overlaid draft_view es ms)) c.new.ensures.empty ∙ sym is in
-    subst (λ (v : Json). IfOk c.changed_object.result (λ (d : Draft). draft_view d ≡ changed (change_of c.args.kind.now) c.args.key.now c.args.rest.now v)) same c.changed_object.ensures
+    subst (λ (v : Json). IfOk c.changed_object.result (λ (d : Draft). draft_view d ≡ changed_value (change_of c.args.kind.now) c.args.key.now c.args.rest.now v)) same c.changed_object.ensures

@@ -3,7 +3,7 @@ use Rattle.std.specs.Map.{lookup}
 use Rattle.std.specs.BTreeMap.{is_at}
 use Rattle.json_tree.specs.View.{members_view}
 use Rattle.twin_patch.specs.Objects.{value_under, with_member}
-use Rattle.twin_patch.specs.Machinery.Orders.{compared}
+use Rattle.twin_patch.specs.Machinery.Orders.{compared_keys}
 use Rattle.twin_patch.specs.Machinery.Drafts.{overlaid, draft_view}
 use Rattle.twin_patch.specs.declared.draft.Draft.{Draft}
 use Rattle.twin_patch.proofs.Overlays.{rise_by, set_after_removal, set_after_base, looked_up, found_or}
@@ -12,7 +12,7 @@ use Rattle.twin_patch.proofs.draft.taken.Goals as goal
 pub returns-in-Some-clause-value : goal.returns-in-Some-clause-value
 returns-in-Some-clause-value c =
     let ms = members_view c.args.base.members.items in
-    let found : Some c.in-Some.entry ≡ lookup (is_at (compared c.args.key.now)) c.args.edits.now.entries = c.in-Some.ensures.value in
+    let found : Some c.in-Some.entry ≡ lookup (is_at (compared_keys c.args.key.now)) c.args.edits.now.entries = c.in-Some.ensures.value in
     ap (λ (x : Option Draft). found_or draft_view x (value_under c.args.key.now ms)) found
     ∙ sym (looked_up draft_view c.args.key.now c.args.edits.now.entries ms (rise_by ms c.args.base.rise))
 
@@ -25,7 +25,7 @@ returns-in-Some-clause-rest c = λ v.
 pub returns-in-None-clause-value : goal.returns-in-None-clause-value
 returns-in-None-clause-value c =
     let ms = members_view c.args.base.members.items in
-    let none : None ≡ lookup (is_at (compared c.args.key.now)) c.args.edits.now.entries = c.in-None.ensures.value in
+    let none : None ≡ lookup (is_at (compared_keys c.args.key.now)) c.args.edits.now.entries = c.in-None.ensures.value in
     c.taken_from_base.ensures.value ∙ ap (λ (x : Option Draft). found_or draft_view x (value_under c.args.key.now ms)) none
     ∙ sym (looked_up draft_view c.args.key.now c.args.edits.now.entries ms (rise_by ms c.args.base.rise))
 

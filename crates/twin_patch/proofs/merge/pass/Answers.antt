@@ -1,7 +1,7 @@
 use Rattle.std.proofs.Common.{◌≡◌, ◌∷◌, List, ap, ◌∙◌}
 use Rattle.json_tree.specs.View.{members_view}
 use Rattle.json_tree.specs.declared.tree.Member.{Member}
-use Rattle.twin_patch.specs.Machinery.Drafts.{overlaid, draft_view, behind}
+use Rattle.twin_patch.specs.Machinery.Drafts.{overlaid, draft_view, members_behind}
 use Rattle.twin_patch.proofs.Fronts.{passed, rise_behind}
 use Rattle.twin_patch.proofs.merge.pass.Goals as goal
 
@@ -14,6 +14,6 @@ moves-preserved c =
     record {
       rise = rise_behind items rest c.in-Some.member is c.moves.invariant.rise;
       same = λ x more after.
-          ap (λ (o : List Member). behind o (overlaid draft_view ((key, x) ∷ more) (members_view rest))) c.in_ok-push-in-Some.ensures.items
+          ap (λ (o : List Member). members_behind o (overlaid draft_view ((key, x) ∷ more) (members_view rest))) c.in_ok-push-in-Some.ensures.items
           ∙ passed key items rest c.in-Some.member c.moves.out.items x more (c.is_front_before.ensures.0 c.moves-test.true) is after ∙ c.moves.invariant.same x more after;
     }

@@ -1,6 +1,6 @@
 use Rattle.std.proofs.Common.{[]}
 use Rattle.json_tree.specs.View.{members_view}
-use Rattle.twin_value.specs.Twins.{picked, itself, without_metadata, is_value_role, is_part_role}
+use Rattle.twin_value.specs.Twins.{picked, same_value, without_metadata, is_value_role, is_part_role}
 use Rattle.twin_value.specs.Machinery.Views.{keys_role}
 use Rattle.twin_value.proofs.Gathered.{adds_none, picked_either, picked_done, added}
 use Rattle.twin_value.proofs.gather.values_and_parts.Goals as goal
@@ -10,7 +10,7 @@ loop-member-init c = (rw c.in_ok-values.ensures.items (adds_none []), rw c.new-p
 
 pub loop-member-preserved : goal.loop-member-preserved
 loop-member-preserved c = (
-  picked_either (λ key. is_value_role (keys_role c.args.keys.now key)) itself [] _ _ c.args.from.now c.loop-member.member-index c.member-item.result c.loop-member-test.true c.member-item.is c.loop-member.invariant.0
+  picked_either (λ key. is_value_role (keys_role c.args.keys.now key)) same_value [] _ _ c.args.from.now c.loop-member.member-index c.member-item.result c.loop-member-test.true c.member-item.is c.loop-member.invariant.0
       (rw (c.is_value.ensures, c.role-role.ensures, c.as_str.ensures) at c.in_ok-push_if.ensures),
   picked_either (λ key. is_part_role (keys_role c.args.keys.now key)) without_metadata [] _ _ c.args.from.now c.loop-member.member-index c.member-item.result c.loop-member-test.true c.member-item.is c.loop-member.invariant.1
       (rw (c.is_part.ensures, c.role-role.ensures, c.as_str.ensures) at c.in_ok-push_part_if.ensures),
@@ -18,8 +18,8 @@ loop-member-preserved c = (
 
 pub returns : goal.returns
 returns c = (
-  c.ordered.ensures (picked (λ key. is_value_role (keys_role c.args.keys.now key)) itself (members_view c.args.from.now))
-      (added _ _ (picked_done (λ key. is_value_role (keys_role c.args.keys.now key)) itself [] _ c.args.from.now c.loop-member.member-index c.loop-member-test.false c.loop-member.invariant.0)),
+  c.ordered.ensures (picked (λ key. is_value_role (keys_role c.args.keys.now key)) same_value (members_view c.args.from.now))
+      (added _ _ (picked_done (λ key. is_value_role (keys_role c.args.keys.now key)) same_value [] _ c.args.from.now c.loop-member.member-index c.loop-member-test.false c.loop-member.invariant.0)),
   c.ordered-2.ensures (picked (λ key. is_part_role (keys_role c.args.keys.now key)) without_metadata (members_view c.args.from.now))
       (added _ _ (picked_done (λ key. is_part_role (keys_role c.args.keys.now key)) without_metadata [] _ c.args.from.now c.loop-member.member-index c.loop-member-test.false c.loop-member.invariant.1)),
 )

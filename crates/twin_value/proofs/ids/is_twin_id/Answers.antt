@@ -3,8 +3,8 @@ use Rattle.std.specs.Prelude.{◌==◌}
 use Rattle.std.specs.List.{AllPass}
 use Rattle.std.proofs.lemmas.Grind.{common_steps}
 use Rattle.std.proofs.lemmas.List.Elements.{All-more}
+use Rattle.std.proofs.lemmas.List.{take_all}
 use Rattle.twin_value.specs.Breaches.{is_id_byte}
-use Rattle.twin_value.proofs.Enumerated.{take-whole}
 use Rattle.twin_value.proofs.ids.is_twin_id.Goals as goal
 
 pub loop-byte-preserved : goal.loop-byte-preserved
@@ -17,7 +17,7 @@ returns c =
       λ _. rw (sym c.as_bytes-bytes.ensures.value) (record {
         some = grind (arith, common_steps);
         few = c.if-bytes-gt-MOST_BYTES.false;
-        each = subst (λ (l : List ℕ). AllPass is_id_byte l) (take-whole c.as_bytes-bytes.result.now c.loop-byte.byte-index c.loop-byte-test.false) c.loop-byte.invariant;
+        each = subst (λ (l : List ℕ). AllPass is_id_byte l) (take_all c.loop-byte.byte-index c.as_bytes-bytes.result.now c.loop-byte-test.false) c.loop-byte.invariant;
       }),
       λ _. refl,
     )

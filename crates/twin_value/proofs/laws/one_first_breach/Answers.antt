@@ -1,6 +1,6 @@
-use Rattle.twin_value.specs.Breaches.{IsBreach}
+use Rattle.twin_value.specs.Breaches.{IsBodyBreach}
 use Rattle.twin_value.proofs.OneBreach.{one_first}
 use Rattle.twin_value.proofs.laws.one_first_breach.Goals as goal
 
 pub returns : goal.returns
-returns c role v = one_first (IsBreach role v)
+returns c role v = one_first (IsBodyBreach role v)

@@ -2,7 +2,7 @@ use Rattle.std.proofs.Common.{◌≡◌, List, ℕ, Some, bytes_eq, nat_cmp, sub
 use Rattle.std.specs.Cmp.Lexicographic.{slice_cmp}
 use Rattle.std.specs.Option.{option_or}
 use Rattle.std.specs.BTreeMap.{get_by}
-use Rattle.dtmi_name.specs.Grammar.{dtmi_text}
+use Rattle.dt_base.specs.names.Grammar.{dtmi_text}
 use Rattle.dtdl_terms.specs.declared.schema.Schema.{Schema}
 use Rattle.twin_value.specs.Machinery.Indexes.{is_there}
 use Rattle.std.proofs.lemmas.Map.Text.{btree_map_updates_str}

@@ -1,7 +1,7 @@
 use Rattle.std.proofs.Common.{rules, ◌≡◌, ℕ, List, [], Option, Some, None, Bor, ap, ◌∙◌, unwrap_or, nat_cmp, refl}
 use Rattle.std.specs.Cmp.Lexicographic.{slice_cmp}
 use Rattle.std.specs.BTreeMap.{get_by}
-use Rattle.dtmi_name.specs.Grammar.{dtmi_text}
+use Rattle.dt_base.specs.names.Grammar.{dtmi_text}
 use Rattle.dtdl_terms.specs.declared.schema.Schema.{Schema}
 use Rattle.dtdl_terms.specs.declared.resolved.NamedIn.{NamedIn}
 use Rattle.twin_value.specs.Named.{is_called}

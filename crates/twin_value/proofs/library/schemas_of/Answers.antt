@@ -1,4 +1,4 @@
-use Rattle.dtmi_name.specs.Grammar.{dtmi_text}
+use Rattle.dt_base.specs.names.Grammar.{dtmi_text}
 use Rattle.dtdl_terms.specs.declared.resolved.NamedIn.{NamedIn}
 use Rattle.std.proofs.Common.{Some}
 use Rattle.twin_value.specs.Named.{is_called}

@@ -4,8 +4,8 @@ use Rattle.json_tree.specs.Values.{Json, object, text, Members, no_members, memb
 use Rattle.json_tree.specs.View.{view, members_view}
 use Rattle.json_tree.specs.Sorting.{IsSortedOf}
 use Rattle.local_rules.specs.Members.{members_in}
-use Rattle.dtmi_name.specs.Grammar.{dtmi_text}
-use Rattle.twin_value.specs.Twins.{picked, joined, any_key, with_metadata}
+use Rattle.dt_base.specs.names.Grammar.{dtmi_text}
+use Rattle.twin_value.specs.Twins.{picked, joined_members, any_key, with_metadata}
 use Rattle.twin_value.proofs.Gathered.{none_at}
 use Rattle.twin_value.proofs.print.print_twin.Goals as goal
 
@@ -19,8 +19,8 @@ returns c =
     let second = c.in_ok-push_made.ensures model c.in_ok-metadata.ensures (member (codes "$dtId") (text id) no_members) first in
     let third = c.in_ok-push_all.ensures (member (codes "$dtId") (text id) (member (codes "$metadata") model no_members)) second in
     let fourth = c.in_ok-push_parts.ensures (member (codes "$dtId") (text id) (member (codes "$metadata") model values)) third in
-    let all = c.ordered.ensures (member (codes "$dtId") (text id) (member (codes "$metadata") model (joined values parts))) fourth in
+    let all = c.ordered.ensures (member (codes "$dtId") (text id) (member (codes "$metadata") model (joined_members values parts))) fourth in
     subst (λ (ps : Members Number). IsSortedOf (object (member (codes "$dtId") (text c.args.t.now.id) (member (codes "$metadata") model
-    (joined (members_in (view c.args.t.now.values)) (picked any_key with_metadata ps))))) (view c.ordered.result)) c.members_in-parts.ensures
-    (subst (λ (vs : Members Number). IsSortedOf (object (member (codes "$dtId") (text c.args.t.now.id) (member (codes "$metadata") model (joined vs parts)))) (view c.ordered.result)) c.members_in-values.ensures
-    (subst (λ (bytes : List ℕ). IsSortedOf (object (member (codes "$dtId") (text bytes) (member (codes "$metadata") model (joined values parts)))) (view c.ordered.result)) c.as_str.ensures all))
+    (joined_members (members_in (view c.args.t.now.values)) (picked any_key with_metadata ps))))) (view c.ordered.result)) c.members_in-parts.ensures
+    (subst (λ (vs : Members Number). IsSortedOf (object (member (codes "$dtId") (text c.args.t.now.id) (member (codes "$metadata") model (joined_members vs parts)))) (view c.ordered.result)) c.members_in-values.ensures
+    (subst (λ (bytes : List ℕ). IsSortedOf (object (member (codes "$dtId") (text bytes) (member (codes "$metadata") model (joined_members values parts)))) (view c.ordered.result)) c.as_str.ensures all))

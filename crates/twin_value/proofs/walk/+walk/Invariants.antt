@@ -1,7 +1,7 @@
 use Rattle.std.proofs.Common.{◌≡◌, ℕ, List, take}
 use Rattle.json_tree.specs.Values.{array, object}
 use Rattle.json_tree.specs.View.{elements_view, members_view}
-use Rattle.twin_value.specs.Roles.{element_role, member_role}
+use Rattle.twin_value.specs.Roles.{element_role, body_member_role}
 use Rattle.twin_value.specs.Machinery.Sound.{ElementsSound, MembersSound}
 use Rattle.twin_value.specs.Machinery.Views.{role_view, keys_role}
 use Rattle.twin_value.specs.Machinery.Walks.{IsClearTo}
@@ -13,5 +13,5 @@ invariant-first_in_elements-loop-at l = IsClearTo (role_view l.fn.role) (array (
 
 abbrev pub invariant-first_in_members-loop-at : goal.invariant-first_in_members-loop-at
 invariant-first_in_members-loop-at l = IsClearTo (role_view l.fn.role) (object (members_view l.members)) l.at
-    × MembersSound (member_role (role_view l.fn.role)) (members_view (take l.at l.members))
-    × ((key : List ℕ) → keys_role l.keys key ≡ member_role (role_view l.fn.role) key)
+    × MembersSound (body_member_role (role_view l.fn.role)) (members_view (take l.at l.members))
+    × ((key : List ℕ) → keys_role l.keys key ≡ body_member_role (role_view l.fn.role) key)

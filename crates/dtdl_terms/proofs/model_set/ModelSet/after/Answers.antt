@@ -4,7 +4,7 @@ use Rattle.std.specs.Option.{option_copied}
 use Rattle.std.specs.Ordering.{is_lt}
 use Rattle.std.specs.List.{filter}
 use Rattle.std.specs.Map.{values_of}
-use Rattle.dtmi_name.specs.Grammar.{id_cmp}
+use Rattle.dt_base.specs.names.Grammar.{id_cmp}
 use Rattle.dtdl_terms.specs.Sets.{keyed, next_past}
 use Rattle.dtdl_terms.proofs.Keyed.{filter-every, filter-keyed, filter-bounded}
 use Rattle.dtdl_terms.proofs.model_set.ModelSet.after.Goals as goal

@@ -1,7 +1,7 @@
 use Rattle.std.proofs.Common.{◌≡◌, sym, ap, ◌∙◌}
 use Rattle.std.specs.Map.{values_of}
 use Rattle.std.specs.BTreeMap.{insert_entry}
-use Rattle.dtmi_name.specs.Grammar.{id_cmp}
+use Rattle.dt_base.specs.names.Grammar.{id_cmp}
 use Rattle.dtdl_terms.specs.Sets.{keyed}
 use Rattle.dtdl_terms.proofs.Keyed.{insert-keyed}
 use Rattle.dtdl_terms.proofs.model_set.ModelSet.insert.Goals as goal

@@ -1,7 +1,7 @@
 use Rattle.std.proofs.Common.{◌≡◌, sym, ap, ◌∙◌}
 use Rattle.std.specs.Map.{remove_entry, values_of}
 use Rattle.std.specs.BTreeMap.{is_at}
-use Rattle.dtmi_name.specs.Grammar.{id_cmp}
+use Rattle.dt_base.specs.names.Grammar.{id_cmp}
 use Rattle.dtdl_terms.specs.Sets.{keyed}
 use Rattle.dtdl_terms.proofs.Keyed.{remove-keyed}
 use Rattle.dtdl_terms.proofs.model_set.ModelSet.remove.Goals as goal

@@ -1,5 +1,5 @@
 use Rattle.std.proofs.Common.{sym, ap, ◌∙◌, subst}
-use Rattle.extend_resolve.specs.Machinery.Firsts.{IsLeast, earlier_of}
+use Rattle.extend_resolve.specs.Machinery.Firsts.{IsLeastFound, earlier_of}
 use Rattle.extend_resolve.specs.Machinery.Judges.{Broken}
 use Rattle.extend_resolve.proofs.Judging.{all_least, index_below}
 use Rattle.extend_resolve.proofs.judge.Judge.first_of.Goals as goal
@@ -10,7 +10,7 @@ reach-requires-clause-within c = index_below c.args.self.now c.args.index c.args
 pub returns-clause-least : goal.returns-clause-least
 returns-clause-least c =
     let u = c.args.uploaded.now in
-    subst (IsLeast u (Broken c.args.self.now c.args.index u))
+    subst (IsLeastFound u (Broken c.args.self.now c.args.index u))
     (sym (c.earlier.ensures
     ∙ ap (earlier_of u c.judge_whole-whole.result) (c.earlier-inner.ensures ∙ ap (λ o. earlier_of u o c.earlier-below.result) c.earlier-own.ensures ∙ ap (earlier_of u (earlier_of u c.judge_id-id.result c.judge_chain-chain.result)) c.earlier-below.ensures)))
     (all_least c.args.self.now c.args.index u c.requires.judging c.judge_whole-whole.result c.judge_id-id.result c.judge_chain-chain.result c.in_ok-parents.parents c.in_ok-contents.contents

@@ -1,7 +1,7 @@
 use Rattle.std.proofs.Common.{◌≡◌, ◌<◌, ◌+◌, false, length, sym, ap, ◌∙◌, subst, arith}
 use Rattle.dtdl_terms.specs.TermViews.{kind_term}
 use Rattle.dtdl_terms.specs.declared.spot.Spot.TheVariants as spots
-use Rattle.extend_resolve.specs.Machinery.Firsts.{IsLeast, AtSpot}
+use Rattle.extend_resolve.specs.Machinery.Firsts.{IsLeastFound, AtSpot}
 use Rattle.extend_resolve.specs.Machinery.Judges.{Broken, OfContents, IsReady}
 use Rattle.std.specs.Option.{option_copied}
 use Rattle.extend_resolve.proofs.Gathered.{component_of}
@@ -42,14 +42,14 @@ contents-preserved c =
     elim c.match-component_of.branch [
       | in-Some+in_ok-found w ↦ record {
         ready = subst (λ s. IsReady c.args.self.now s (c.args.index + 1)) (sym w.scratch-is) w.in_ok-found.ensures.ready;
-        least = subst (IsLeast u (OfContents (Broken c.args.self.now c.args.index u) (at + 1))) (sym (w.first-is ∙ w.earlier-first.ensures))
+        least = subst (IsLeastFound u (OfContents (Broken c.args.self.now c.args.index u) (at + 1))) (sym (w.first-is ∙ w.earlier-first.ensures))
             (least_weaker u _ (OfContents (Broken c.args.self.now c.args.index u) (at + 1)) _
             (contents_more (Broken c.args.self.now c.args.index u) at) (contents_less (Broken c.args.self.now c.args.index u) at)
             (earlier_least u (OfContents (Broken c.args.self.now c.args.index u) at) (AtSpot (Broken c.args.self.now c.args.index u) (spots.ContentSchema at)) c.contents.first w.in_ok-found.found c.contents.invariant.least w.in_ok-found.ensures.least));
       }
       | in_default w ↦ record {
         ready = subst (λ s. IsReady c.args.self.now s (c.args.index + 1)) (sym w.scratch-is) c.contents.invariant.ready;
-        least = subst (IsLeast u (OfContents (Broken c.args.self.now c.args.index u) (at + 1))) (sym w.first-is)
+        least = subst (IsLeastFound u (OfContents (Broken c.args.self.now c.args.index u) (at + 1))) (sym w.first-is)
             (contents_skip c.args.self.now c.args.index u c.requires.judging at c.contents.first (no_id u.interface at c.index-contents-at.result (read_named u.interface.contents c.as_slice-contents.result.now at c.index-contents-at.result low c.as_slice-contents.ensures c.index-contents-at.is) (sym c.component_of.ensures ∙ ap option_copied w.in_default.is)) c.contents.invariant.least);
       }
     ]
@@ -58,4 +58,4 @@ pub returns-clause-least : goal.returns-clause-least
 returns-clause-least c =
     let size = ap length c.as_slice-contents.ensures in
     let same : c.contents.at ≡ length c.args.uploaded.now.interface.contents = omega (arith, size, c.contents-test.false, c.contents.auto.at-end) in
-    subst (λ n. IsLeast c.args.uploaded.now (OfContents (Broken c.args.self.now c.args.index c.args.uploaded.now) n) c.contents.first) same c.contents.invariant.least
+    subst (λ n. IsLeastFound c.args.uploaded.now (OfContents (Broken c.args.self.now c.args.index c.args.uploaded.now) n) c.contents.first) same c.contents.invariant.least

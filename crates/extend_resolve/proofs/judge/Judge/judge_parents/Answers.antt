@@ -1,6 +1,6 @@
 use Rattle.std.proofs.Common.{◌≡◌, ◌+◌, length, sym, ap, ◌∙◌, subst, arith}
 use Rattle.dtdl_terms.specs.declared.spot.Spot.TheVariants as spots
-use Rattle.extend_resolve.specs.Machinery.Firsts.{IsLeast, AtSpot}
+use Rattle.extend_resolve.specs.Machinery.Firsts.{IsLeastFound, AtSpot}
 use Rattle.extend_resolve.specs.Machinery.Links.{links_at}
 use Rattle.extend_resolve.specs.Machinery.Owners.{AreFresh}
 use Rattle.extend_resolve.specs.Machinery.Judges.{Broken, OfParents, KnowsOwners}
@@ -56,7 +56,7 @@ parents-preserved c =
           c.parents.invariant.ready.marks_length c.parents.invariant.ready.owners_length c.parents.invariant.ready.composed_length c.parents.invariant.ready.composed
           c.in_ok-found.ensures.clear c.in_ok-found.ensures.fresh;
       owned = λ low. owned_with c.args.self.now c.parents.scratch c.args.index (at + 1) u c.judge_parent.new.owners same_owners (c.in_ok-found.ensures.owned low);
-      least = subst (IsLeast u (OfParents (Broken c.args.self.now c.args.index u) (at + 1))) (sym c.earlier-first.ensures)
+      least = subst (IsLeastFound u (OfParents (Broken c.args.self.now c.args.index u) (at + 1))) (sym c.earlier-first.ensures)
           (least_weaker u _ (OfParents (Broken c.args.self.now c.args.index u) (at + 1)) _
           (parents_more (Broken c.args.self.now c.args.index u) at) (parents_less (Broken c.args.self.now c.args.index u) at)
           (earlier_least u (OfParents (Broken c.args.self.now c.args.index u) at) (AtSpot (Broken c.args.self.now c.args.index u) (spots.Parent at)) c.parents.first c.in_ok-found.found c.parents.invariant.least c.in_ok-found.ensures.least));
@@ -65,4 +65,4 @@ parents-preserved c =
 pub returns-clause-least : goal.returns-clause-least
 returns-clause-least c =
     let same : c.parents.at ≡ length c.args.uploaded.now.interface.parents = omega (arith, c.parents-test.false, c.parents.auto.at-end, c.len-at-end.ensures) in
-    subst (λ n. IsLeast c.args.uploaded.now (OfParents (Broken c.args.self.now c.args.index c.args.uploaded.now) n) c.parents.first) same c.parents.invariant.least
+    subst (λ n. IsLeastFound c.args.uploaded.now (OfParents (Broken c.args.self.now c.args.index c.args.uploaded.now) n) c.parents.first) same c.parents.invariant.least

@@ -1,11 +1,11 @@
 use Rattle.std.proofs.Common.{◌<◌, length, sym, ap, ◌∙◌, subst}
-use Rattle.extend_resolve.specs.Machinery.Links.{AreWithin}
+use Rattle.extend_resolve.specs.Machinery.Links.{AreLinksWithin}
 use Rattle.extend_resolve.proofs.Worlds.{world_within}
 use Rattle.extend_resolve.proofs.Judging.{links_nodes}
 use Rattle.extend_resolve.proofs.judge.Judge.reach.Goals as goal
 
 pub closure-requires-clause-within : goal.closure-requires-clause-within
-closure-requires-clause-within c = subst AreWithin (sym c.as_slice.ensures.value) (world_within c.requires.judge.world)
+closure-requires-clause-within c = subst AreLinksWithin (sym c.as_slice.ensures.value) (world_within c.requires.judge.world)
 
 pub closure-requires-clause-start : goal.closure-requires-clause-start
 closure-requires-clause-start c =

@@ -1,7 +1,7 @@
 use Rattle.std.proofs.Common.{subst}
 use Rattle.graph_asks.specs.Answers.{done}
 use Rattle.graph_steps.specs.Steps.{Answers}
-use Rattle.graph_held.specs.Held.{state_of}
+use Rattle.graph_steps.specs.held.Held.{state_of}
 use Rattle.graph_machine.proofs.machine.Machine.answered.Goals as goal
 
 pub returns-in-Mark-clause-free : goal.returns-in-Mark-clause-free

@@ -1,6 +1,6 @@
 use Rattle.std.proofs.Common.{◌∙◌, length, map, sym, ap}
 use Rattle.std.proofs.lemmas.List.{length-map}
-use Rattle.graph_held.specs.Held.{twin_of, link_of}
+use Rattle.graph_steps.specs.held.Held.{twin_of, link_of}
 use Rattle.graph_machine.proofs.machine.Machine.counts.Goals as goal
 
 pub returns-clause-models : goal.returns-clause-models

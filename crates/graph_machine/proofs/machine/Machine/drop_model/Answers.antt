@@ -4,7 +4,7 @@ use Rattle.graph_asks.specs.declared.ask.Ask.TheVariants as asks
 use Rattle.model_life.specs.Models.{model_at, first_user, without_models}
 use Rattle.graph_steps.specs.ModelAsks.{after_drop}
 use Rattle.graph_steps.specs.Steps.{Allows, Answers, follows}
-use Rattle.graph_held.specs.Held.{holding, state_of, IsKept}
+use Rattle.graph_steps.specs.held.Held.{holding, state_of, HoldsTogether}
 use Rattle.graph_machine.proofs.Answered.{dropped, drop_free, no_model, drop_there, drop_unused}
 use Rattle.graph_machine.proofs.Kept.{drop_kept}
 use Rattle.graph_machine.proofs.Told.{told, weaker, after_err}
@@ -13,17 +13,17 @@ use Rattle.graph_machine.proofs.machine.Machine.drop_model.Goals as goal
 pub invariant_of-self : goal.invariant_of-self
 invariant_of-self c =
     let h = holding c.self.inside.models c.self.inside.twins c.self.inside.links in
-    subst (λ ms. IsKept (holding ms h.twins h.links) c.clear.new.self c.self.inside.link_bytes) (sym c.in-Ok.ensures.ok)
-    (subst (λ rs. IsKept (holding (without_models (c.args.id.now ∷ []) h.models) h.twins h.links) rs c.self.inside.link_bytes) (sym c.clear.ensures)
+    subst (λ ms. HoldsTogether (holding ms h.twins h.links) c.clear.new.self c.self.inside.link_bytes) (sym c.in-Ok.ensures.ok)
+    (subst (λ rs. HoldsTogether (holding (without_models (c.args.id.now ∷ []) h.models) h.twins h.links) rs c.self.inside.link_bytes) (sym c.clear.ensures)
     (drop_kept h c.self.inside.resolutions c.self.inside.link_bytes c.self.invariant c.args.id.now (drop_free (state_of h) c.args.id.now c.in-Ok.ensures.end.0 c.in-Ok.ensures.end.1)))
 
 pub invariant_of-self-in-Err-ModelNotFound : goal.invariant_of-self-in-Err-ModelNotFound
 invariant_of-self-in-Err-ModelNotFound c =
-    subst (λ ms. IsKept (holding ms c.self.inside.twins c.self.inside.links) c.self.inside.resolutions c.self.inside.link_bytes) (sym c.in-Err-ModelNotFound.ensures.err) c.self.invariant
+    subst (λ ms. HoldsTogether (holding ms c.self.inside.twins c.self.inside.links) c.self.inside.resolutions c.self.inside.link_bytes) (sym c.in-Err-ModelNotFound.ensures.err) c.self.invariant
 
 pub invariant_of-self-in-Err-ModelInUse : goal.invariant_of-self-in-Err-ModelInUse
 invariant_of-self-in-Err-ModelInUse c =
-    subst (λ ms. IsKept (holding ms c.self.inside.twins c.self.inside.links) c.self.inside.resolutions c.self.inside.link_bytes) (sym c.in-Err-ModelInUse.ensures.err) c.self.invariant
+    subst (λ ms. HoldsTogether (holding ms c.self.inside.twins c.self.inside.links) c.self.inside.resolutions c.self.inside.link_bytes) (sym c.in-Err-ModelInUse.ensures.err) c.self.invariant
 
 pub model_in_use-requires-clause-there : goal.model_in_use-requires-clause-there
 model_in_use-requires-clause-there c =

@@ -2,7 +2,7 @@ use Rattle.std.proofs.Common.{◌≡◌, ◌∙◌, sym, ap, refl}
 use Rattle.std.specs.Option.{option_map, option_copied}
 use Rattle.graph_asks.specs.declared.ask.Ask.TheVariants as asks
 use Rattle.graph_steps.specs.Steps.{Allows, follows}
-use Rattle.graph_held.specs.Held.{state_of, link_of}
+use Rattle.graph_steps.specs.held.Held.{state_of, link_of}
 use Rattle.graph_machine.proofs.Twins.{twin_dropped, twin_used, had_no_use}
 use Rattle.graph_machine.proofs.Told.{told}
 use Rattle.graph_machine.proofs.machine.Machine.drop_there.Goals as goal

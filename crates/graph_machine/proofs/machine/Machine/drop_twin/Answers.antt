@@ -1,7 +1,7 @@
 use Rattle.std.proofs.Common.{◌≡◌, ◌∙◌, sym, refl}
 use Rattle.graph_asks.specs.declared.ask.Ask.TheVariants as asks
 use Rattle.graph_steps.specs.Steps.{Allows, follows}
-use Rattle.graph_held.specs.Held.{state_of}
+use Rattle.graph_steps.specs.held.Held.{state_of}
 use Rattle.graph_machine.proofs.Twins.{no_twin_to_drop, had_twin}
 use Rattle.graph_machine.proofs.Told.{told}
 use Rattle.graph_machine.proofs.machine.Machine.drop_twin.Goals as goal

@@ -5,7 +5,7 @@ use Rattle.graph_asks.specs.Answers.{body}
 use Rattle.graph_asks.specs.declared.ask.Ask.TheVariants as asks
 use Rattle.model_life.specs.Models.{model_of, model_at}
 use Rattle.graph_steps.specs.Steps.{Allows, Answers, follows}
-use Rattle.graph_held.specs.Held.{state_of}
+use Rattle.graph_steps.specs.held.Held.{state_of}
 use Rattle.graph_machine.proofs.Answered.{found, missing}
 use Rattle.graph_machine.proofs.Told.{told}
 use Rattle.graph_machine.proofs.machine.Machine.get_model.Goals as goal

@@ -2,9 +2,9 @@ use Rattle.std.proofs.Common.{◌≡◌, ◌∙◌, IfSome, sym, ap, subst, refl
 use Rattle.std.specs.Option.{option_map, option_copied}
 use Rattle.graph_asks.specs.Answers.{answer_of}
 use Rattle.graph_asks.specs.declared.ask.Ask.TheVariants as asks
-use Rattle.graph_bodies.specs.Kept.{twin_view, IsKeptTwin}
+use Rattle.graph_steps.specs.bodies.Kept.{twin_view, IsKeptTwin}
 use Rattle.graph_steps.specs.Steps.{Allows, follows}
-use Rattle.graph_held.specs.Held.{state_of}
+use Rattle.graph_steps.specs.held.Held.{state_of}
 use Rattle.graph_machine.proofs.Answered.{stays}
 use Rattle.graph_machine.proofs.Told.{told, any_ok}
 use Rattle.graph_machine.proofs.Twins.{part_of_none}

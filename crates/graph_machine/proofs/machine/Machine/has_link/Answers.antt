@@ -1,6 +1,6 @@
 use Rattle.std.proofs.Common.{◌∙◌, sym, ap}
 use Rattle.std.specs.Option.{option_map, option_copied, is_some}
-use Rattle.graph_held.specs.Held.{link_of}
+use Rattle.graph_steps.specs.held.Held.{link_of}
 use Rattle.graph_machine.proofs.machine.Machine.has_link.Goals as goal
 
 pub returns-in-Some : goal.returns-in-Some

@@ -1,6 +1,6 @@
 use Rattle.std.proofs.Common.{◌∙◌, sym, ap}
 use Rattle.std.specs.Option.{option_map, option_copied, is_some}
-use Rattle.graph_bodies.specs.Kept.{twin_view}
+use Rattle.graph_steps.specs.bodies.Kept.{twin_view}
 use Rattle.graph_machine.proofs.machine.Machine.has_twin.Goals as goal
 
 pub returns-in-Some : goal.returns-in-Some

@@ -2,12 +2,12 @@ use Rattle.std.proofs.Common.{◌∙◌, [], ◌∷◌, map, sym, ap, subst, Bor
 use Rattle.std.specs.List.{AllByRecursion}
 use Rattle.rel_graph.specs.declared.edge.Edge.{Edge}
 use Rattle.graph_asks.specs.Answers.{body}
-use Rattle.graph_bodies.specs.Kept.{IsKeptLink}
+use Rattle.graph_steps.specs.bodies.Kept.{IsKeptLink}
 use Rattle.graph_steps.specs.ListAsks.{into_links}
 use Rattle.graph_steps.specs.Pages.{page_value}
 use Rattle.graph_steps.specs.States.{Link, link_value}
-use Rattle.graph_held.specs.Held.{state_of, link_of}
-use Rattle.graph_held.specs.declared.stored.Stored.{Stored}
+use Rattle.graph_steps.specs.held.Held.{state_of, link_of}
+use Rattle.graph_steps.specs.declared.held.stored.Stored.{Stored}
 use Rattle.graph_machine.proofs.Pages.{page_decided}
 use Rattle.graph_machine.proofs.Told.{weaker}
 use Rattle.graph_machine.proofs.machine.Machine.into_page.Goals as goal

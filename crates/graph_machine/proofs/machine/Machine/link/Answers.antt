@@ -1,9 +1,9 @@
 use Rattle.std.proofs.Common.{◌∙◌, IfSome, sym, ap, subst}
 use Rattle.std.specs.Option.{option_map}
 use Rattle.graph_steps.specs.LinkAsks.{link_at}
-use Rattle.graph_bodies.specs.Kept.{IsKeptLink}
-use Rattle.graph_held.specs.Held.{holding, state_of, link_of}
-use Rattle.graph_held.proofs.Viewed.{link_seen, link_kept}
+use Rattle.graph_steps.specs.bodies.Kept.{IsKeptLink}
+use Rattle.graph_steps.specs.held.Held.{holding, state_of, link_of}
+use Rattle.graph_steps.proofs.held.Viewed.{link_seen, link_kept}
 use Rattle.graph_machine.proofs.machine.Machine.link.Goals as goal
 
 pub returns-clause-at : goal.returns-clause-at

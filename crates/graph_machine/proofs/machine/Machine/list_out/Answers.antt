@@ -2,7 +2,7 @@ use Rattle.std.proofs.Common.{◌≡◌, ◌∙◌, sym, refl}
 use Rattle.graph_asks.specs.Answers.{answer_of}
 use Rattle.graph_asks.specs.declared.ask.Ask.TheVariants as asks
 use Rattle.graph_steps.specs.Steps.{Allows, follows}
-use Rattle.graph_held.specs.Held.{state_of}
+use Rattle.graph_steps.specs.held.Held.{state_of}
 use Rattle.graph_machine.proofs.Answered.{stays}
 use Rattle.graph_machine.proofs.Links.{out_listed, out_missing}
 use Rattle.graph_machine.proofs.Told.{told, any_ok}

@@ -4,7 +4,7 @@ use Rattle.graph_asks.specs.declared.ask.Ask.TheVariants as asks
 use Rattle.model_life.specs.Models.{model_at}
 use Rattle.graph_steps.specs.ModelAsks.{after_mark}
 use Rattle.graph_steps.specs.Steps.{Allows, Answers, follows}
-use Rattle.graph_held.specs.Held.{holding, state_of, IsKept}
+use Rattle.graph_steps.specs.held.Held.{holding, state_of, HoldsTogether}
 use Rattle.graph_machine.proofs.Answered.{marked, unmarked, mark_there, not_found}
 use Rattle.graph_machine.proofs.Kept.{mark_kept}
 use Rattle.graph_machine.proofs.Told.{told, after_err}
@@ -15,9 +15,9 @@ pub invariant_of-self : goal.invariant_of-self
 invariant_of-self c =
     let h = holding c.self.inside.models c.self.inside.twins c.self.inside.links in
     elim c.match-mark.branch [
-      | in-Ok w ↦ subst (λ ms. IsKept (holding ms h.twins h.links) c.self.inside.resolutions c.self.inside.link_bytes) (sym w.in-Ok.ensures.ok)
+      | in-Ok w ↦ subst (λ ms. HoldsTogether (holding ms h.twins h.links) c.self.inside.resolutions c.self.inside.link_bytes) (sym w.in-Ok.ensures.ok)
           (mark_kept h c.self.inside.resolutions c.self.inside.link_bytes c.self.invariant c.args.id.now c.args.on)
-      | in-Err-ModelNotFound w ↦ subst (λ ms. IsKept (holding ms h.twins h.links) c.self.inside.resolutions c.self.inside.link_bytes) (sym w.in-Err-ModelNotFound.ensures.err) c.self.invariant
+      | in-Err-ModelNotFound w ↦ subst (λ ms. HoldsTogether (holding ms h.twins h.links) c.self.inside.resolutions c.self.inside.link_bytes) (sym w.in-Err-ModelNotFound.ensures.err) c.self.invariant
     ]
 
 pub returns-clause-allowed : goal.returns-clause-allowed

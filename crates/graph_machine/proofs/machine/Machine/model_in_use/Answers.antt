@@ -5,7 +5,7 @@ use Rattle.graph_asks.specs.declared.ask.Ask.TheVariants as asks
 use Rattle.graph_asks.specs.declared.refusal.Refusal.TheVariants as refusals
 use Rattle.model_life.specs.Models.{first_user}
 use Rattle.graph_steps.specs.Steps.{Answers}
-use Rattle.graph_held.specs.Held.{state_of}
+use Rattle.graph_steps.specs.held.Held.{state_of}
 use Rattle.graph_machine.proofs.Answered.{some_none, in_use}
 use Rattle.graph_machine.proofs.machine.Machine.model_in_use.Goals as goal
 

@@ -3,11 +3,11 @@ use Rattle.std.specs.Prelude.{MatchResult}
 use Rattle.dtdl_terms.specs.Sets.{InOrder}
 use Rattle.graph_asks.specs.declared.ask.Ask.TheVariants as asks
 use Rattle.graph_asks.specs.declared.refusal.Refusal.{Refusal}
-use Rattle.graph_bodies.specs.Bodies.{FailsBy}
+use Rattle.graph_steps.specs.bodies.Bodies.{FailsBy}
 use Rattle.model_life.specs.Refusals.{AreNew}
 use Rattle.graph_steps.specs.States.{set_of}
 use Rattle.graph_steps.specs.Steps.{Refuses, changed}
-use Rattle.graph_held.specs.Held.{Holding, holding, state_of}
+use Rattle.graph_steps.specs.held.Held.{Holding, holding, state_of}
 use Rattle.graph_machine.proofs.Came.{came_kept, came_changed, came_same}
 use Rattle.graph_machine.proofs.machine.Machine.models_in.Goals as goal
 

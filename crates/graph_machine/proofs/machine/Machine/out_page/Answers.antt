@@ -2,12 +2,12 @@ use Rattle.std.proofs.Common.{◌∙◌, [], ◌∷◌, map, sym, ap, subst, Bor
 use Rattle.std.specs.List.{AllByRecursion, filter}
 use Rattle.rel_graph.specs.declared.edge.Edge.{Edge}
 use Rattle.graph_asks.specs.Answers.{body}
-use Rattle.graph_bodies.specs.Kept.{IsKeptLink}
-use Rattle.graph_steps.specs.ListAsks.{is_called, out_links}
+use Rattle.graph_steps.specs.bodies.Kept.{IsKeptLink}
+use Rattle.graph_steps.specs.ListAsks.{is_link_called, out_links}
 use Rattle.graph_steps.specs.Pages.{page_value}
 use Rattle.graph_steps.specs.States.{Link, link_value}
-use Rattle.graph_held.specs.Held.{state_of, link_of}
-use Rattle.graph_held.specs.declared.stored.Stored.{Stored}
+use Rattle.graph_steps.specs.held.Held.{state_of, link_of}
+use Rattle.graph_steps.specs.declared.held.stored.Stored.{Stored}
 use Rattle.graph_machine.proofs.Pages.{page_decided}
 use Rattle.graph_machine.proofs.Told.{weaker}
 use Rattle.graph_machine.proofs.machine.Machine.out_page.Goals as goal
@@ -20,5 +20,5 @@ returns c =
     weaker c.out_tree.result _ _ (λ tree h. ap (λ v. body v)
     (h
     ∙ ap (λ es. page_value (map (λ (e : Bor (Edge Stored)). (e.now.id ∷ [], link_value (link_of e.now))) es)) c.as_slice.ensures.value
-    ∙ page_decided (λ (l : Link). (l.id ∷ [], link_value l)) (filter (is_called c.args.name.now) (out_links (state_of c.args.self.now) c.args.source.now c.args.after.now)) c.in_ok-first.first.items c.in_ok-first.ensures.edges))
+    ∙ page_decided (λ (l : Link). (l.id ∷ [], link_value l)) (filter (is_link_called c.args.name.now) (out_links (state_of c.args.self.now) c.args.source.now c.args.after.now)) c.in_ok-first.first.items c.in_ok-first.ensures.edges))
     c.out_tree.ensures

@@ -1,13 +1,13 @@
 use Rattle.std.proofs.Common.{◌∙◌, IfOk, refl, sym, subst}
 use Rattle.std.specs.Prelude.{MatchResult}
 use Rattle.graph_asks.specs.declared.ask.Ask.TheVariants as asks
-use Rattle.graph_bodies.specs.Bodies.{FailsBy}
-use Rattle.graph_bodies.specs.Kept.{twin_view}
+use Rattle.graph_steps.specs.bodies.Bodies.{FailsBy}
+use Rattle.graph_steps.specs.bodies.Kept.{twin_view}
 use Rattle.graph_steps.specs.States.{set_of, with_twin}
 use Rattle.graph_steps.specs.Steps.{Refuses}
 use Rattle.graph_steps.specs.Typed.{WellTyped}
-use Rattle.model_resolve.specs.Resolving.{HoldsRight}
-use Rattle.graph_held.specs.Held.{Holding, holding, state_of}
+use Rattle.model_life.specs.resolution.Resolving.{HoldsRight}
+use Rattle.graph_steps.specs.held.Held.{Holding, holding, state_of}
 use Rattle.graph_machine.specs.Machinery.Brought.{BringsTwin}
 use Rattle.graph_machine.proofs.Brought.{twin_brought, only_ok, part_typed}
 use Rattle.graph_machine.proofs.Kept.{same_kept}

@@ -5,9 +5,9 @@ use Rattle.json_tree.specs.declared.tree.Tree.{Tree}
 use Rattle.local_rules.specs.Members.{value_in}
 use Rattle.graph_asks.specs.Answers.{body}
 use Rattle.graph_asks.specs.declared.ask.Ask.TheVariants as asks
-use Rattle.graph_bodies.specs.Kept.{twin_view}
+use Rattle.graph_steps.specs.bodies.Kept.{twin_view}
 use Rattle.graph_steps.specs.Steps.{Allows, Answers}
-use Rattle.graph_held.specs.Held.{state_of}
+use Rattle.graph_steps.specs.held.Held.{state_of}
 use Rattle.graph_machine.proofs.Told.{told}
 use Rattle.graph_machine.proofs.Twins.{part_found, part_missing}
 use Rattle.graph_machine.proofs.machine.Machine.part_of.Goals as goal

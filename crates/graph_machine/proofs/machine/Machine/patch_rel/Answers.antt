@@ -2,7 +2,7 @@ use Rattle.std.proofs.Common.{◌∙◌, sym, ap, subst}
 use Rattle.graph_asks.specs.declared.ask.Ask.TheVariants as asks
 use Rattle.graph_steps.specs.LinkAsks.{with_link}
 use Rattle.graph_steps.specs.Typed.{WellTyped}
-use Rattle.graph_held.specs.Held.{Holding, state_of, link_of}
+use Rattle.graph_steps.specs.held.Held.{Holding, state_of, link_of}
 use Rattle.graph_machine.proofs.Brought.{link_patched, failed_allows, failed_follows}
 use Rattle.graph_machine.proofs.machine.Machine.patch_rel.Goals as goal
 

@@ -1,4 +1,4 @@
-use Rattle.graph_held.specs.Held.{state_of}
+use Rattle.graph_steps.specs.held.Held.{state_of}
 use Rattle.graph_machine.proofs.Came.{came_allowed, came_follows, came_unchanged, same_state}
 use Rattle.graph_machine.proofs.machine.Machine.put_models.Goals as goal
 

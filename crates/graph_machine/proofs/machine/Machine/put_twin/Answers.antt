@@ -1,9 +1,9 @@
 use Rattle.std.proofs.Common.{◌∙◌, sym, ap, subst}
 use Rattle.graph_asks.specs.declared.ask.Ask.TheVariants as asks
-use Rattle.graph_bodies.specs.Kept.{twin_view}
+use Rattle.graph_steps.specs.bodies.Kept.{twin_view}
 use Rattle.graph_steps.specs.States.{with_twin}
 use Rattle.graph_steps.specs.Typed.{WellTyped}
-use Rattle.graph_held.specs.Held.{Holding, state_of}
+use Rattle.graph_steps.specs.held.Held.{Holding, state_of}
 use Rattle.graph_machine.proofs.Brought.{twin_put, failed_allows, failed_follows}
 use Rattle.graph_machine.proofs.machine.Machine.put_twin.Goals as goal
 

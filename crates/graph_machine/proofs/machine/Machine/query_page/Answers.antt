@@ -2,7 +2,7 @@ use Rattle.std.proofs.Common.{◌∙◌, map, ap}
 use Rattle.json_tree.specs.View.{view}
 use Rattle.graph_asks.specs.Answers.{body}
 use Rattle.graph_steps.specs.Pages.{on_page, token}
-use Rattle.graph_held.specs.Held.{state_of}
+use Rattle.graph_steps.specs.held.Held.{state_of}
 use Rattle.query_eval.specs.Entries.{entries_past}
 use Rattle.query_terms.specs.Queries.{asked}
 use Rattle.graph_machine.proofs.Told.{weaker}

@@ -2,9 +2,9 @@ use Rattle.std.proofs.Common.{◌∙◌, IfSome, sym, ap, subst}
 use Rattle.std.specs.Option.{option_map, option_copied}
 use Rattle.graph_asks.specs.Answers.{body}
 use Rattle.graph_asks.specs.declared.ask.Ask.TheVariants as asks
-use Rattle.graph_bodies.specs.Kept.{IsKeptLink}
+use Rattle.graph_steps.specs.bodies.Kept.{IsKeptLink}
 use Rattle.graph_steps.specs.Steps.{Allows, Answers}
-use Rattle.graph_held.specs.Held.{state_of, link_of}
+use Rattle.graph_steps.specs.held.Held.{state_of, link_of}
 use Rattle.graph_machine.proofs.Links.{link_found, link_missing}
 use Rattle.graph_machine.proofs.Told.{told}
 use Rattle.graph_machine.proofs.machine.Machine.rel_of.Goals as goal

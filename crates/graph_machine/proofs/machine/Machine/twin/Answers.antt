@@ -1,9 +1,9 @@
 use Rattle.std.proofs.Common.{◌∙◌, IfSome, sym, ap, subst}
 use Rattle.std.specs.Option.{option_map}
 use Rattle.graph_steps.specs.States.{twin_at}
-use Rattle.graph_bodies.specs.Kept.{twin_view, IsKeptTwin}
-use Rattle.graph_held.specs.Held.{holding, state_of}
-use Rattle.graph_held.proofs.Viewed.{twin_seen, twin_kept}
+use Rattle.graph_steps.specs.bodies.Kept.{twin_view, IsKeptTwin}
+use Rattle.graph_steps.specs.held.Held.{holding, state_of}
+use Rattle.graph_steps.proofs.held.Viewed.{twin_seen, twin_kept}
 use Rattle.graph_machine.proofs.machine.Machine.twin.Goals as goal
 
 pub returns-clause-at : goal.returns-clause-at

@@ -4,10 +4,10 @@ use Rattle.std.specs.List.{find}
 use Rattle.std.specs.Option.{option_map, option_copied}
 use Rattle.rel_graph.specs.Edges.{out_of}
 use Rattle.graph_steps.specs.States.{is_end}
-use Rattle.graph_held.specs.Held.{state_of, link_of}
+use Rattle.graph_steps.specs.held.Held.{state_of, link_of}
 use Rattle.graph_machine.specs.Machinery.Least.{least_of}
 use Rattle.graph_machine.proofs.Least.{least_first}
-use Rattle.graph_held.proofs.Viewed.{find-map}
+use Rattle.graph_steps.proofs.held.Viewed.{find-map}
 use Rattle.graph_machine.proofs.machine.Machine.user_of.Goals as goal
 
 pub returns : goal.returns

@@ -1,4 +1,4 @@
-use Rattle.graph_held.specs.Held.{state_of}
+use Rattle.graph_steps.specs.held.Held.{state_of}
 use Rattle.graph_machine.proofs.Frost.{frozen_by}
 use Rattle.graph_machine.proofs.object.MachineObject.step.Goals as goal
 

@@ -1,6 +1,6 @@
 use Rattle.std.proofs.Common.{◌≡◌, [], ◌∷◌, None, sym, ap, ◌∙◌, subst}
 use Rattle.dtdl_terms.specs.Sets.{interface_at}
-use Rattle.set_laws.specs.Changing.{AreFree}
+use Rattle.model_life.specs.sets.Changing.{AreFree}
 use Rattle.model_life.specs.Models.{interfaces_of, first_user}
 use Rattle.model_life.proofs.Seen.{seen_all, seen_none, seen_some, found_none, found_some, copied_is, copied_not}
 use Rattle.model_life.proofs.Least.{unused_free}

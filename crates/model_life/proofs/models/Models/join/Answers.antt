@@ -1,15 +1,15 @@
 use Rattle.std.proofs.Common.{◌≡◌, ◌+◌, ◌<◌, IsSome, false, length, None, sym, ap, ◌∙◌, subst, arith}
 use Rattle.std.specs.List.{AllByRecursion, sum_by}
-use Rattle.dtmi_name.specs.Grammar.{Identifier}
+use Rattle.dt_base.specs.names.Grammar.{Identifier}
 use Rattle.dtdl_terms.specs.Sets.{InOrder, interface_at}
 use Rattle.extend_resolve.specs.Breaches.{BreaksNoRule, IsSound}
-use Rattle.model_resolve.specs.Resolving.{LacksNone}
-use Rattle.model_resolve.proofs.Changes.{all_map}
-use Rattle.set_laws.specs.Changing.{with_uploads, is_one_of, without_interfaces}
-use Rattle.set_laws.proofs.Looking.{AreAbsent}
-use Rattle.model_life.specs.Models.{interfaces_of, model_at, with_models}
+use Rattle.model_life.specs.resolution.Resolving.{LacksNone}
+use Rattle.model_life.proofs.resolution.Changes.{all_map}
+use Rattle.model_life.specs.sets.Changing.{with_uploads, is_one_of, without_interfaces}
+use Rattle.model_life.proofs.sets.Looking.{AreAbsent}
+use Rattle.model_life.specs.Models.{interfaces_of, model_at, with_new_models}
 use Rattle.model_life.specs.Sums.{AllTake, AreWithinLimits}
-use Rattle.model_life.specs.Machinery.Keeping.{models_of, recorded, share_of, share_at, written_at, AreWritten, Fits, IsKept}
+use Rattle.model_life.specs.Machinery.Keeping.{models_of, recorded, share_of, share_at, written_at, AreWritten, RecordsFit, IsKept}
 use Rattle.model_life.proofs.Seen.{seen_all, none_seen}
 use Rattle.model_life.proofs.Taking.{all_take, past_sum, exact_sum}
 use Rattle.model_life.proofs.Whole.{length_seen, within_limits}
@@ -56,7 +56,7 @@ invariant_of-self-then-bytes-gt-MOST_MODEL_BYTES c =
     let absent : AreAbsent c.self.inside.set c.args.new =
     all_map (λ u. model_at u.interface.id c.args.self.now ≡ None) (λ u. interface_at u.interface.id c.self.inside.set ≡ None) c.args.new (λ u h. none_seen u.interface.id c.self.inside.set c.self.inside.records c.args.self.now c.self.view_is h) c.requires.new in
     let sound : IsSound c.self.inside.set c.args.new = subst (λ s. IsSound s c.args.new) (ap interfaces_of (sym c.self.view_is) ∙ seen_all c.self.inside.set c.self.inside.records) c.requires.sound in
-    let fits : Fits (with_uploads c.args.new c.self.inside.set) c.grow.new.records c.grow.new.users = subst (λ s. Fits s c.grow.new.records c.grow.new.users) c.in-Ok.ensures.ok c.grow.ensures.fits in
+    let fits : RecordsFit (with_uploads c.args.new c.self.inside.set) c.grow.new.records c.grow.new.users = subst (λ s. RecordsFit s c.grow.new.records c.grow.new.users) c.in-Ok.ensures.ok c.grow.ensures.fits in
     let kept : IsKept c.self.inside.set c.shrink.new.records c.shrink.new.users c.self.inside.shares c.self.inside.bytes c.self.inside.resolved =
     back_kept c.args.new c.args.ids.now c.self.inside.set c.self.inside.records c.self.inside.users c.self.inside.shares c.self.inside.bytes c.self.inside.resolved c.self.invariant c.requires.ids absent sound c.shrink.new.records c.shrink.new.users c.self.inside.shares
     (back_fits c.args.new c.args.ids.now c.self.inside.set c.self.inside.records c.self.inside.users c.self.inside.shares c.self.inside.bytes c.self.inside.resolved c.self.invariant c.requires.ids absent sound c.grow.new.records c.shrink.new.records c.grow.new.users c.shrink.new.users fits c.shrink.ensures.records c.shrink.ensures.users) c.self.invariant.written in
@@ -67,7 +67,7 @@ returns-then-bytes-gt-MOST_MODEL_BYTES-clause-err c =
     let absent : AreAbsent c.self.inside.set c.args.new =
     all_map (λ u. model_at u.interface.id c.args.self.now ≡ None) (λ u. interface_at u.interface.id c.self.inside.set ≡ None) c.args.new (λ u h. none_seen u.interface.id c.self.inside.set c.self.inside.records c.args.self.now c.self.view_is h) c.requires.new in
     let sound : IsSound c.self.inside.set c.args.new = subst (λ s. IsSound s c.args.new) (ap interfaces_of (sym c.self.view_is) ∙ seen_all c.self.inside.set c.self.inside.records) c.requires.sound in
-    let view : models_of (with_uploads c.args.new c.self.inside.set) c.grow.new.records ≡ with_models c.args.new (models_of c.self.inside.set c.self.inside.records) = sym (ap (λ s. models_of s c.grow.new.records) c.in-Ok.ensures.ok) ∙ c.in-Ok.ensures.models in
+    let view : models_of (with_uploads c.args.new c.self.inside.set) c.grow.new.records ≡ with_new_models c.args.new (models_of c.self.inside.set c.self.inside.records) = sym (ap (λ s. models_of s c.grow.new.records) c.in-Ok.ensures.ok) ∙ c.in-Ok.ensures.models in
     ap (λ s. models_of s c.shrink.new.records) (c.shrink.ensures.set ∙ ap (without_interfaces c.args.ids.now) c.in-Ok.ensures.ok)
     ∙ back_models c.args.new c.args.ids.now c.self.inside.set c.self.inside.records c.self.inside.users c.self.inside.shares c.self.inside.bytes c.self.inside.resolved c.self.invariant c.requires.ids absent sound c.grow.new.records c.shrink.new.records view c.shrink.ensures.records
     ∙ c.self.view_is
@@ -77,9 +77,9 @@ returns-then-bytes-gt-MOST_MODEL_BYTES-clause-end c =
     let absent : AreAbsent c.self.inside.set c.args.new =
     all_map (λ u. model_at u.interface.id c.args.self.now ≡ None) (λ u. interface_at u.interface.id c.self.inside.set ≡ None) c.args.new (λ u h. none_seen u.interface.id c.self.inside.set c.self.inside.records c.args.self.now c.self.view_is h) c.requires.new in
     let sound : IsSound c.self.inside.set c.args.new = subst (λ s. IsSound s c.args.new) (ap interfaces_of (sym c.self.view_is) ∙ seen_all c.self.inside.set c.self.inside.records) c.requires.sound in
-    let fits : Fits (with_uploads c.args.new c.self.inside.set) c.grow.new.records c.grow.new.users = subst (λ s. Fits s c.grow.new.records c.grow.new.users) c.in-Ok.ensures.ok c.grow.ensures.fits in
-    let view : models_of (with_uploads c.args.new c.self.inside.set) c.grow.new.records ≡ with_models c.args.new c.args.self.now = sym (ap (λ s. models_of s c.grow.new.records) c.in-Ok.ensures.ok) ∙ c.in-Ok.ensures.models ∙ ap (with_models c.args.new) c.self.view_is in
-    let many : length (with_models c.args.new c.args.self.now) ≡ length c.self.inside.set + length c.args.new = length_joined c.args.new c.args.ids.now c.self.inside.set c.self.inside.records c.self.inside.users c.self.inside.shares c.self.inside.bytes c.self.inside.resolved c.self.invariant c.requires.ids absent sound c.grow.new.records c.args.self.now view in
+    let fits : RecordsFit (with_uploads c.args.new c.self.inside.set) c.grow.new.records c.grow.new.users = subst (λ s. RecordsFit s c.grow.new.records c.grow.new.users) c.in-Ok.ensures.ok c.grow.ensures.fits in
+    let view : models_of (with_uploads c.args.new c.self.inside.set) c.grow.new.records ≡ with_new_models c.args.new c.args.self.now = sym (ap (λ s. models_of s c.grow.new.records) c.in-Ok.ensures.ok) ∙ c.in-Ok.ensures.models ∙ ap (with_new_models c.args.new) c.self.view_is in
+    let many : length (with_new_models c.args.new c.args.self.now) ≡ length c.self.inside.set + length c.args.new = length_joined c.args.new c.args.ids.now c.self.inside.set c.self.inside.records c.self.inside.users c.self.inside.shares c.self.inside.bytes c.self.inside.resolved c.self.invariant c.requires.ids absent sound c.grow.new.records c.args.self.now view in
     let own : length c.self.inside.set ≡ length c.args.self.now = sym (length_seen c.self.inside.set c.self.inside.records) ∙ ap length c.self.view_is in
     let few = c.requires.few in (
       c.requires.new,
@@ -152,7 +152,7 @@ invariant_of-self-in_default-add c =
     let absent : AreAbsent c.self.inside.set c.args.new =
     all_map (λ u. model_at u.interface.id c.args.self.now ≡ None) (λ u. interface_at u.interface.id c.self.inside.set ≡ None) c.args.new (λ u h. none_seen u.interface.id c.self.inside.set c.self.inside.records c.args.self.now c.self.view_is h) c.requires.new in
     let sound : IsSound c.self.inside.set c.args.new = subst (λ s. IsSound s c.args.new) (ap interfaces_of (sym c.self.view_is) ∙ seen_all c.self.inside.set c.self.inside.records) c.requires.sound in
-    let fits : Fits (with_uploads c.args.new c.self.inside.set) c.grow.new.records c.grow.new.users = subst (λ s. Fits s c.grow.new.records c.grow.new.users) c.in-Ok.ensures.ok c.grow.ensures.fits in
+    let fits : RecordsFit (with_uploads c.args.new c.self.inside.set) c.grow.new.records c.grow.new.users = subst (λ s. RecordsFit s c.grow.new.records c.grow.new.users) c.in-Ok.ensures.ok c.grow.ensures.fits in
     let kept : IsKept c.self.inside.set c.shrink-in_default-add.new.records c.shrink-in_default-add.new.users c.remove_all.new.shares c.self.inside.bytes c.self.inside.resolved =
     back_kept c.args.new c.args.ids.now c.self.inside.set c.self.inside.records c.self.inside.users c.self.inside.shares c.self.inside.bytes c.self.inside.resolved c.self.invariant c.requires.ids absent sound c.shrink-in_default-add.new.records c.shrink-in_default-add.new.users c.remove_all.new.shares
     (back_fits c.args.new c.args.ids.now c.self.inside.set c.self.inside.records c.self.inside.users c.self.inside.shares c.self.inside.bytes c.self.inside.resolved c.self.invariant c.requires.ids absent sound c.grow.new.records c.shrink-in_default-add.new.records c.grow.new.users c.shrink-in_default-add.new.users fits c.shrink-in_default-add.ensures.records c.shrink-in_default-add.ensures.users) (back_written c.args.new c.args.ids.now c.self.inside.set c.self.inside.records c.self.inside.users c.self.inside.shares c.self.inside.bytes c.self.inside.resolved c.self.invariant c.requires.ids absent sound c.add.new.self c.remove_all.new.shares c.add.ensures.others c.remove_all.ensures) in
@@ -163,7 +163,7 @@ returns-in_default-add-clause-err c =
     let absent : AreAbsent c.self.inside.set c.args.new =
     all_map (λ u. model_at u.interface.id c.args.self.now ≡ None) (λ u. interface_at u.interface.id c.self.inside.set ≡ None) c.args.new (λ u h. none_seen u.interface.id c.self.inside.set c.self.inside.records c.args.self.now c.self.view_is h) c.requires.new in
     let sound : IsSound c.self.inside.set c.args.new = subst (λ s. IsSound s c.args.new) (ap interfaces_of (sym c.self.view_is) ∙ seen_all c.self.inside.set c.self.inside.records) c.requires.sound in
-    let view : models_of (with_uploads c.args.new c.self.inside.set) c.grow.new.records ≡ with_models c.args.new (models_of c.self.inside.set c.self.inside.records) = sym (ap (λ s. models_of s c.grow.new.records) c.in-Ok.ensures.ok) ∙ c.in-Ok.ensures.models in
+    let view : models_of (with_uploads c.args.new c.self.inside.set) c.grow.new.records ≡ with_new_models c.args.new (models_of c.self.inside.set c.self.inside.records) = sym (ap (λ s. models_of s c.grow.new.records) c.in-Ok.ensures.ok) ∙ c.in-Ok.ensures.models in
     ap (λ s. models_of s c.shrink-in_default-add.new.records) (c.shrink-in_default-add.ensures.set ∙ ap (without_interfaces c.args.ids.now) c.in-Ok.ensures.ok)
     ∙ back_models c.args.new c.args.ids.now c.self.inside.set c.self.inside.records c.self.inside.users c.self.inside.shares c.self.inside.bytes c.self.inside.resolved c.self.invariant c.requires.ids absent sound c.grow.new.records c.shrink-in_default-add.new.records view c.shrink-in_default-add.ensures.records
     ∙ c.self.view_is
@@ -173,7 +173,7 @@ invariant_of-self-then-resolved-gt-MOST_RESOLVED_BYTES c =
     let absent : AreAbsent c.self.inside.set c.args.new =
     all_map (λ u. model_at u.interface.id c.args.self.now ≡ None) (λ u. interface_at u.interface.id c.self.inside.set ≡ None) c.args.new (λ u h. none_seen u.interface.id c.self.inside.set c.self.inside.records c.args.self.now c.self.view_is h) c.requires.new in
     let sound : IsSound c.self.inside.set c.args.new = subst (λ s. IsSound s c.args.new) (ap interfaces_of (sym c.self.view_is) ∙ seen_all c.self.inside.set c.self.inside.records) c.requires.sound in
-    let fits : Fits (with_uploads c.args.new c.self.inside.set) c.grow.new.records c.grow.new.users = subst (λ s. Fits s c.grow.new.records c.grow.new.users) c.in-Ok.ensures.ok c.grow.ensures.fits in
+    let fits : RecordsFit (with_uploads c.args.new c.self.inside.set) c.grow.new.records c.grow.new.users = subst (λ s. RecordsFit s c.grow.new.records c.grow.new.users) c.in-Ok.ensures.ok c.grow.ensures.fits in
     let kept : IsKept c.self.inside.set c.shrink-then-resolved-gt-MOST_RESOLVED_BYTES.new.records c.shrink-then-resolved-gt-MOST_RESOLVED_BYTES.new.users c.remove_all-then-resolved-gt-MOST_RESOLVED_BYTES.new.shares c.self.inside.bytes c.self.inside.resolved =
     back_kept c.args.new c.args.ids.now c.self.inside.set c.self.inside.records c.self.inside.users c.self.inside.shares c.self.inside.bytes c.self.inside.resolved c.self.invariant c.requires.ids absent sound c.shrink-then-resolved-gt-MOST_RESOLVED_BYTES.new.records c.shrink-then-resolved-gt-MOST_RESOLVED_BYTES.new.users c.remove_all-then-resolved-gt-MOST_RESOLVED_BYTES.new.shares
     (back_fits c.args.new c.args.ids.now c.self.inside.set c.self.inside.records c.self.inside.users c.self.inside.shares c.self.inside.bytes c.self.inside.resolved c.self.invariant c.requires.ids absent sound c.grow.new.records c.shrink-then-resolved-gt-MOST_RESOLVED_BYTES.new.records c.grow.new.users c.shrink-then-resolved-gt-MOST_RESOLVED_BYTES.new.users fits c.shrink-then-resolved-gt-MOST_RESOLVED_BYTES.ensures.records c.shrink-then-resolved-gt-MOST_RESOLVED_BYTES.ensures.users) (back_written c.args.new c.args.ids.now c.self.inside.set c.self.inside.records c.self.inside.users c.self.inside.shares c.self.inside.bytes c.self.inside.resolved c.self.invariant c.requires.ids absent sound c.add.new.self c.remove_all-then-resolved-gt-MOST_RESOLVED_BYTES.new.shares c.add.ensures.others c.remove_all-then-resolved-gt-MOST_RESOLVED_BYTES.ensures) in
@@ -184,7 +184,7 @@ returns-then-resolved-gt-MOST_RESOLVED_BYTES-clause-err c =
     let absent : AreAbsent c.self.inside.set c.args.new =
     all_map (λ u. model_at u.interface.id c.args.self.now ≡ None) (λ u. interface_at u.interface.id c.self.inside.set ≡ None) c.args.new (λ u h. none_seen u.interface.id c.self.inside.set c.self.inside.records c.args.self.now c.self.view_is h) c.requires.new in
     let sound : IsSound c.self.inside.set c.args.new = subst (λ s. IsSound s c.args.new) (ap interfaces_of (sym c.self.view_is) ∙ seen_all c.self.inside.set c.self.inside.records) c.requires.sound in
-    let view : models_of (with_uploads c.args.new c.self.inside.set) c.grow.new.records ≡ with_models c.args.new (models_of c.self.inside.set c.self.inside.records) = sym (ap (λ s. models_of s c.grow.new.records) c.in-Ok.ensures.ok) ∙ c.in-Ok.ensures.models in
+    let view : models_of (with_uploads c.args.new c.self.inside.set) c.grow.new.records ≡ with_new_models c.args.new (models_of c.self.inside.set c.self.inside.records) = sym (ap (λ s. models_of s c.grow.new.records) c.in-Ok.ensures.ok) ∙ c.in-Ok.ensures.models in
     ap (λ s. models_of s c.shrink-then-resolved-gt-MOST_RESOLVED_BYTES.new.records) (c.shrink-then-resolved-gt-MOST_RESOLVED_BYTES.ensures.set ∙ ap (without_interfaces c.args.ids.now) c.in-Ok.ensures.ok)
     ∙ back_models c.args.new c.args.ids.now c.self.inside.set c.self.inside.records c.self.inside.users c.self.inside.shares c.self.inside.bytes c.self.inside.resolved c.self.invariant c.requires.ids absent sound c.grow.new.records c.shrink-then-resolved-gt-MOST_RESOLVED_BYTES.new.records view c.shrink-then-resolved-gt-MOST_RESOLVED_BYTES.ensures.records
     ∙ c.self.view_is
@@ -194,15 +194,15 @@ returns-then-resolved-gt-MOST_RESOLVED_BYTES-clause-end c =
     let absent : AreAbsent c.self.inside.set c.args.new =
     all_map (λ u. model_at u.interface.id c.args.self.now ≡ None) (λ u. interface_at u.interface.id c.self.inside.set ≡ None) c.args.new (λ u h. none_seen u.interface.id c.self.inside.set c.self.inside.records c.args.self.now c.self.view_is h) c.requires.new in
     let sound : IsSound c.self.inside.set c.args.new = subst (λ s. IsSound s c.args.new) (ap interfaces_of (sym c.self.view_is) ∙ seen_all c.self.inside.set c.self.inside.records) c.requires.sound in
-    let fits : Fits (with_uploads c.args.new c.self.inside.set) c.grow.new.records c.grow.new.users = subst (λ s. Fits s c.grow.new.records c.grow.new.users) c.in-Ok.ensures.ok c.grow.ensures.fits in
-    let view : models_of (with_uploads c.args.new c.self.inside.set) c.grow.new.records ≡ with_models c.args.new c.args.self.now = sym (ap (λ s. models_of s c.grow.new.records) c.in-Ok.ensures.ok) ∙ c.in-Ok.ensures.models ∙ ap (with_models c.args.new) c.self.view_is in
-    let many : length (with_models c.args.new c.args.self.now) ≡ length c.self.inside.set + length c.args.new = length_joined c.args.new c.args.ids.now c.self.inside.set c.self.inside.records c.self.inside.users c.self.inside.shares c.self.inside.bytes c.self.inside.resolved c.self.invariant c.requires.ids absent sound c.grow.new.records c.args.self.now view in
+    let fits : RecordsFit (with_uploads c.args.new c.self.inside.set) c.grow.new.records c.grow.new.users = subst (λ s. RecordsFit s c.grow.new.records c.grow.new.users) c.in-Ok.ensures.ok c.grow.ensures.fits in
+    let view : models_of (with_uploads c.args.new c.self.inside.set) c.grow.new.records ≡ with_new_models c.args.new c.args.self.now = sym (ap (λ s. models_of s c.grow.new.records) c.in-Ok.ensures.ok) ∙ c.in-Ok.ensures.models ∙ ap (with_new_models c.args.new) c.self.view_is in
+    let many : length (with_new_models c.args.new c.args.self.now) ≡ length c.self.inside.set + length c.args.new = length_joined c.args.new c.args.ids.now c.self.inside.set c.self.inside.records c.self.inside.users c.self.inside.shares c.self.inside.bytes c.self.inside.resolved c.self.invariant c.requires.ids absent sound c.grow.new.records c.args.self.now view in
     let own : length c.self.inside.set ≡ length c.args.self.now = sym (length_seen c.self.inside.set c.self.inside.records) ∙ ap length c.self.view_is in
     let few = c.requires.few in
     let bytes : c.saturating_add-bytes.result ≡ c.self.inside.bytes + recorded c.grow.new.records c.args.ids.now =
     (let low = c.if-bytes-gt-MOST_MODEL_BYTES.false in exact_sum c.self.inside.bytes (recorded c.grow.new.records c.args.ids.now) c.bytes_of.result c.saturating_add-bytes.result c.bytes_of.ensures c.saturating_add-bytes.ensures (omega (arith, low))) in
     let low = c.if-bytes-gt-MOST_MODEL_BYTES.false in
-    let take : AllTake (interfaces_of (with_models c.args.new c.args.self.now)) (sum_by (share_of (with_uploads c.args.new c.self.inside.set)) (with_uploads c.args.new c.self.inside.set)) =
+    let take : AllTake (interfaces_of (with_new_models c.args.new c.args.self.now)) (sum_by (share_of (with_uploads c.args.new c.self.inside.set)) (with_uploads c.args.new c.self.inside.set)) =
     subst (λ s. AllTake s (sum_by (share_of (with_uploads c.args.new c.self.inside.set)) (with_uploads c.args.new c.self.inside.set))) (sym (seen_all (with_uploads c.args.new c.self.inside.set) c.grow.new.records) ∙ ap interfaces_of view)
     (all_take (with_uploads c.args.new c.self.inside.set) (joined_rules c.args.new c.args.ids.now c.self.inside.set c.self.inside.records c.self.inside.users c.self.inside.shares c.self.inside.bytes c.self.inside.resolved c.self.invariant c.requires.ids absent sound) (joined_declared c.args.new c.args.ids.now c.self.inside.set c.self.inside.records c.self.inside.users c.self.inside.shares c.self.inside.bytes c.self.inside.resolved c.self.invariant c.requires.ids absent sound c.requires.declared) (joined_ordered c.args.new c.args.ids.now c.self.inside.set c.self.inside.records c.self.inside.users c.self.inside.shares c.self.inside.bytes c.self.inside.resolved c.self.invariant c.requires.ids absent sound)) in
     let all = bytes_joined c.args.new c.args.ids.now c.self.inside.set c.self.inside.records c.self.inside.users c.self.inside.shares c.self.inside.bytes c.self.inside.resolved c.self.invariant c.requires.ids absent sound c.grow.new.records c.grow.new.users c.args.self.now fits view in (
@@ -225,7 +225,7 @@ invariant_of-self-2 c =
     let absent : AreAbsent c.self.inside.set c.args.new =
     all_map (λ u. model_at u.interface.id c.args.self.now ≡ None) (λ u. interface_at u.interface.id c.self.inside.set ≡ None) c.args.new (λ u h. none_seen u.interface.id c.self.inside.set c.self.inside.records c.args.self.now c.self.view_is h) c.requires.new in
     let sound : IsSound c.self.inside.set c.args.new = subst (λ s. IsSound s c.args.new) (ap interfaces_of (sym c.self.view_is) ∙ seen_all c.self.inside.set c.self.inside.records) c.requires.sound in
-    let fits : Fits (with_uploads c.args.new c.self.inside.set) c.grow.new.records c.grow.new.users = subst (λ s. Fits s c.grow.new.records c.grow.new.users) c.in-Ok.ensures.ok c.grow.ensures.fits in
+    let fits : RecordsFit (with_uploads c.args.new c.self.inside.set) c.grow.new.records c.grow.new.users = subst (λ s. RecordsFit s c.grow.new.records c.grow.new.users) c.in-Ok.ensures.ok c.grow.ensures.fits in
     let bytes : c.saturating_add-bytes.result ≡ c.self.inside.bytes + recorded c.grow.new.records c.args.ids.now =
     (let low = c.if-bytes-gt-MOST_MODEL_BYTES.false in exact_sum c.self.inside.bytes (recorded c.grow.new.records c.args.ids.now) c.bytes_of.result c.saturating_add-bytes.result c.bytes_of.ensures c.saturating_add-bytes.ensures (omega (arith, low))) in
     let low = c.if-bytes-gt-MOST_MODEL_BYTES.false in
@@ -256,8 +256,8 @@ returns-clause-end c =
     let absent : AreAbsent c.self.inside.set c.args.new =
     all_map (λ u. model_at u.interface.id c.args.self.now ≡ None) (λ u. interface_at u.interface.id c.self.inside.set ≡ None) c.args.new (λ u h. none_seen u.interface.id c.self.inside.set c.self.inside.records c.args.self.now c.self.view_is h) c.requires.new in
     let sound : IsSound c.self.inside.set c.args.new = subst (λ s. IsSound s c.args.new) (ap interfaces_of (sym c.self.view_is) ∙ seen_all c.self.inside.set c.self.inside.records) c.requires.sound in
-    let fits : Fits (with_uploads c.args.new c.self.inside.set) c.grow.new.records c.grow.new.users = subst (λ s. Fits s c.grow.new.records c.grow.new.users) c.in-Ok.ensures.ok c.grow.ensures.fits in
-    let view : models_of (with_uploads c.args.new c.self.inside.set) c.grow.new.records ≡ with_models c.args.new c.args.self.now = sym (ap (λ s. models_of s c.grow.new.records) c.in-Ok.ensures.ok) ∙ c.in-Ok.ensures.models ∙ ap (with_models c.args.new) c.self.view_is in
+    let fits : RecordsFit (with_uploads c.args.new c.self.inside.set) c.grow.new.records c.grow.new.users = subst (λ s. RecordsFit s c.grow.new.records c.grow.new.users) c.in-Ok.ensures.ok c.grow.ensures.fits in
+    let view : models_of (with_uploads c.args.new c.self.inside.set) c.grow.new.records ≡ with_new_models c.args.new c.args.self.now = sym (ap (λ s. models_of s c.grow.new.records) c.in-Ok.ensures.ok) ∙ c.in-Ok.ensures.models ∙ ap (with_new_models c.args.new) c.self.view_is in
     let bytes : c.saturating_add-bytes.result ≡ c.self.inside.bytes + recorded c.grow.new.records c.args.ids.now =
     (let low = c.if-bytes-gt-MOST_MODEL_BYTES.false in exact_sum c.self.inside.bytes (recorded c.grow.new.records c.args.ids.now) c.bytes_of.result c.saturating_add-bytes.result c.bytes_of.ensures c.saturating_add-bytes.ensures (omega (arith, low))) in
     let low = c.if-bytes-gt-MOST_MODEL_BYTES.false in

@@ -3,7 +3,7 @@ use Rattle.std.specs.Prelude.{IsSome}
 use Rattle.dtdl_terms.specs.Sets.{interface_at}
 use Rattle.dtdl_terms.specs.declared.interface.Interface.{Interface}
 use Rattle.dtdl_terms.specs.declared.resolved.Resolved.{Resolved}
-use Rattle.model_resolve.specs.Resolving.{EntryOf, IsResolved}
+use Rattle.model_life.specs.resolution.Resolving.{EntryOf, IsResolved}
 use Rattle.model_life.specs.Models.{interfaces_of}
 use Rattle.model_life.proofs.Seen.{seen_all, found_none, found_some}
 use Rattle.model_life.proofs.models.Models.resolved.Goals as goal

@@ -1,6 +1,6 @@
 use Rattle.std.proofs.Common.{◌-◌, sym, ap, ◌∙◌, subst}
-use Rattle.model_resolve.proofs.Changes.{lacks_none}
-use Rattle.set_laws.specs.Changing.{AreFree}
+use Rattle.model_life.proofs.resolution.Changes.{lacks_none}
+use Rattle.model_life.specs.sets.Changing.{AreFree}
 use Rattle.model_life.specs.Models.{interfaces_of, without_models}
 use Rattle.model_life.specs.Machinery.Keeping.{models_of, IsKept}
 use Rattle.model_life.proofs.Seen.{seen_all}

@@ -6,7 +6,7 @@ use Rattle.std.specs.Map.{lookup, keys_of}
 use Rattle.std.specs.BTreeMap.{is_at}
 use Rattle.ordered_table.specs.Rows.{row_of}
 use Rattle.ordered_table.proofs.Kept.{lookup-row, sorted-row}
-use Rattle.dtmi_name.specs.Grammar.{Identifier, dtmi_text, id_cmp}
+use Rattle.dt_base.specs.names.Grammar.{Identifier, dtmi_text, id_cmp}
 use Rattle.model_life.specs.Models.{first_user}
 use Rattle.model_life.specs.Machinery.Keeping.{user_at}
 use Rattle.model_life.proofs.Seen.{text_there}

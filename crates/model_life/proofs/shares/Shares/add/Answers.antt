@@ -1,9 +1,9 @@
 use Rattle.std.proofs.Common.{◌≡◌, ℕ, ◌+◌, ◌∷◌, drop, cond, refl, ap, ◌∙◌, arith}
 use Rattle.std.specs.Prelude.{IsSome}
-use Rattle.dtmi_name.specs.Grammar.{Identifier, id_eq}
+use Rattle.dt_base.specs.names.Grammar.{Identifier, id_eq}
 use Rattle.dtdl_terms.specs.Sets.{interface_at}
-use Rattle.set_laws.specs.Changing.{is_one_of}
-use Rattle.set_laws.proofs.Looking.{eq_tests, at_text}
+use Rattle.model_life.specs.sets.Changing.{is_one_of}
+use Rattle.model_life.proofs.sets.Looking.{eq_tests, at_text}
 use Rattle.model_life.specs.Machinery.Keeping.{capped, share_in, share_at, written_at}
 use Rattle.model_life.proofs.Using.{drop_next, taken_sum, placed_all, not_there}
 use Rattle.model_life.proofs.Taking.{exact, exact_sum}

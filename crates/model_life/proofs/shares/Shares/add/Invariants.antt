@@ -1,7 +1,7 @@
 use Rattle.std.proofs.Common.{◌≡◌, ◌+◌, ◌≤◌, take, drop, false}
 use Rattle.std.specs.List.{sum_by}
-use Rattle.dtmi_name.specs.Grammar.{Identifier}
-use Rattle.set_laws.specs.Changing.{is_one_of}
+use Rattle.dt_base.specs.names.Grammar.{Identifier}
+use Rattle.model_life.specs.sets.Changing.{is_one_of}
 use Rattle.model_life.specs.Machinery.Keeping.{share_at, written_at}
 use Rattle.model_life.proofs.shares.Shares.add.Given as goal
 

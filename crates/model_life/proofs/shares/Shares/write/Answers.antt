@@ -1,9 +1,9 @@
 use Rattle.std.proofs.Common.{◌≡◌, Some, sym, ap, ◌∙◌}
 use Rattle.std.specs.Option.{option_copied}
 use Rattle.std.specs.BTreeMap.{insert_entry}
-use Rattle.dtmi_name.specs.Grammar.{id_cmp}
+use Rattle.dt_base.specs.names.Grammar.{id_cmp}
 use Rattle.dtdl_terms.specs.Sets.{interface_at}
-use Rattle.model_resolve.proofs.Families.{stands}
+use Rattle.model_life.proofs.resolution.Families.{stands}
 use Rattle.model_life.specs.Machinery.Keeping.{capped, share_at, share_in}
 use Rattle.model_life.proofs.Recorded.{put_number}
 use Rattle.model_life.proofs.shares.Shares.write.Goals as goal

@@ -1,12 +1,12 @@
 use Rattle.std.proofs.Common.{◌≡◌, ◌+◌, ◌∷◌, drop, None, ap, ◌∙◌}
 use Rattle.std.specs.Prelude.{IsSome}
 use Rattle.std.specs.List.{list_any}
-use Rattle.dtmi_name.specs.Grammar.{id_eq}
+use Rattle.dt_base.specs.names.Grammar.{id_eq}
 use Rattle.dtdl_terms.specs.Sets.{interface_at}
-use Rattle.model_resolve.specs.Resolving.{entry_at}
+use Rattle.model_life.specs.resolution.Resolving.{entry_at}
 use Rattle.resolved_table.specs.Machinery.Without.{without}
-use Rattle.model_resolve.proofs.Changes.{all_map}
-use Rattle.model_resolve.proofs.Families.{some_of}
+use Rattle.model_life.proofs.resolution.Changes.{all_map}
+use Rattle.model_life.proofs.resolution.Families.{some_of}
 use Rattle.resolved_table.proofs.Entries.{without_absent, all_at, one_more, without_put, is_of_at, drop_next}
 use Rattle.resolved_table.proofs.table.Table.add.Goals as goal
 

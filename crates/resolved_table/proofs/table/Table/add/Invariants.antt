@@ -1,8 +1,8 @@
 use Rattle.std.proofs.Common.{◌≡◌, false, drop}
 use Rattle.std.specs.List.{list_any}
-use Rattle.dtmi_name.specs.Grammar.{Identifier, id_eq}
+use Rattle.dt_base.specs.names.Grammar.{Identifier, id_eq}
 use Rattle.dtdl_terms.specs.Sets.{interface_at}
-use Rattle.model_resolve.specs.Resolving.{EntryOf, entry_at}
+use Rattle.model_life.specs.resolution.Resolving.{EntryOf, entry_at}
 use Rattle.resolved_table.specs.Machinery.Without.{without}
 use Rattle.resolved_table.proofs.table.Table.add.Given as goal
 

@@ -4,7 +4,6 @@ use Rattle.std.proofs.lemmas.Nat.{mod_below}
 use Rattle.text_buckets.specs.Buckets.{bucket_of}
 use Rattle.text_buckets.proofs.buckets.Buckets.new.Goals as goal
 
--- src/buckets.rt:31:5
 pub returns : goal.returns
 returns c t used =
     let below : bucket_of t < 64 = mod_below (length t % 64 + 3 * slice_index t 0 + 17 * slice_index t (length t - 1)) 64 (omega arith) in

@@ -1,7 +1,7 @@
 use Rattle.std.proofs.Common.{Some, [], sym, ap, ◌∙◌, map, unwrap_or}
 use Rattle.std.specs.List.{find}
 use Rattle.std.specs.Option.{option_map, option_copied}
-use Rattle.dtmi_name.specs.Grammar.{dtmi_text}
+use Rattle.dt_base.specs.names.Grammar.{dtmi_text}
 use Rattle.dtdl_terms.specs.TermViews.{schema_term}
 use Rattle.dtdl_terms.specs.declared.resolved.NamedIn.{NamedIn}
 use Rattle.twin_value.specs.Named.{is_called}

@@ -1,0 +1,7 @@
+use Rattle.std.proofs.Common.{ap, map, ◌∙◌}
+use Rattle.canon_text.specs.Objects.{list_in_order, unless_empty}
+use Rattle.canon_text.specs.Canonical.{parent_pair}
+use Rattle.canon_text.proofs.interfaces.put_parents.Goals as goal
+
+pub returns : goal.returns
+returns c = λ parts same. c.in_ok-put.ensures parts (unless_empty list_in_order (map parent_pair c.args.items.now)) (c.in_ok-list.ensures ∙ ap (unless_empty list_in_order) c.in_ok-values.ensures) same

@@ -1,5 +1,0 @@
-use Rattle.graph_bodies.proofs.Reaching.{is_a_answer}
-use Rattle.graph_bodies.proofs.models.is_model_a.Goals as goal
-
-pub returns : goal.returns
-returns c = is_a_answer c.args.set.now c.args.id.now c.requires.rules c.args.interface.now c.requires.there c.is_a.result c.is_a.ensures

@@ -1,9 +1,0 @@
-use Rattle.std.proofs.Common.{◌↔◌, Option, subst}
-use Rattle.std.specs.Prelude.{IsTrue}
-use Rattle.dtmi_name.specs.Grammar.{Identifier}
-use Rattle.graph_fits.specs.Machinery.Judged.{with_given, SuitsDeclared}
-use Rattle.graph_fits.proofs.links.suits_target.Goals as goal
-
-pub returns-in-Some : goal.returns-in-Some
-returns-in-Some c =
-    subst (λ (o : Option Identifier). IsTrue c.suits_model.result ↔ SuitsDeclared (with_given c.args.twin.now c.args.lent.now) c.args.target.now o) c.in-Some.ensures c.suits_model.ensures

@@ -1,0 +1,11 @@
+//! Whether twins and relationships fit the models that there are.
+
+mod ends;
+mod links;
+mod misfits;
+mod names;
+mod twins;
+
+pub use ends::least_ill;
+pub use misfits::least_misfit;
+pub use twins::twin_fits;

@@ -1,9 +1,0 @@
-//! A graph of so many rooms, each with a sensor, that is made by the machine's own steps, and its counts.
-#![tactic(auto)]
-
-mod laws;
-mod maker;
-mod requests;
-
-pub use laws::one_text;
-pub use maker::make;

@@ -1,5 +1,0 @@
-use Rattle.graph_server.proofs.Answering.{written}
-use Rattle.graph_server.proofs.replayer.answer_of_refusal.Goals as goal
-
-pub returns-in-Ok-clause-writable : goal.returns-in-Ok-clause-writable
-returns-in-Ok-clause-writable c = written c.in-Ok.response (c.in-Ok.ensures.writable c.requires)

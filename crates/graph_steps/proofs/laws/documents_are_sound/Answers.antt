@@ -1,5 +1,0 @@
-use Rattle.graph_steps.proofs.Documents as lemmas
-use Rattle.graph_steps.proofs.laws.documents_are_sound.Goals as goal
-
-pub returns : goal.returns
-returns c = lemmas.documents_are_sound

@@ -1,7 +1,0 @@
-use Rattle.std.proofs.Common.{◌↔◌}
-use Rattle.dtdl_terms.specs.declared.resolved.ResolvedContent.{ResolvedContent}
-use Rattle.model_resolve.specs.Machinery.Families.{HasContent, IsDeclaredByFirst}
-use Rattle.model_resolve.proofs.contents.contents_of.Given as goal
-
-abbrev pub invariant-interfaces : goal.invariant-interfaces
-invariant-interfaces l = (r : ResolvedContent) → HasContent l.contents r ↔ IsDeclaredByFirst l.interfaces l.interface-index r

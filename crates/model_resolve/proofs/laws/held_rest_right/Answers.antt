@@ -1,5 +1,0 @@
-use Rattle.model_resolve.proofs.Changes.{held_with_less}
-use Rattle.model_resolve.proofs.laws.held_rest_right.Goals as goal
-
-pub returns : goal.returns
-returns c set id table sound sorted free ordered right = held_with_less set id sound sorted free table ordered right

@@ -1,6 +1,0 @@
-use Rattle.std.proofs.Common.{◌≡◌, ◌-◌, ◌^◌, min, length, take}
-use Rattle.std.specs.List.{sum_by}
-use Rattle.model_resolve.proofs.resolutions.contents_of_parts.Given as goal
-
-abbrev pub invariant-parts : goal.invariant-parts
-invariant-parts l = l.sum ≡ min (sum_by (λ part. length part.contents) (take l.part-index l.parts)) (2 ^ 64 - 1)

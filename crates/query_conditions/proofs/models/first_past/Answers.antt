@@ -1,9 +1,0 @@
-use Rattle.std.proofs.Common.{rules}
-use Rattle.std.proofs.lemmas.List.Sorted.{IsPartitionPoint-from_clause}
-use Rattle.query_conditions.specs.Machinery.Starts.{is_upto}
-use Rattle.query_conditions.proofs.Starts.{upto_parted}
-use Rattle.query_conditions.proofs.models.first_past.Goals as goal
-
-pub returns-clause-parted : goal.returns-clause-parted
-returns-clause-parted c =
-    IsPartitionPoint-from_clause (is_upto c.args.start.now) _ _ c.partition_point.ensures.partitioned (upto_parted c.args.start.now c.args.ids.now c.requires.ascending) (λ a r q k. search rules)

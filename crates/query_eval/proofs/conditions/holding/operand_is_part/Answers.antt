@@ -1,0 +1,17 @@
+use Rattle.std.proofs.Common.{sym, ap, ◌∙◌}
+use Rattle.std.specs.Option.{option_map}
+use Rattle.query_eval.specs.values.Rows.{row_view}
+use Rattle.graph_steps.specs.Conditions.{operand_value}
+use Rattle.query_eval.specs.conditions.Machinery.Plain.{plain_value}
+use Rattle.query_eval.specs.conditions.Machinery.Sides.{side_value}
+use Rattle.query_eval.proofs.conditions.Plainly.{sides_part}
+use Rattle.query_eval.proofs.conditions.holding.operand_is_part.Goals as goal
+
+pub returns : goal.returns
+returns c =
+    c.is_text_part.ensures
+    ∙ sides_part c.args.kind (side_value c.in-Some.whole) (side_value c.in-Some-2.part) (plain_value c.plain.result) (plain_value c.plain-2.result)
+    (operand_value (row_view c.args.row.now) c.args.whole.now) (operand_value (row_view c.args.row.now) c.args.part.now)
+    (sym (ap (option_map side_value) c.in-Some.is) ∙ c.in_ok-whole.ensures)
+    (sym (ap (option_map side_value) c.in-Some-2.is) ∙ c.in_ok-part.ensures)
+    c.plain.ensures c.plain-2.ensures

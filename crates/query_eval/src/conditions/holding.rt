@@ -1,0 +1,142 @@
+//! When a condition holds of a row.
+
+ghost use Rattle.std.specs.Prelude.{◌≡◌, ◌&&◌, not, IfOk};
+ghost use Rattle.graph_steps.specs.Conditions.{holds, both_there, there, compares_as, equals_one, is_primitive, is_of_query_kind, is_text_part, operand_value, path_value};
+ghost use Rattle.query_eval.specs.values.Rows.{row_view, AreKept};
+ghost use Rattle.query_terms.specs.Conditions.{condition};
+
+use crate::conditions::comparing::{compares, equals_none, equals_one};
+use crate::conditions::kinds::is_of_kind;
+use crate::conditions::parts::is_text_part;
+use crate::conditions::sides::side_of;
+use crate::conditions::twins::twin_is_of;
+use crate::conditions::view::GraphView;
+use crate::values::{Binding, value_at};
+use dt_base::{OutOfMemory, Text};
+use query_terms::{Compare, Cond, Kind, Literal, Operand, PartKind};
+use std::alloc::Global;
+
+/// Whether a condition holds of a row of a graph. What stands to the right of an `AND` or `OR` is judged only where the left
+/// does not decide. It goes down into the condition by calls, one inside the other, as deep as it nests: a chain of `OR`s in
+/// a text of 8,192 bytes nests some 1,400 deep, and no proof says that the stack has room. Fails only for want of memory.
+pub fn holds<V: GraphView>(
+    alloc: Global,
+    view: &V,
+    row: &[Binding<'_>],
+    cond: &Cond,
+) -> Result<bool, OutOfMemory>
+    requires { AreKept row.now }
+    ensures { IfOk result (λ answer. answer ≡ holds (V.state view.now) (row_view row.now) (condition cond.now)) }
+{
+    match cond {
+        Cond::Or(left, right) => {
+            if holds(alloc, view, row, left)? {
+                return Ok(true);
+            }
+            holds(alloc, view, row, right)
+        }
+        Cond::And(left, right) => {
+            if !holds(alloc, view, row, left)? {
+                return Ok(false);
+            }
+            holds(alloc, view, row, right)
+        }
+        Cond::Not(inner) => Ok(!holds(alloc, view, row, inner)?),
+        Cond::Compare(left, compare, right) => operands_compare(alloc, row, left, *compare, right),
+        Cond::Among(operand, literals) => is_among(alloc, row, operand, literals.as_slice()),
+        Cond::NotAmong(operand, literals) => is_not_among(alloc, row, operand, literals.as_slice()),
+        Cond::Is(kind, path) => path_is(alloc, row, *kind, path.as_slice()),
+        Cond::Part(kind, whole, part) => operand_is_part(alloc, row, *kind, whole, part),
+        Cond::OfModel { twin, model, exact } => {
+            Ok(twin_is_of(view, row, twin.as_ref(), model, *exact))
+        }
+    }
+}
+
+/// Whether two operands are there and compare so.
+fn operands_compare(
+    alloc: Global,
+    row: &[Binding<'_>],
+    left: &Operand,
+    compare: Compare,
+    right: &Operand,
+) -> Result<bool, OutOfMemory>
+    requires { AreKept row.now }
+    ensures { IfOk result (λ answer. answer ≡ both_there (compares_as compare) (operand_value (row_view row.now) left.now) (operand_value (row_view row.now) right.now)) }
+{
+    let Some(left) = side_of(alloc, row, left)? else {
+        return Ok(false);
+    };
+    let Some(right) = side_of(alloc, row, right)? else {
+        return Ok(false);
+    };
+    Ok(compares(compare, left.plain(), right.plain()))
+}
+
+/// Whether an operand is there and equals one of the literals.
+fn is_among(
+    alloc: Global,
+    row: &[Binding<'_>],
+    operand: &Operand,
+    literals: &[Literal],
+) -> Result<bool, OutOfMemory>
+    requires { AreKept row.now }
+    ensures { IfOk result (λ answer. answer ≡ there (equals_one literals.now) (operand_value (row_view row.now) operand.now)) }
+{
+    match side_of(alloc, row, operand)? {
+        Some(side) => Ok(equals_one(side.plain(), literals)),
+        None => Ok(false),
+    }
+}
+
+/// Whether an operand is there, is a number, a text or a truth value, and equals none of the literals.
+fn is_not_among(
+    alloc: Global,
+    row: &[Binding<'_>],
+    operand: &Operand,
+    literals: &[Literal],
+) -> Result<bool, OutOfMemory>
+    requires { AreKept row.now }
+    ensures { IfOk result (λ answer. answer ≡ there (λ v. is_primitive v && not (equals_one literals.now v)) (operand_value (row_view row.now) operand.now)) }
+{
+    match side_of(alloc, row, operand)? {
+        Some(side) => Ok(equals_none(side.plain(), literals)),
+        None => Ok(false),
+    }
+}
+
+/// Whether what a path leads to is of a kind.
+fn path_is(
+    alloc: Global,
+    row: &[Binding<'_>],
+    kind: Kind,
+    path: &[Text],
+) -> Result<bool, OutOfMemory>
+    requires { AreKept row.now }
+    ensures { IfOk result (λ answer. answer ≡ is_of_query_kind kind (path_value (row_view row.now) path.now)) }
+{
+    match value_at(alloc, row, path)? {
+        Some(found) => Ok(is_of_kind(kind, Some(found.tree()))),
+        None => Ok(is_of_kind(kind, None)),
+    }
+}
+
+/// Whether two operands are texts and the second stands so in the first.
+fn operand_is_part(
+    alloc: Global,
+    row: &[Binding<'_>],
+    kind: PartKind,
+    whole: &Operand,
+    part: &Operand,
+) -> Result<bool, OutOfMemory>
+    requires { AreKept row.now }
+    ensures { IfOk result (λ answer. answer ≡ both_there (is_text_part kind) (operand_value (row_view row.now) whole.now) (operand_value (row_view row.now) part.now)) }
+{
+    let Some(whole) = side_of(alloc, row, whole)? else {
+        return Ok(false);
+    };
+    let Some(part) = side_of(alloc, row, part)? else {
+        return Ok(false);
+    };
+    Ok(is_text_part(kind, whole.plain(), part.plain()))
+}

@@ -1,8 +1,0 @@
-//! The tokens of the query language.
-#![tactic(auto)]
-
-mod names;
-mod token;
-
-pub use names::{same_letters, word_of};
-pub use token::{Mark, Token, Word};

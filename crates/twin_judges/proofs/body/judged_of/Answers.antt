@@ -1,9 +1,0 @@
-use Rattle.json_tree.specs.View.{view}
-use Rattle.graph_held.specs.Held.{state_of}
-use Rattle.twin_judges.proofs.Judging.{body_judged}
-use Rattle.twin_judges.proofs.body.judged_of.Goals as goal
-
-pub returns-clause-judged : goal.returns-clause-judged
-returns-clause-judged c =
-    body_judged (state_of c.args.lent.now) c.args.id.now c.args.interface.now (view c.args.tree.now) c.in_ok-unless_marked.ensures c.in_ok-twin.ensures.twin.0 c.in_ok-twin.twin c.in_ok-twin.ensures.twin.1
-    c.judged_new.result c.judged_new.ensures.judged

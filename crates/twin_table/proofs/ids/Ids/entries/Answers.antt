@@ -1,6 +1,0 @@
-use Rattle.std.proofs.Common.{◌∙◌, true, refl}
-use Rattle.ordered_table.proofs.Kept.{filter-all}
-use Rattle.twin_table.proofs.ids.Ids.entries.Goals as goal
-
-pub returns-clause-ids : goal.returns-clause-ids
-returns-clause-ids c = c.range.ensures.between tt ∙ filter-all (λ _. true) (λ _. refl) c.self.inside.entries.entries ∙ c.self.view_is
