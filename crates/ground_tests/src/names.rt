@@ -108,21 +108,60 @@ fn bounds_dtmis(rt: HostRuntime) -> Result<(), Fail> {
     Ok(())
 }
 
+/// How two identifiers compare: whether they differ in their version at most, and their order.
+fn compared(alloc: Global, left: &str, right: &str) -> Result<(bool, Ordering), Fail> {
+    let left = Dtmi::read(alloc, left)?;
+    let right = Dtmi::read(alloc, right)?;
+    Ok((same_path(&left, &right), order(&left, &right)))
+}
+
+/// Whether two identifiers are equal, and whether the first comes before the second and behind it, by the operators.
+fn operators(alloc: Global, left: &str, right: &str) -> Result<[bool; 3], Fail> {
+    let left = Dtmi::read(alloc, left)?;
+    let right = Dtmi::read(alloc, right)?;
+    Ok([left == right, left < right, left > right])
+}
+
 #[test]
 fn compares_dtmis(rt: HostRuntime) -> Result<(), Fail> {
     let alloc = rt.alloc();
-    let first = Dtmi::read(alloc, "dtmi:com:example:Room;10")?;
-    let second = Dtmi::read(alloc, "dtmi:com:example:Room;9")?;
-    let other = Dtmi::read(alloc, "dtmi:com:example;10")?;
-    assert_eq!(rt; first.version(), 10);
-    assert_eq!(rt; first.as_str(), "dtmi:com:example:Room;10");
-    assert_eq!(rt; second.print(alloc)?.as_str(), "dtmi:com:example:Room;9");
-    assert!(rt; same_path(&first, &second));
-    assert!(rt; !same_path(&first, &other));
-    assert_eq!(rt; order(&first, &second), Ordering::Less);
-    assert_eq!(rt; order(&other, &first), Ordering::Greater);
-    assert_eq!(rt; order(&first, &first.copy(alloc)?), Ordering::Equal);
-    assert!(rt; first < second && other > first);
-    assert!(rt; first == first.copy(alloc)? && first != other);
+    for (left, right, same, want) in [
+        (
+            "dtmi:com:example:Room;10",
+            "dtmi:com:example:Room;9",
+            true,
+            Ordering::Less,
+        ),
+        (
+            "dtmi:com:example:Room;10",
+            "dtmi:com:example:Room;10",
+            true,
+            Ordering::Equal,
+        ),
+        (
+            "dtmi:com:example;10",
+            "dtmi:com:example:Room;10",
+            false,
+            Ordering::Greater,
+        ),
+    ] {
+        let (is_same, found) = compared(alloc, left, right)?;
+        assert_eq!(rt; is_same, same, "{left} {right}");
+        assert_eq!(rt; found, want, "{left} {right}");
+        let told = operators(alloc, left, right)?;
+        let wanted = [want.is_eq(), want.is_lt(), want.is_gt()];
+        assert_eq!(rt; told, wanted, "{left} {right}");
+    }
+    Ok(())
+}
+
+#[test]
+fn prints_and_copies_dtmis(rt: HostRuntime) -> Result<(), Fail> {
+    let alloc = rt.alloc();
+    let id = Dtmi::read(alloc, "dtmi:com:example:Room;10")?;
+    assert_eq!(rt; id.version(), 10);
+    assert_eq!(rt; id.as_str(), "dtmi:com:example:Room;10");
+    assert_eq!(rt; id.print(alloc)?.as_str(), "dtmi:com:example:Room;10");
+    assert!(rt; id.copy(alloc)? == id);
     Ok(())
 }

@@ -88,8 +88,32 @@ fn copies_and_quiet_objects(rt: HostRuntime) -> Result<(), Fail> {
     Ok(())
 }
 
+/// A text that was made of a `String`.
+fn moved_text(alloc: Global, row: &str) -> Result<Text, Fail> {
+    Ok(Text::from_string(String::from_str(alloc, row)?))
+}
+
+/// Whether two texts are the same by each comparison.
+fn are_the_same(one: &Text, other: &Text) -> bool {
+    one == other && one.cmp(other).is_eq() && one.as_str() == other.as_str()
+}
+
+/// Whether the texts of these bytes are the same wherever they lie.
+fn lie_alike(alloc: Global, row: &str) -> Result<bool, Fail> {
+    let made = Text::from_str(alloc, row)?;
+    let moved = moved_text(alloc, row)?;
+    Ok(are_the_same(&made, &moved))
+}
+
+/// Whether a text is turned into a `String` of these bytes.
+fn gives_back(alloc: Global, text: Text, row: &str) -> Result<bool, Fail> {
+    let string = text.into_string(alloc)?;
+    Ok(string.as_str() == row)
+}
+
 #[test]
 fn texts_are_the_same_wherever_they_lie(rt: HostRuntime) -> Result<(), Fail> {
+    let alloc = rt.alloc();
     let rows = [
         "",
         "é",
@@ -100,32 +124,43 @@ fn texts_are_the_same_wherever_they_lie(rt: HostRuntime) -> Result<(), Fail> {
         "31 bytes, which ends with an é",
     ];
     for row in rows {
-        let made = Text::from_str(rt.alloc(), row)?;
-        let moved = Text::from_string(String::from_str(rt.alloc(), row)?);
-        assert_eq!(rt; made.as_str(), row);
-        assert!(rt; made == moved, "{row}");
-        assert!(rt; made.cmp(&moved).is_eq(), "{row}");
-        assert_eq!(rt; made.into_string(rt.alloc())?.as_str(), row);
-        assert_eq!(rt; moved.into_string(rt.alloc())?.as_str(), row);
+        assert!(rt; lie_alike(alloc, row)?, "{row}");
+        assert!(rt;
+            gives_back(alloc, Text::from_str(alloc, row)?, row)?,
+            "{row}"
+        );
+        assert!(rt; gives_back(alloc, moved_text(alloc, row)?, row)?, "{row}");
     }
     Ok(())
 }
 
-#[test]
-fn texts_key_maps_by_their_bytes(rt: HostRuntime) -> Result<(), Fail> {
-    let mut sizes = BTreeMap::new(rt.alloc());
+/// The lengths of names under them.
+fn sizes(alloc: Global) -> Result<BTreeMap<Text, u64>, Fail> {
+    let mut sizes = BTreeMap::new(alloc);
     for name in ["b", "", "é", "ab", "a", "B"] {
-        let key = Text::from_str(rt.alloc(), name)?;
+        let key = Text::from_str(alloc, name)?;
         sizes.insert(key, name.len() as u64)?;
     }
-    let key = Text::from_str(rt.alloc(), "é")?;
-    assert_eq!(rt; sizes.get(&key), Some(&2));
-    let mut names = String::new(rt.alloc());
+    Ok(sizes)
+}
+
+/// The keys of a map in their order, a space behind each.
+fn keys_of(alloc: Global, sizes: &BTreeMap<Text, u64>) -> Result<String, Fail> {
+    let mut names = String::new(alloc);
     for name in sizes.keys() {
         names.push_str(name.as_str())?;
         names.push(' ')?;
     }
+    Ok(names)
+}
+
+#[test]
+fn texts_key_maps_by_their_bytes(rt: HostRuntime) -> Result<(), Fail> {
+    let sizes = sizes(rt.alloc())?;
+    let names = keys_of(rt.alloc(), &sizes)?;
     assert_eq!(rt; names.as_str(), " B a ab b é ");
+    let key = Text::from_str(rt.alloc(), "é")?;
+    assert_eq!(rt; sizes.get(&key), Some(&2));
     Ok(())
 }
 
@@ -149,10 +184,9 @@ fn a_link_counts_its_calls_together(rt: HostRuntime) -> Result<(), Fail> {
 }
 
 fn file(alloc: Global, name: &str, bytes: &str) -> Result<File, OutOfMemory> {
-    Ok(File {
-        name: Text::from_str(alloc, name)?,
-        bytes: list_of(alloc, bytes.as_bytes())?,
-    })
+    let bytes = list_of(alloc, bytes.as_bytes())?;
+    let name = Text::from_str(alloc, name)?;
+    Ok(File { name, bytes })
 }
 
 /// What a fetch answered, as a word or as the bytes.
@@ -165,6 +199,17 @@ fn told(alloc: Global, answer: &Result<Fetched, ShelfEnd>) -> Result<String, Out
         Err(ShelfEnd::OutOfMemory) => "out of memory",
     };
     Ok(String::from_str(alloc, word)?)
+}
+
+/// What a fetch answers.
+fn fetched(
+    alloc: Global,
+    shelf: &mut impl Shelf,
+    name: &str,
+    limit: usize,
+) -> Result<String, OutOfMemory> {
+    let answer = shelf.fetch(alloc, name, limit);
+    told(alloc, &answer)
 }
 
 #[test]
@@ -181,8 +226,8 @@ fn a_shelf_in_memory_gives_its_files(rt: HostRuntime) -> Result<(), Fail> {
         ("b", 0, ""),
         ("c", 9, "missing"),
     ] {
-        let answer = shelf.fetch(rt.alloc(), name, limit);
-        assert_eq!(rt; told(rt.alloc(), &answer)?.as_str(), want, "of {name}");
+        let answer = fetched(rt.alloc(), &mut shelf, name, limit)?;
+        assert_eq!(rt; answer.as_str(), want, "of {name}");
     }
     Ok(())
 }
@@ -200,8 +245,8 @@ fn a_shelf_of_real_files_gives_them(rt: HostRuntime) -> Result<(), Fail> {
         (".", 12, "failed"),
         ("twelve.txt/part", 12, "failed"),
     ] {
-        let answer = shelf.fetch(rt.alloc(), name, limit);
-        assert_eq!(rt; told(rt.alloc(), &answer)?.as_str(), want, "of {name}");
+        let answer = fetched(rt.alloc(), &mut shelf, name, limit)?;
+        assert_eq!(rt; answer.as_str(), want, "of {name}");
     }
     fs::remove_file(&rt, "twelve.txt")?;
     Ok(())

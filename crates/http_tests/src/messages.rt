@@ -5,8 +5,8 @@ ghost use Rattle.http_ends.specs.Replies.{phrase_of, IsAllowed};
 
 use dt_base::{List, MemSink, MemSource, OutOfMemory};
 use http_ends::{
-    Buffer, HttpEnd, ReplyEnd, Response, SendEnd, next_request, next_response, write_request,
-    write_response,
+    Buffer, HttpEnd, ReplyEnd, Request, Response, SendEnd, next_request, next_response,
+    write_request, write_response,
 };
 use std::alloc::{AllocError, Global};
 use std::test::Fail;
@@ -29,30 +29,46 @@ fn source_of(
     ))
 }
 
-/// What the requests of a stream say, a line each, and why there is no further one. A read that failed is tried again.
-fn told(alloc: Global, source: &mut MemSource) -> Result<String, Fail> {
-    let mut buffer = Buffer::new(alloc)?;
-    let mut text = String::new(alloc);
+/// Adds a line that says what a request is.
+fn push_request(text: &mut String, request: &Request) -> Result<(), Fail> {
+    let body = std::str::from_utf8(request.body.as_slice()).unwrap_or("no text");
+    text.push_str(request.method.as_str())?;
+    text.push(' ')?;
+    text.push_str(request.path.as_str())?;
+    text.push('?')?;
+    text.push_str(request.query.as_str())?;
+    text.push_str(if request.close { " close " } else { " " })?;
+    text.push_str(body)?;
+    text.push('\n')?;
+    Ok(())
+}
+
+/// Adds what the requests of a stream say, a line each, and why there is no further one. A read that failed is tried again.
+fn push_told(
+    alloc: Global,
+    text: &mut String,
+    source: &mut MemSource,
+    buffer: &mut Buffer,
+) -> Result<(), Fail> {
     for _ in 0..9 {
-        match next_request(alloc, source, &mut buffer) {
-            Ok(request) => {
-                let body = std::str::from_utf8(request.body.as_slice()).unwrap_or("no text");
-                text.push_str(request.method.as_str())?;
-                text.push(' ')?;
-                text.push_str(request.path.as_str())?;
-                text.push('?')?;
-                text.push_str(request.query.as_str())?;
-                text.push_str(if request.close { " close " } else { " " })?;
-                text.push_str(body)?;
-                text.push('\n')?;
-            }
+        match next_request(alloc, source, buffer) {
+            Ok(request) => push_request(text, &request)?,
             Err(HttpEnd::ReadFault) => {}
             Err(end) => {
                 text.push_str(format!(in alloc; "{end:?}")?.as_str())?;
-                return Ok(text);
+                return Ok(());
             }
         }
     }
+    Ok(())
+}
+
+/// What the requests of `TWO` say, of which each read gives at most as many bytes as the pieces say.
+fn told(alloc: Global, failing: &[u64], pieces: &[u64]) -> Result<String, Fail> {
+    let mut source = source_of(alloc, TWO, failing, pieces)?;
+    let mut buffer = Buffer::new(alloc)?;
+    let mut text = String::new(alloc);
+    push_told(alloc, &mut text, &mut source, &mut buffer)?;
     Ok(text)
 }
 
@@ -70,21 +86,13 @@ const TWO_TOLD: &str = "POST /qu\u{e9}ry?a=b?c 12345\nGET /c? close \nClosed";
 
 #[test]
 fn reads_two_requests_across_each_split_and_fault(rt: HostRuntime) -> Result<(), Fail> {
+    let pieces = ones(rt.alloc(), 200)?;
     for split in 1..TWO.len() {
         let first = split as u64;
-        let mut source = source_of(rt.alloc(), TWO, &[], &[first, 1000])?;
-        assert_eq!(rt;
-            told(rt.alloc(), &mut source)?.as_str(),
-            TWO_TOLD,
-            "split at {first}"
-        );
-        let pieces = ones(rt.alloc(), 200)?;
-        let mut source = source_of(rt.alloc(), TWO, &[first], pieces.as_slice())?;
-        assert_eq!(rt;
-            told(rt.alloc(), &mut source)?.as_str(),
-            TWO_TOLD,
-            "fault at {first}"
-        );
+        let text = told(rt.alloc(), &[], &[first, 1000])?;
+        assert_eq!(rt; text.as_str(), TWO_TOLD, "split at {first}");
+        let text = told(rt.alloc(), &[first], pieces.as_slice())?;
+        assert_eq!(rt; text.as_str(), TWO_TOLD, "fault at {first}");
     }
     Ok(())
 }
@@ -102,6 +110,15 @@ fn long_head(alloc: Global, fields: usize, size: usize) -> Result<Vec<u8>, Alloc
     Ok(text)
 }
 
+/// Whether the request with this head closes. A read behind the head would fail.
+fn close_of(alloc: Global, head: &[u8]) -> Result<Result<bool, HttpEnd>, Fail> {
+    let behind = head.len() as u64 + 1;
+    let pieces = ones(alloc, head.len())?;
+    let mut source = source_of(alloc, head, &[behind], pieces.as_slice())?;
+    let mut buffer = Buffer::new(alloc)?;
+    Ok(next_request(alloc, &mut source, &mut buffer).map(|request| request.close))
+}
+
 #[test]
 fn reads_no_byte_too_many(rt: HostRuntime) -> Result<(), Fail> {
     for (fields, size, reads) in [
@@ -112,14 +129,7 @@ fn reads_no_byte_too_many(rt: HostRuntime) -> Result<(), Fail> {
         (3, 16_385, false),
     ] {
         let head = long_head(rt.alloc(), fields, size)?;
-        // A read behind the head would fail.
-        let behind = head.len() as u64 + 1;
-        let pieces = ones(rt.alloc(), head.len())?;
-        let mut source = source_of(rt.alloc(), head.as_slice(), &[behind], pieces.as_slice())?;
-        let mut buffer = Buffer::new(rt.alloc())?;
-        let answer = next_request(rt.alloc(), &mut source, &mut buffer).map(
-            |request| request.close,
-        );
+        let answer = close_of(rt.alloc(), head.as_slice())?;
         let want = if reads {
             Ok(false)
         } else {
@@ -208,54 +218,104 @@ fn writes_requests(rt: HostRuntime) -> Result<(), Fail> {
     Ok(())
 }
 
-const REPLIES: [(&[u8], Option<(u16, &str, &str)>); 16] = [
+/// What is read, and what the reply is: its status, its field `Allow` and its body, which `|` parts, or that it is none.
+const REPLIES: [(&[u8], &str); 16] = [
     (
         b"HTTP/1.1 200 OK\r\nContent-Length: 3\r\nContent-Type: application/json\r\n\r\n[]\nHTTP",
-        Some((200, "none", "[]\n")),
+        "200|none|[]\n",
     ),
-    (
-        b"HTTP/1.0 404\ncontent-length:0\n\n",
-        Some((404, "none", "")),
-    ),
+    (b"HTTP/1.0 404\ncontent-length:0\n\n", "404|none|"),
     (
         b"HTTP/1.1 405 No\r\nAllow: \tGET, POST \r\nAllow: PUT\r\nContent-Length: 2\r\n\r\n{}",
-        Some((405, "GET, POST", "{}")),
+        "405|GET, POST|{}",
     ),
     (
         b"HTTP/1.1 405 No\r\nAllow: \xff\r\nContent-Length: 2\r\n\r\n{}",
-        Some((405, "none", "{}")),
+        "405|none|{}",
     ),
-    (
-        b"HTTP/1.1 204 No Content\r\n\r\nrest",
-        Some((204, "none", "")),
-    ),
+    (b"HTTP/1.1 204 No Content\r\n\r\nrest", "204|none|"),
     (
         b"HTTP/1.1 204 No Content\r\nContent-Length: 4\r\n\r\nrest",
-        Some((204, "none", "")),
+        "204|none|",
     ),
-    (b"", None),
-    (b"HTTP/1.1 2", None),
-    (b"HTTP/1.1 200 OK\r\n\r\n", None),
-    (b"HTTP/1.1 200 OK\r\nContent-Length: 3\r\n\r\n[]", None),
+    (b"", "BadReply"),
+    (b"HTTP/1.1 2", "BadReply"),
+    (b"HTTP/1.1 200 OK\r\n\r\n", "BadReply"),
+    (
+        b"HTTP/1.1 200 OK\r\nContent-Length: 3\r\n\r\n[]",
+        "BadReply",
+    ),
     (
         b"HTTP/1.1 200 OK\r\nContent-Length: 2\r\nContent-Length: 2\r\n\r\n[]",
-        None,
+        "BadReply",
     ),
     (
         b"HTTP/1.1 200 OK\r\nContent-Length: 134217729\r\n\r\n[]",
-        None,
+        "BadReply",
     ),
     (
         b"HTTP/1.1 204 No Content\r\nContent-Length: 134217729\r\n\r\n",
-        None,
+        "BadReply",
     ),
     (
         b"HTTP/1.1 204 No Content\r\nContent-Length: x\r\n\r\n",
-        None,
+        "BadReply",
     ),
-    (b"HTTP/2.0 200 OK\r\nContent-Length: 2\r\n\r\n[]", None),
-    (b"GET / HTTP/1.1\r\nContent-Length: 2\r\n\r\n[]", None),
+    (
+        b"HTTP/2.0 200 OK\r\nContent-Length: 2\r\n\r\n[]",
+        "BadReply",
+    ),
+    (b"GET / HTTP/1.1\r\nContent-Length: 2\r\n\r\n[]", "BadReply"),
 ];
+
+/// Adds what a reply is.
+fn push_reply(alloc: Global, text: &mut String, reply: &Response) -> Result<(), Fail> {
+    let allow = match &reply.allow {
+        Some(methods) => methods.as_str(),
+        None => "none",
+    };
+    let body = std::str::from_utf8(reply.body.as_slice()).unwrap_or("no text");
+    let status = reply.status;
+    text.push_str(format!(in alloc; "{status}|{allow}|{body}")?.as_str())?;
+    Ok(())
+}
+
+/// Adds what the next reply of a source is, or why there is none.
+fn push_next(
+    alloc: Global,
+    text: &mut String,
+    source: &mut MemSource,
+    buffer: &mut Buffer,
+) -> Result<(), Fail> {
+    match next_response(alloc, source, buffer) {
+        Ok(reply) => push_reply(alloc, text, &reply),
+        Err(ReplyEnd::ReadFault) => {
+            text.push_str("ReadFault, then ")?;
+            Ok(())
+        }
+        Err(end) => {
+            text.push_str(format!(in alloc; "{end:?}")?.as_str())?;
+            Ok(())
+        }
+    }
+}
+
+/// What is read so many times of a source.
+fn replies(
+    alloc: Global,
+    bytes: &[u8],
+    failing: &[u64],
+    pieces: &[u64],
+    times: usize,
+) -> Result<String, Fail> {
+    let mut source = source_of(alloc, bytes, failing, pieces)?;
+    let mut buffer = Buffer::new(alloc)?;
+    let mut text = String::new(alloc);
+    for _ in 0..times {
+        push_next(alloc, &mut text, &mut source, &mut buffer)?;
+    }
+    Ok(text)
+}
 
 #[test]
 fn reads_replies_in_any_pieces(rt: HostRuntime) -> Result<(), Fail> {
@@ -263,38 +323,17 @@ fn reads_replies_in_any_pieces(rt: HostRuntime) -> Result<(), Fail> {
         for piece in [1, 3, 1000] {
             let mut pieces = Vec::new(rt.alloc());
             pieces.resize(200, piece)?;
-            let mut source = source_of(rt.alloc(), bytes, &[], pieces.as_slice())?;
-            let mut buffer = Buffer::new(rt.alloc())?;
-            match (next_response(rt.alloc(), &mut source, &mut buffer), want) {
-                (Ok(response), Some((status, allow, body))) => {
-                    assert_eq!(rt; response.status, status);
-                    let told = response
-                        .allow
-                        .as_ref()
-                        .map_or("none", |methods| methods.as_str());
-                    assert_eq!(rt; told, allow);
-                    assert_eq!(rt; response.body.as_slice(), body.as_bytes());
-                }
-                (answer, want) => {
-                    assert_eq!(rt;
-                        answer.map(|response| response.status),
-                        Err(ReplyEnd::BadReply)
-                    );
-                    assert!(rt; want.is_none());
-                }
-            }
+            let text = replies(rt.alloc(), bytes, &[], pieces.as_slice(), 1)?;
+            assert_eq!(rt; text.as_str(), want);
         }
     }
-    let mut source = source_of(
-        rt.alloc(),
-        b"HTTP/1.1 200 OK\r\nContent-Length: 2\r\n\r\n[]",
-        &[2],
-        &[9],
-    )?;
-    let mut buffer = Buffer::new(rt.alloc())?;
-    let first = next_response(rt.alloc(), &mut source, &mut buffer).map(|response| response.status);
-    assert_eq!(rt; first, Err(ReplyEnd::ReadFault));
-    let again = next_response(rt.alloc(), &mut source, &mut buffer).map(|response| response.status);
-    assert_eq!(rt; again, Ok(200));
+    Ok(())
+}
+
+#[test]
+fn reads_a_reply_after_a_fault(rt: HostRuntime) -> Result<(), Fail> {
+    let bytes = b"HTTP/1.1 200 OK\r\nContent-Length: 2\r\n\r\n[]";
+    let text = replies(rt.alloc(), bytes, &[2], &[9], 2)?;
+    assert_eq!(rt; text.as_str(), "ReadFault, then 200|none|[]");
     Ok(())
 }

@@ -112,6 +112,40 @@ struct Outcome {
     entries: List<usize>,
 }
 
+impl Outcome {
+    /// Whether the session ended so, with this written and these entries.
+    fn is(&self, end: SessionEnd, text: &[u8], entries: &[usize]) -> bool {
+        self.end == end && self.text.as_slice() == text && self.entries.as_slice() == entries
+    }
+
+    /// Whether the session ended so, with so many bytes written and so many entries.
+    fn has(&self, end: SessionEnd, size: usize, entries: usize) -> bool {
+        self.end == end && self.text.len() == size && self.entries.len() == entries
+    }
+}
+
+/// A source of these bytes in pieces of this size, of whose reads these fail.
+fn source_of(
+    alloc: Global,
+    bytes: &[u8],
+    piece: u64,
+    reads: &[u64],
+) -> Result<MemSource, AllocError> {
+    let mut pieces = Vec::new(alloc);
+    pieces.resize(bytes.len(), piece)?;
+    let pieces = List::from_vec(pieces);
+    let bytes = list_of(alloc, bytes)?;
+    let reads = list_of(alloc, reads)?;
+    Ok(MemSource::new(bytes, reads, pieces))
+}
+
+/// What a service and a sink hold when a session has ended.
+fn ended(alloc: Global, end: SessionEnd, taken: &[u8], echo: Echo) -> Result<Outcome, AllocError> {
+    let Echo { alloc: _, entries } = echo;
+    let text = Vec::from_slice(alloc, taken)?;
+    Ok(Outcome { end, text, entries })
+}
+
 /// Serves these bytes, which come in pieces of this size. `reads` and `writes` list the calls that are to fail.
 fn served(
     alloc: Global,
@@ -121,24 +155,43 @@ fn served(
     room: u64,
     writes: &[u64],
 ) -> Result<Outcome, AllocError> {
-    let mut pieces = Vec::new(alloc);
-    pieces.resize(bytes.len(), piece)?;
-    let mut source = MemSource::new(
-        list_of(alloc, bytes)?,
-        list_of(alloc, reads)?,
-        List::from_vec(pieces),
-    );
+    let mut source = source_of(alloc, bytes, piece, reads)?;
     let mut sink = MemSink::new(alloc, room, list_of(alloc, writes)?);
     let mut echo = Echo {
         alloc,
         entries: List::new(alloc),
     };
     let end = serve(alloc, &mut echo, &mut source, &mut sink);
-    Ok(Outcome {
-        end,
-        text: Vec::from_slice(alloc, sink.taken())?,
-        entries: echo.entries,
-    })
+    ended(alloc, end, sink.taken(), echo)
+}
+
+/// A link with these bytes to read, whose reads give at most as many as the pieces say and of whose calls these fail.
+fn link_of(
+    alloc: Global,
+    bytes: &[u8],
+    failing: &[u64],
+    pieces: &[u64],
+) -> Result<MemLink, OutOfMemory> {
+    let bytes = list_of(alloc, bytes)?;
+    let failing = list_of(alloc, failing)?;
+    let pieces = list_of(alloc, pieces)?;
+    MemLink::new(alloc, bytes, 10_000, failing, pieces)
+}
+
+/// Serves these bytes over a link.
+fn served_over_link(
+    alloc: Global,
+    bytes: &[u8],
+    failing: &[u64],
+    pieces: &[u64],
+) -> Result<Outcome, Fail> {
+    let mut link = link_of(alloc, bytes, failing, pieces)?;
+    let mut echo = Echo {
+        alloc,
+        entries: List::new(alloc),
+    };
+    let end = serve_link(alloc, &mut echo, &mut link);
+    Ok(ended(alloc, end, link.taken(), echo)?)
 }
 
 const OPEN_A: &str =
@@ -227,13 +280,10 @@ fn serves_in_any_pieces(rt: HostRuntime) -> Result<(), Fail> {
     for (bytes, end, text, entries) in SESSIONS {
         for piece in [1, 2, 3, 7, 1000] {
             let session = served(rt.alloc(), bytes, piece, &[], 10_000, &[])?;
-            assert_eq!(rt; session.end, end, "in pieces of {piece}");
-            assert_eq!(rt;
-                session.text.as_slice(),
-                text.as_bytes(),
-                "in pieces of {piece}"
+            assert!(rt;
+                session.is(end, text.as_bytes(), entries),
+                "{text} in pieces of {piece}"
             );
-            assert_eq!(rt; session.entries.as_slice(), entries);
         }
     }
     Ok(())
@@ -245,24 +295,18 @@ fn ends_at_each_fault(rt: HostRuntime) -> Result<(), Fail> {
     // One byte a read: the first request has 19.
     for (read, replies) in [(1, 0), (19, 0), (20, 1), (38, 1), (39, 2)] {
         let session = served(rt.alloc(), two, 1, &[read], 10_000, &[])?;
-        assert_eq!(rt; session.end, SessionEnd::ReadFault, "at read {read}");
-        assert_eq!(rt;
-            session.text.len(),
-            replies * OPEN_A.len(),
+        assert!(rt;
+            session.has(SessionEnd::ReadFault, replies * OPEN_A.len(), replies),
             "at read {read}"
         );
-        assert_eq!(rt; session.entries.len(), replies, "at read {read}");
     }
     // One write a reply.
     for (write, replies) in [(1, 0), (2, 1)] {
         let session = served(rt.alloc(), two, 1000, &[], 10_000, &[write])?;
-        assert_eq!(rt; session.end, SessionEnd::WriteFault, "at write {write}");
-        assert_eq!(rt;
-            session.text.len(),
-            replies * OPEN_A.len(),
+        assert!(rt;
+            session.has(SessionEnd::WriteFault, replies * OPEN_A.len(), replies + 1),
             "at write {write}"
         );
-        assert_eq!(rt; session.entries.len(), replies + 1, "at write {write}");
     }
     let session = served(rt.alloc(), two, 1000, &[], 10_000, &[3])?;
     assert_eq!(rt; session.end, SessionEnd::Closed);
@@ -271,41 +315,37 @@ fn ends_at_each_fault(rt: HostRuntime) -> Result<(), Fail> {
 
 #[test]
 fn writes_what_there_is_room_for(rt: HostRuntime) -> Result<(), Fail> {
-    let session = served(rt.alloc(), b"GET /a HTTP/1.1\r\n\r\n", 1000, &[], 10, &[])?;
-    assert_eq!(rt; session.end, SessionEnd::WriteFault);
-    assert_eq!(rt; session.text.as_slice(), b"HTTP/1.1 2".as_slice());
-    let session = served(rt.alloc(), b"G", 1000, &[], 10, &[])?;
-    assert_eq!(rt; session.end, SessionEnd::WriteFault);
-    assert_eq!(rt; session.text.as_slice(), b"HTTP/1.1 4".as_slice());
-    let session = served(
-        rt.alloc(),
-        b"GET /before HTTP/1.1\r\n\r\n",
-        1000,
-        &[],
-        10,
-        &[],
-    )?;
-    assert_eq!(rt; session.end, SessionEnd::OutOfMemory);
-    assert_eq!(rt; session.text.as_slice(), b"HTTP/1.1 5".as_slice());
+    for (bytes, end, text, entries) in [
+        (
+            b"GET /a HTTP/1.1\r\n\r\n".as_slice(),
+            SessionEnd::WriteFault,
+            b"HTTP/1.1 2".as_slice(),
+            [2].as_slice(),
+        ),
+        (
+            b"G".as_slice(),
+            SessionEnd::WriteFault,
+            b"HTTP/1.1 4".as_slice(),
+            [].as_slice(),
+        ),
+        (
+            b"GET /before HTTP/1.1\r\n\r\n".as_slice(),
+            SessionEnd::OutOfMemory,
+            b"HTTP/1.1 5".as_slice(),
+            [].as_slice(),
+        ),
+    ] {
+        let session = served(rt.alloc(), bytes, 1000, &[], 10, &[])?;
+        assert!(rt; session.is(end, text, entries));
+    }
     Ok(())
 }
 
 #[test]
 fn serves_a_link(rt: HostRuntime) -> Result<(), Fail> {
-    for (bytes, end, text, _) in SESSIONS {
-        let mut link = MemLink::new(
-            rt.alloc(),
-            list_of(rt.alloc(), bytes)?,
-            10_000,
-            List::new(rt.alloc()),
-            list_of(rt.alloc(), &[5, 1, 40])?,
-        )?;
-        let mut echo = Echo {
-            alloc: rt.alloc(),
-            entries: List::new(rt.alloc()),
-        };
-        assert_eq!(rt; serve_link(rt.alloc(), &mut echo, &mut link), end);
-        assert_eq!(rt; link.taken(), text.as_bytes());
+    for (bytes, end, text, entries) in SESSIONS {
+        let session = served_over_link(rt.alloc(), bytes, &[], &[5, 1, 40])?;
+        assert!(rt; session.is(end, text.as_bytes(), entries), "{text}");
     }
     // A failed call is the link's, be it a read or a write.
     for (call, end) in [
@@ -313,18 +353,9 @@ fn serves_a_link(rt: HostRuntime) -> Result<(), Fail> {
         (2, SessionEnd::WriteFault),
         (3, SessionEnd::ReadFault),
     ] {
-        let mut link = MemLink::new(
-            rt.alloc(),
-            list_of(rt.alloc(), b"GET /a HTTP/1.1\r\n\r\n")?,
-            10_000,
-            list_of(rt.alloc(), &[call])?,
-            List::new(rt.alloc()),
-        )?;
-        let mut echo = Echo {
-            alloc: rt.alloc(),
-            entries: List::new(rt.alloc()),
-        };
-        assert_eq!(rt; serve_link(rt.alloc(), &mut echo, &mut link), end);
+        let bytes = b"GET /a HTTP/1.1\r\n\r\n";
+        let session = served_over_link(rt.alloc(), bytes, &[call], &[])?;
+        assert_eq!(rt; session.end, end);
     }
     Ok(())
 }

@@ -61,20 +61,40 @@ const DOCUMENTS: [(&str, usize, usize, usize, &str); 7] = [
     ),
 ];
 
+/// What is read of a document's last interface: how many contents, schemas and parents it has, and its pointer.
+#[derive(Drop)]
+struct Last {
+    counts: [usize; 3],
+    base: String,
+}
+
+fn last_of(alloc: Global, uploads: &[Uploaded]) -> Result<Last, Fail> {
+    let Some(last) = uploads.last() else {
+        return Err(Fail::from("no interface"));
+    };
+    let interface = &last.interface;
+    Ok(Last {
+        counts: [
+            interface.contents.len(),
+            interface.schemas.len(),
+            interface.parents.len(),
+        ],
+        base: String::from_str(alloc, last.base.as_str())?,
+    })
+}
+
+fn read_last(alloc: Global, text: &str) -> Result<Last, Fail> {
+    let tree = json_read::read(alloc, text.as_bytes())?;
+    let uploads = read_interfaces(alloc, &tree, 1)?;
+    last_of(alloc, uploads.as_slice())
+}
+
 #[test]
 fn reads_every_kind_of_element(rt: HostRuntime) -> Result<(), Fail> {
     for (text, contents, schemas, parents, base) in DOCUMENTS {
-        let tree = json_read::read(rt.alloc(), text.as_bytes())?;
-        let uploads = read_interfaces(rt.alloc(), &tree, 1)?;
-        let last = uploads.as_slice().last();
-        assert_eq!(rt;
-            last.map(|u| u.interface.contents.len()),
-            Some(contents),
-            "{text}"
-        );
-        assert_eq!(rt; last.map(|u| u.interface.schemas.len()), Some(schemas));
-        assert_eq!(rt; last.map(|u| u.interface.parents.len()), Some(parents));
-        assert_eq!(rt; last.map(|u| u.base.as_str()), Some(base));
+        let last = read_last(rt.alloc(), text)?;
+        assert_eq!(rt; last.counts, [contents, schemas, parents], "{text}");
+        assert_eq!(rt; last.base.as_str(), base);
     }
     Ok(())
 }
@@ -111,19 +131,36 @@ fn readable(alloc: Global, shown: &str) -> Result<String, Fail> {
     Ok(out)
 }
 
+/// What is shown of a record.
+fn shown(alloc: Global, uploaded: &Uploaded) -> Result<String, Fail> {
+    let text = format!(in alloc; "{uploaded:?}")?;
+    readable(alloc, text.as_str())
+}
+
+/// What is shown of a copy of a record.
+fn shown_copy(alloc: Global, uploaded: &Uploaded) -> Result<String, Fail> {
+    let copy = uploaded.copy(alloc)?;
+    shown(alloc, &copy)
+}
+
+/// What is shown of the records of a document, and of their copies.
+fn shown_twice(alloc: Global, text: &str) -> Result<(String, String), Fail> {
+    let tree = json_read::read(alloc, text.as_bytes())?;
+    let uploads = read_interfaces(alloc, &tree, 1)?;
+    let mut records = String::new(alloc);
+    let mut copies = String::new(alloc);
+    for uploaded in uploads.as_slice() {
+        records.push_str(shown(alloc, uploaded)?.as_str())?;
+        copies.push_str(shown_copy(alloc, uploaded)?.as_str())?;
+    }
+    Ok((records, copies))
+}
+
 #[test]
 fn copies_every_kind_of_element(rt: HostRuntime) -> Result<(), Fail> {
-    let alloc = rt.alloc();
     for (text, ..) in DOCUMENTS {
-        let tree = json_read::read(alloc, text.as_bytes())?;
-        for uploaded in read_interfaces(alloc, &tree, 1)?.as_slice() {
-            let copy = uploaded.copy(alloc)?;
-            let got = format!(in alloc; "{copy:?}")?;
-            let want = format!(in alloc; "{uploaded:?}")?;
-            let got = readable(alloc, got.as_str())?;
-            let want = readable(alloc, want.as_str())?;
-            assert_eq!(rt; got.as_str(), want.as_str());
-        }
+        let (records, copies) = shown_twice(rt.alloc(), text)?;
+        assert_eq!(rt; copies.as_str(), records.as_str());
     }
     Ok(())
 }
@@ -148,15 +185,21 @@ const BREACHES: [(&str, &[u64], &str); 4] = [
     ),
 ];
 
+/// The place and the code of the first breach of a document.
+fn breach_of(alloc: Global, text: &str) -> Result<(List<u64>, &'static str), Fail> {
+    let tree = json_read::read(alloc, text.as_bytes())?;
+    match local_faults::first_breach(alloc, &tree)? {
+        Some(breach) => Ok((breach.place.steps, breach.rule.text())),
+        None => Err(Fail::from("no breach")),
+    }
+}
+
 #[test]
 fn finds_the_first_breach(rt: HostRuntime) -> Result<(), Fail> {
     for (text, place, code) in BREACHES {
-        let tree = json_read::read(rt.alloc(), text.as_bytes())?;
-        let Some(breach) = local_faults::first_breach(rt.alloc(), &tree)? else {
-            panic!(rt; "no breach in {text}")
-        };
-        assert_eq!(rt; breach.place.steps.as_slice(), place);
-        assert_eq!(rt; breach.rule.text(), code);
+        let (steps, rule) = breach_of(rt.alloc(), text)?;
+        assert_eq!(rt; steps.as_slice(), place, "{text}");
+        assert_eq!(rt; rule, code);
     }
     Ok(())
 }

@@ -1,6 +1,6 @@
 //! Every field of a read record, printed once, with neighbours that differ.
 
-use super::readable;
+use super::shown;
 use model_read::read_interfaces;
 use std::alloc::Global;
 use std::test::Fail;
@@ -89,17 +89,20 @@ fn joined(alloc: Global, pieces: &[&str]) -> Result<String, Fail> {
     Ok(text)
 }
 
-#[test]
-fn prints_every_field(rt: HostRuntime) -> Result<(), Fail> {
-    let alloc = rt.alloc();
+/// What is shown of the last interface of the document.
+fn shown_last(alloc: Global) -> Result<String, Fail> {
     let tree = json_read::read(alloc, DOCUMENT.as_bytes())?;
     let uploads = read_interfaces(alloc, &tree, 9)?;
-    let Some(uploaded) = uploads.as_slice().last() else {
-        panic!(rt; "the document declares two interfaces")
-    };
-    let shown = format!(in alloc; "{uploaded:?}")?;
-    let got = readable(alloc, shown.as_str())?;
-    let want = joined(alloc, &RECORD)?;
+    match uploads.as_slice().last() {
+        Some(uploaded) => shown(alloc, uploaded),
+        None => Err(Fail::from("no interface")),
+    }
+}
+
+#[test]
+fn prints_every_field(rt: HostRuntime) -> Result<(), Fail> {
+    let got = shown_last(rt.alloc())?;
+    let want = joined(rt.alloc(), &RECORD)?;
     assert_eq!(rt; got.as_str(), want.as_str());
     Ok(())
 }
