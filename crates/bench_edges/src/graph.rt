@@ -31,16 +31,28 @@ pub struct Query {
 impl Graph {
     /// The texts for so many edges, of which there are four for each twin. Fails only for want of memory.
     pub fn new(alloc: Global, edges: u64, near: bool) -> Result<Graph, OutOfMemory> {
-        let mut twins = Vec::new(alloc);
-        for k in 0..edges / EDGES_EACH {
-            twins.push(Text::from_string(format!(in alloc; "twin-{k:07}")?))?;
-        }
-        let mut names = Vec::new(alloc);
-        for name in ["contains", "feeds", "controls", "isNextTo"] {
-            names.push(Text::from_str(alloc, name)?)?;
-        }
+        let twins = twins_of(alloc, edges / EDGES_EACH)?;
+        let names = names_of(alloc)?;
         Ok(Graph { twins, names, near })
     }
+}
+
+/// The ids of so many twins. Fails only for want of memory.
+fn twins_of(alloc: Global, count: u64) -> Result<Vec<Text>, OutOfMemory> {
+    let mut twins = Vec::new(alloc);
+    for k in 0..count {
+        twins.push(Text::from_string(format!(in alloc; "twin-{k:07}")?))?;
+    }
+    Ok(twins)
+}
+
+/// The names of relationships. Fails only for want of memory.
+fn names_of(alloc: Global) -> Result<Vec<Text>, OutOfMemory> {
+    let mut names = Vec::new(alloc);
+    for name in ["contains", "feeds", "controls", "isNextTo"] {
+        names.push(Text::from_str(alloc, name)?)?;
+    }
+    Ok(names)
 }
 
 /// A number that looks like chance.
@@ -84,6 +96,27 @@ pub fn edge_of(alloc: Global, graph: &Graph, k: u64) -> Result<Edge<u64>, OutOfM
     })
 }
 
+/// What an edge is looked up by. Fails only for want of memory.
+fn query_of(alloc: Global, edge: &Edge<u64>) -> Result<Query, OutOfMemory> {
+    let source = edge.source.copy(alloc)?;
+    let id = edge.id.copy(alloc)?;
+    Ok(Query { source, id })
+}
+
+/// Appends the edge of a number, and what it is looked up by. Fails as `pick` does.
+fn add(
+    alloc: Global,
+    graph: &Graph,
+    k: u64,
+    made: &mut Vec<Edge<u64>>,
+    queries: &mut Vec<Query>,
+) -> Result<(), OutOfMemory> {
+    let edge = edge_of(alloc, graph, k)?;
+    queries.push(query_of(alloc, &edge)?)?;
+    made.push(edge)?;
+    Ok(())
+}
+
 /// So many edges, and what each is looked up by, in the order of their numbers. Fails as `pick` does.
 pub fn queries_of(
     alloc: Global,
@@ -93,12 +126,7 @@ pub fn queries_of(
     let mut made = Vec::new(alloc);
     let mut queries = Vec::new(alloc);
     for k in 0..edges {
-        let edge = edge_of(alloc, graph, k)?;
-        queries.push(Query {
-            source: edge.source.copy(alloc)?,
-            id: edge.id.copy(alloc)?,
-        })?;
-        made.push(edge)?;
+        add(alloc, graph, k, &mut made, &mut queries)?;
     }
     Ok((made, queries))
 }

@@ -101,6 +101,21 @@ fn tell(
     Ok(Instant::now(rt)?)
 }
 
+/// Runs the parts that leave the edges where they are, and prints each; answers when the next part starts.
+fn run_reads(
+    rt: &(impl Print + Clock),
+    rels: &Rels<u64>,
+    graph: &Graph,
+    queries: &[Query],
+    timed: bool,
+) -> anyhow::Result<Instant> {
+    let start = Instant::now(rt)?;
+    let start = tell(rt, "get", get_all(rels, queries), start, timed)?;
+    let start = tell(rt, "out", out_all(rels, graph), start, timed)?;
+    let start = tell(rt, "into", into_all(rels, graph), start, timed)?;
+    tell(rt, "count", count_all(rels, graph), start, timed)
+}
+
 /// Runs the parts one after another, and prints each.
 fn run(
     rt: &(impl Print + Clock),
@@ -114,15 +129,8 @@ fn run(
     let mut rels = Rels::new(alloc);
     let start = Instant::now(rt)?;
     let sum = put_all(&mut rels, made)?;
-    let start = tell(rt, "put", sum, start, timed)?;
-    let sum = get_all(&rels, queries.as_slice());
-    let start = tell(rt, "get", sum, start, timed)?;
-    let sum = out_all(&rels, &graph);
-    let start = tell(rt, "out", sum, start, timed)?;
-    let sum = into_all(&rels, &graph);
-    let start = tell(rt, "into", sum, start, timed)?;
-    let sum = count_all(&rels, &graph);
-    let start = tell(rt, "count", sum, start, timed)?;
+    let _next = tell(rt, "put", sum, start, timed)?;
+    let start = run_reads(rt, &rels, &graph, queries.as_slice(), timed)?;
     let sum = remove_all(&mut rels, queries.as_slice());
     let _end = tell(rt, "remove", sum, start, timed)?;
     Ok(())
