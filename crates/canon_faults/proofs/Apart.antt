@@ -4,7 +4,7 @@ use Rattle.std.specs.Prelude.{slice_get}
 use Rattle.std.specs.List.{AllByRecursion}
 use Rattle.std.proofs.lemmas.Slice.Eq.{bytes_eq-Decides}
 use Rattle.json_tree.specs.Values.{Json, elements_of}
-use Rattle.local_rules.specs.Members.{list_of}
+use Rattle.json_tree.specs.Members.{list_of}
 use Rattle.local_rules.specs.Repeats.{holds_some, is_among, repeats}
 use Rattle.dtdl_terms.specs.Distinct.{AreDistinct}
 use Rattle.canon_text.specs.Sorting.{is_before, put_by, sorted_by}

@@ -12,7 +12,7 @@ use Rattle.json_tree.specs.Places.{element_at}
 use Rattle.dtdl_terms.specs.Terms.{SchemaTerm, PayloadTerm, ContentTerm, content, KindTerm, telemetry, property, command, relationship, component, ContentTerms, no_contents, more_contents}
 use Rattle.dtdl_terms.specs.Distinct.{AreDistinct, KindIsDistinct, ContentIsDistinct, ContentsAreDistinct, OptionalPayloadIsDistinct, SchemaIsDistinct, content_name, content_names}
 use Rattle.dtdl_terms.specs.declared.common.Common.{Common}
-use Rattle.local_rules.specs.Members.{list_of, members_in, text_in, value_at}
+use Rattle.json_tree.specs.Members.{list_of, members_in, text_in, value_at}
 use Rattle.local_rules.specs.Repeats.{name_in}
 use Rattle.local_rules.specs.Roles.{element_named, element_of, entry_role, key_of, position_of, type_in, type_of}
 use Rattle.local_rules.specs.Tables.{required}

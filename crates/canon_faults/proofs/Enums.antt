@@ -19,7 +19,7 @@ use Rattle.dtdl_terms.specs.declared.common.Common.{Common}
 use Rattle.dtdl_terms.specs.declared.enumeration.EnumEntry.{EnumEntry}
 use Rattle.dtdl_terms.specs.declared.enumeration.EnumValue.{EnumValue}
 use Rattle.dtdl_terms.specs.declared.enumeration.EnumValue.TheVariants as values
-use Rattle.local_rules.specs.Members.{list_of, text_in, value_at, value_in}
+use Rattle.json_tree.specs.Members.{list_of, text_in, value_at, value_in}
 use Rattle.local_rules.specs.Quantities.{IsNoneOf}
 use Rattle.local_rules.specs.Kinds.{is_of_kind, kind_of}
 use Rattle.local_rules.specs.Breaches.{BreaksAlone}

@@ -4,7 +4,7 @@ use Rattle.std.specs.List.{AllByRecursion}
 use Rattle.std.proofs.lemmas.Bool.{false≢true}
 use Rattle.json_decimal.specs.Number.{Number}
 use Rattle.json_tree.specs.Values.{Json, array, object, Elements, Members}
-use Rattle.local_rules.specs.Members.{list_of}
+use Rattle.json_tree.specs.Members.{list_of}
 use Rattle.local_rules.specs.Kinds.{MissingKey}
 use Rattle.local_rules.specs.Repeats.{repeats_text, repeats_name, repeats_value}
 use Rattle.local_rules.specs.Languages.{IsNoLanguage}

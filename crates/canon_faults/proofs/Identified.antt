@@ -13,7 +13,7 @@ use Rattle.dtdl_terms.specs.declared.enumeration.EnumEntry.{EnumEntry}
 use Rattle.dtdl_terms.specs.declared.interface.Interface.{Interface}
 use Rattle.dtdl_terms.specs.declared.schema.Schema.{Schema}
 use Rattle.dtdl_terms.specs.declared.uploaded.Uploaded.{Uploaded}
-use Rattle.local_rules.specs.Members.{list_of}
+use Rattle.json_tree.specs.Members.{list_of}
 use Rattle.local_rules.specs.declared.role.Position.{Position}
 use Rattle.local_rules.specs.declared.role.Position.TheVariants as position
 use Rattle.model_read.specs.Declarations.{AreKind, AreProperties, ArePayloads, DeclaresInterface, HasCommon, HasOptionalId, HasOptionalPayload, IsContent, IsContentEntry, IsEnumEntry, IsPayload, IsSchema}

@@ -13,7 +13,7 @@ use Rattle.dtdl_terms.specs.Distinct.{AreDistinct, ContentIsDistinct, HasDeclara
 use Rattle.dtdl_terms.specs.declared.content.Content.{Content}
 use Rattle.dtdl_terms.specs.declared.interface.Interface.{Interface}
 use Rattle.dtdl_terms.specs.declared.schema.Schema.{Schema}
-use Rattle.local_rules.specs.Members.{list_of, text_in, value_at}
+use Rattle.json_tree.specs.Members.{list_of, text_in, value_at}
 use Rattle.local_rules.specs.Repeats.{name_in}
 use Rattle.local_rules.specs.Roles.{entry_role, type_in}
 use Rattle.local_rules.specs.Breaches.{BreaksBySchemas}

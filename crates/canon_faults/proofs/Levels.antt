@@ -10,7 +10,7 @@ use Rattle.dtdl_terms.specs.TermViews.{schema_term}
 use Rattle.dtdl_terms.specs.Equality.{AnyByRecursion}
 use Rattle.dtdl_terms.specs.Distinct.{AreDistinct, schema_id}
 use Rattle.dtdl_terms.specs.declared.schema.Schema.{Schema}
-use Rattle.local_rules.specs.Members.{list_of, value_at}
+use Rattle.json_tree.specs.Members.{list_of, value_at}
 use Rattle.local_rules.specs.Identifiers.{OfText}
 use Rattle.local_rules.specs.Levels.{IsComplex, UnknownSchema, HasLevel, ReachesWithin, IsPrimitiveName, entries_at, entries_under, has_id, parts_by, schema_named, schema_parts, schema_type}
 use Rattle.local_rules.specs.Breaches.{BreaksBySchemas}

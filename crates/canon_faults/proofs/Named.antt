@@ -12,7 +12,7 @@ use Rattle.dtdl_terms.specs.Equality.{AnyByRecursion}
 use Rattle.dtdl_terms.specs.Distinct.{schema_id}
 use Rattle.dtdl_terms.specs.declared.common.Common.{Common}
 use Rattle.dtdl_terms.specs.declared.enumeration.EnumEntry.{EnumEntry}
-use Rattle.local_rules.specs.Members.{list_of, value_at, value_in, text_in}
+use Rattle.json_tree.specs.Members.{list_of, value_at, value_in, text_in}
 use Rattle.local_rules.specs.Roles.{type_in}
 use Rattle.local_rules.specs.Repeats.{holds_some}
 use Rattle.local_rules.specs.Levels.{has_id, parts_by, entries_under, schema_type}

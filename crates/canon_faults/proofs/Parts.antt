@@ -11,7 +11,7 @@ use Rattle.json_tree.specs.Places.{member_at}
 use Rattle.dtdl_terms.specs.declared.common.Common.{Common}
 use Rattle.dtdl_terms.specs.declared.common.Entry.{Entry}
 use Rattle.dtdl_terms.specs.declared.common.Localized.{Localized}
-use Rattle.local_rules.specs.Members.{pairs_of, value_at}
+use Rattle.json_tree.specs.Members.{pairs_of, value_at}
 use Rattle.local_rules.specs.Tables.{key_text, required}
 use Rattle.local_rules.specs.Roles.{element_of, id_role, key_of, key_role, member_role, role_of_key}
 use Rattle.local_rules.specs.Kinds.{LacksKeyOf, MissingKey, needed_keys}

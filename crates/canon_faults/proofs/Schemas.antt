@@ -12,7 +12,7 @@ use Rattle.dtdl_terms.specs.Primitives.{primitive_name}
 use Rattle.dtdl_terms.specs.Terms.{SchemaTerm, primitive, named, array_of, enumeration, map_of, object_of, PayloadTerm, payload, PayloadTerms, no_payloads, more_payloads}
 use Rattle.dtdl_terms.specs.Distinct.{AreDistinct, PayloadIsDistinct, PayloadsAreDistinct, SchemaIsDistinct, payload_name, payload_names}
 use Rattle.dtdl_terms.specs.declared.common.Common.{Common}
-use Rattle.local_rules.specs.Members.{text_in, value_at}
+use Rattle.json_tree.specs.Members.{text_in, value_at}
 use Rattle.local_rules.specs.Repeats.{name_in}
 use Rattle.local_rules.specs.Roles.{element_of, key_of, position_of, role_of_key, schema_role, type_in}
 use Rattle.local_rules.specs.Tables.{required}

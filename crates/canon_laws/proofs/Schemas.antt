@@ -5,7 +5,7 @@ use Rattle.std.specs.Option.{option_and_then, option_map}
 use Rattle.std.specs.List.{AllByRecursion, AllZip}
 use Rattle.json_decimal.specs.Number.{Number}
 use Rattle.json_tree.specs.Values.{Json, number, text, array, object, Elements, no_elements, element, Members, members_of}
-use Rattle.local_rules.specs.Members.{list_of}
+use Rattle.json_tree.specs.Members.{list_of}
 use Rattle.local_rules.specs.Roles.{type_in}
 use Rattle.local_rules.specs.declared.role.Position.TheVariants as position
 use Rattle.dtdl_terms.specs.Primitives.{primitive_name}

@@ -12,7 +12,7 @@ use Rattle.json_decimal.specs.Machinery.Sizes.{IsSize}
 use Rattle.json_decimal.proofs.Sizes.{above_from, below_from}
 use Rattle.json_decimal.proofs.Wholes.{whole_from_size, one_whole}
 use Rattle.json_tree.specs.Values.{Json, null, truth, number, text, array, object, Elements, elements_of, Members, members_of}
-use Rattle.local_rules.specs.Members.{list_of, pairs_of, value_at}
+use Rattle.json_tree.specs.Members.{list_of, pairs_of, value_at}
 use Rattle.dtdl_terms.specs.declared.common.Common.{Common}
 use Rattle.dtdl_terms.specs.declared.common.Entry.{Entry}
 use Rattle.dtdl_terms.specs.declared.common.Localized.{Localized}

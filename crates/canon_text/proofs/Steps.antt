@@ -1,7 +1,7 @@
 -- Trees grown one part at a time.
-use Rattle.std.proofs.Common.{◌≡◌, ℕ, List, [], ◌∷◌, ◌++◌, map, Option, Some, None, append_assoc, refl, sym, ap, ◌∙◌}
+use Rattle.std.proofs.Common.{◌≡◌, ℕ, ◌+◌, ◌<◌, List, [], ◌∷◌, ◌++◌, length, take, get_or, map, Option, Some, None, append_assoc, refl, sym, ap, ◌∙◌}
 use Rattle.std.specs.Prelude.{reverse}
-use Rattle.std.proofs.lemmas.List.{map-append, reverse-append, append-nil}
+use Rattle.std.proofs.lemmas.List.{map-append, map_more, reverse-append, append-nil}
 use Rattle.json_tree.specs.Values.{Json}
 use Rattle.json_tree.specs.View.{view, member_view}
 use Rattle.json_tree.specs.declared.tree.Tree.{Tree}
@@ -31,6 +31,16 @@ put_in members m key tree parts v named valued some same =
     ∙ ap (λ (p : List ℕ × Json). present parts ++ p ∷ []) (pair_same m.key key (view m.value) (view tree) named (ap view valued))
     ∙ ap (λ (o : Option Json). present parts ++ present ((key, o) ∷ [])) some
     ∙ sym (present_append parts ((key, v) ∷ []))
+
+-- ---- a named value that is added for one more item
+pub named_more : {A : Type 0} (pair : A → List ℕ × Json) (xs : List A) (i : ℕ) (x : A) (old new : List (List ℕ × Json)) (key : List ℕ) (v : Json)
+    → i < length xs → x ≡ get_or xs i x → old ≡ map pair (take i xs) → new ≡ old ++ (key, v) ∷ [] → key ≡ (pair x).0 → v ≡ (pair x).1
+    → new ≡ map pair (take (i + 1) xs)
+named_more pair xs i x old new key v low at so_far put named valued =
+    put
+    ∙ ap (λ (ms : List (List ℕ × Json)). ms ++ (key, v) ∷ []) so_far
+    ∙ ap (λ (p : List ℕ × Json). map pair (take i xs) ++ p ∷ []) (pair_same key (pair x).0 v (pair x).1 named valued ∙ ap pair at)
+    ∙ sym (map_more pair xs i x low)
 
 -- ---- values taken from the end of a list
 abbrev pub values_of : List Member → List Json

@@ -6,6 +6,7 @@ ghost use Rattle.json_tree.specs.Values.{text};
 ghost use Rattle.json_tree.specs.View.{view, member_view};
 ghost use Rattle.canon_text.specs.Canonical.{id_value, localized_value, entry_pair};
 
+use crate::parts::push_named;
 use crate::sorting::optional_object;
 use dt_base::names::{Dtmi, Name};
 use dt_base::{OutOfMemory, Text};
@@ -70,9 +71,8 @@ fn entries(alloc: Global, entries: &[Entry]) -> Result<Vec<Member>, OutOfMemory>
 {
     let mut members = Vec::with_capacity(alloc, entries.len())?;
     for entry in entries {
-        let key = entry.language.copy(alloc)?;
         let value = text(alloc, entry.text.as_str())?;
-        members.push(Member { key, value })?;
+        push_named(alloc, &mut members, entry.language.as_str(), value)?;
     }
     Ok(members)
 }

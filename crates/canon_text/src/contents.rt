@@ -11,10 +11,10 @@ ghost use Rattle.canon_text.specs.Objects.{present, object_of_parts, list_in_ord
 ghost use Rattle.canon_text.specs.Machinery.Pairs.{content_named, IsPut};
 
 use crate::kinds::{command, component, most, property, telemetry, writable};
-use crate::parts::{object, put, put_optional_id, put_text, typed_element};
+use crate::parts::{object, push_named, put, put_optional_id, put_text, typed_element};
 use crate::sorting::optional_list;
+use dt_base::OutOfMemory;
 use dt_base::names::Dtmi;
-use dt_base::{OutOfMemory, Text};
 use dtdl_terms::{Common, Content, ContentKind};
 use json_tree::{Member, Tree};
 use std::alloc::Global;
@@ -66,9 +66,9 @@ fn relationship(
 ) -> Result<Tree, OutOfMemory>
     ensures { IfOk result (λ tree. view tree ≡ content_value (content name.now common.now (relationship target.now (contents_term properties.now) bound marked))) }
 {
+    let head = relationship_head(alloc, name, common, bound)?;
     let properties = named_contents(alloc, properties)?;
     let properties = optional_list(alloc, properties)?;
-    let head = relationship_head(alloc, name, common, bound)?;
     let tree = relationship_of(alloc, head, properties, target, marked)?;
     Ok(tree)
 }
@@ -117,9 +117,8 @@ fn named_contents(alloc: Global, items: &[Content]) -> Result<Vec<Member>, OutOf
 {
     let mut members = Vec::with_capacity(alloc, items.len())?;
     for item in items {
-        let key = Text::from_str(alloc, item.name.as_str())?;
         let value = content(alloc, item)?;
-        members.push(Member { key, value })?;
+        push_named(alloc, &mut members, item.name.as_str(), value)?;
     }
     Ok(members)
 }

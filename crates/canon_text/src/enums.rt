@@ -7,9 +7,9 @@ ghost use Rattle.canon_text.specs.Objects.{list_in_order};
 
 use crate::common::text;
 use crate::numbers::of_integer;
-use crate::parts::{element, object, put, put_text};
+use crate::parts::{element, object, push_named, put, put_text};
 use crate::sorting::list_in_order;
-use dt_base::{OutOfMemory, Text};
+use dt_base::OutOfMemory;
 use dtdl_terms::{EnumEntry, EnumValue};
 use json_tree::{Member, Tree};
 use std::alloc::Global;
@@ -28,8 +28,8 @@ fn enum_value(alloc: Global, value: &EnumValue) -> Result<Tree, OutOfMemory>
 fn enum_entry(alloc: Global, entry: &EnumEntry) -> Result<Tree, OutOfMemory>
     ensures { IfOk result (λ tree. view tree ≡ enum_entry_value entry.now) }
 {
-    let value = enum_value(alloc, &entry.value)?;
     let mut members = element(alloc, None, &entry.common)?;
+    let value = enum_value(alloc, &entry.value)?;
     put(alloc, &mut members, "enumValue", Some(value))?;
     put_text(alloc, &mut members, "name", entry.name.as_str())?;
     Ok(object(members))
@@ -41,9 +41,8 @@ fn named_entries(alloc: Global, entries: &[EnumEntry]) -> Result<Vec<Member>, Ou
 {
     let mut members = Vec::with_capacity(alloc, entries.len())?;
     for entry in entries {
-        let key = Text::from_str(alloc, entry.name.as_str())?;
         let value = enum_entry(alloc, entry)?;
-        members.push(Member { key, value })?;
+        push_named(alloc, &mut members, entry.name.as_str(), value)?;
     }
     Ok(members)
 }

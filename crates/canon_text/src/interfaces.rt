@@ -11,11 +11,11 @@ ghost use Rattle.canon_text.specs.Machinery.Pairs.{IsPut};
 
 use crate::common::id;
 use crate::contents::put_contents;
-use crate::parts::{object, put, put_localized, put_optional_text, put_text};
+use crate::parts::{object, push_named, put, put_localized, put_optional_text, put_text};
 use crate::schemas::named_schemas;
 use crate::sorting::optional_list;
 use dt_base::names::Dtmi;
-use dt_base::{List, OutOfMemory, Text};
+use dt_base::{List, OutOfMemory};
 use dtdl_terms::{Interface, Schema};
 use json_tree::{Member, Tree, print};
 use std::alloc::Global;
@@ -26,9 +26,8 @@ fn named_parents(alloc: Global, items: &[Dtmi]) -> Result<Vec<Member>, OutOfMemo
 {
     let mut members = Vec::with_capacity(alloc, items.len())?;
     for item in items {
-        let key = Text::from_str(alloc, item.as_str())?;
         let value = id(alloc, item)?;
-        members.push(Member { key, value })?;
+        push_named(alloc, &mut members, item.as_str(), value)?;
     }
     Ok(members)
 }

@@ -3,7 +3,7 @@
 ghost use Rattle.std.specs.Prelude.{◌≡◌, [], ◌∷◌, ◌++◌, map, Some, codes, IfOk, OnOk};
 ghost use Rattle.std.specs.Option.{option_map};
 ghost use Rattle.json_tree.specs.View.{view, member_view};
-ghost use Rattle.json_tree.specs.Values.{text};
+ghost use Rattle.json_tree.specs.Values.{text, array, elements_of};
 ghost use Rattle.dtdl_terms.specs.Terms.{content, telemetry, property, command, component};
 ghost use Rattle.dtdl_terms.specs.TermViews.{schema_term, payload_term};
 ghost use Rattle.canon_text.specs.Canonical.{element_parts, content_value, schema_value, typed, writable_value, payload_value, most_value};
@@ -24,15 +24,20 @@ use std::alloc::Global;
 pub(crate) fn typed(alloc: Global, kind: &str, semantic: &Option<Name>) -> Result<Tree, OutOfMemory>
     ensures { IfOk result (λ tree. view tree ≡ typed kind.now semantic.now) }
 {
-    let kind = text(alloc, kind)?;
     match semantic {
-        Some(name) => {
-            let name = text(alloc, name.as_str())?;
-            let items = vec![in alloc; kind, name]?;
-            Ok(Tree::List(List::from_vec(items)))
-        }
-        None => Ok(kind),
+        Some(name) => two_texts(alloc, kind, name.as_str()),
+        None => text(alloc, kind),
     }
+}
+
+/// A list of two texts.
+fn two_texts(alloc: Global, first: &str, second: &str) -> Result<Tree, OutOfMemory>
+    ensures { IfOk result (λ tree. view tree ≡ array (elements_of (text first.now ∷ text second.now ∷ []))) }
+{
+    let mut items = List::from_vec(Vec::with_capacity(alloc, 2)?);
+    items.push(text(alloc, first)?)?;
+    items.push(text(alloc, second)?)?;
+    Ok(Tree::List(items))
 }
 
 /// The mark of what is writable.

@@ -15,6 +15,20 @@ use dtdl_terms::{Common, Localized};
 use json_tree::{Member, Tree};
 use std::alloc::Global;
 
+/// Adds a value under its name.
+pub(crate) fn push_named(
+    alloc: Global,
+    members: &mut Vec<Member>,
+    name: &str,
+    value: Tree,
+) -> Result<(), OutOfMemory>
+    ensures { OnOk result (map member_view members.new.items ≡ map member_view members.old.items ++ (name.now, view value) ∷ []) }
+{
+    let key = Text::from_str(alloc, name)?;
+    members.push(Member { key, value })?;
+    Ok(())
+}
+
 /// Adds a member, where it has a value.
 pub(crate) fn put(
     alloc: Global,

@@ -10,9 +10,9 @@ ghost use Rattle.canon_text.specs.Machinery.Pairs.{payload_named};
 
 use crate::common::{id, text};
 use crate::enums::{enum_entries, value_schema};
-use crate::parts::{element, object, put, put_text, typed_element};
+use crate::parts::{element, object, push_named, put, put_text, typed_element};
 use crate::sorting::list_in_order;
-use dt_base::{OutOfMemory, Text};
+use dt_base::OutOfMemory;
 use dtdl_terms::{Boxed, Common, EnumEntry, Payload, Schema};
 use json_tree::{Member, Tree};
 use std::alloc::Global;
@@ -26,10 +26,10 @@ fn enumeration(
 ) -> Result<Tree, OutOfMemory>
     ensures { IfOk result (λ tree. view tree ≡ schema_value (enumeration common.now of_text values.now)) }
 {
-    let values = enum_entries(alloc, values)?;
-    let kind = value_schema(alloc, of_text)?;
     let mut members = typed_element(alloc, "Enum", common)?;
+    let values = enum_entries(alloc, values)?;
     put(alloc, &mut members, "enumValues", Some(values))?;
+    let kind = value_schema(alloc, of_text)?;
     put(alloc, &mut members, "valueSchema", Some(kind))?;
     Ok(object(members))
 }
@@ -39,8 +39,8 @@ fn enumeration(
 fn array(alloc: Global, common: &Common, part: &Schema) -> Result<Tree, OutOfMemory>
     ensures { IfOk result (λ tree. view tree ≡ schema_value (array_of common.now (schema_term part.now))) }
 {
-    let part = schema(alloc, part)?;
     let mut members = typed_element(alloc, "Array", common)?;
+    let part = schema(alloc, part)?;
     put(alloc, &mut members, "elementSchema", Some(part))?;
     Ok(object(members))
 }
@@ -60,9 +60,9 @@ fn map_schema(alloc: Global, common: &Common, key: Tree, value: Tree) -> Result<
 fn object_schema(alloc: Global, common: &Common, fields: &[Payload]) -> Result<Tree, OutOfMemory>
     ensures { IfOk result (λ tree. view tree ≡ schema_value (object_of common.now (payloads_term fields.now))) }
 {
+    let mut members = typed_element(alloc, "Object", common)?;
     let fields = payloads(alloc, fields)?;
     let fields = list_in_order(alloc, fields)?;
-    let mut members = typed_element(alloc, "Object", common)?;
     put(alloc, &mut members, "fields", Some(fields))?;
     Ok(object(members))
 }
@@ -98,9 +98,9 @@ pub(crate) fn schema(alloc: Global, value: &Schema) -> Result<Tree, OutOfMemory>
 pub(crate) fn payload(alloc: Global, item: &Payload) -> Result<Tree, OutOfMemory>
     ensures { IfOk result (λ tree. view tree ≡ payload_value (payload_term item.now)) }
 {
-    let kind = schema(alloc, &item.schema)?;
     let mut members = element(alloc, None, &item.common)?;
     put_text(alloc, &mut members, "name", item.name.as_str())?;
+    let kind = schema(alloc, &item.schema)?;
     put(alloc, &mut members, "schema", Some(kind))?;
     Ok(object(members))
 }
@@ -120,9 +120,8 @@ fn payloads(alloc: Global, items: &[Payload]) -> Result<Vec<Member>, OutOfMemory
 {
     let mut members = Vec::with_capacity(alloc, items.len())?;
     for item in items {
-        let key = Text::from_str(alloc, item.name.as_str())?;
         let value = payload(alloc, item)?;
-        members.push(Member { key, value })?;
+        push_named(alloc, &mut members, item.name.as_str(), value)?;
     }
     Ok(members)
 }
@@ -156,9 +155,8 @@ pub(crate) fn named_schemas(alloc: Global, items: &[Schema]) -> Result<Vec<Membe
 {
     let mut members = Vec::with_capacity(alloc, items.len())?;
     for item in items {
-        let key = Text::from_str(alloc, own_id(item))?;
         let value = schema(alloc, item)?;
-        members.push(Member { key, value })?;
+        push_named(alloc, &mut members, own_id(item), value)?;
     }
     Ok(members)
 }

@@ -10,6 +10,7 @@ ghost use Rattle.canon_text.specs.Sorting.{sorted_by};
 ghost use Rattle.canon_text.specs.Machinery.Pairs.{pair_name, pair_at};
 
 use crate::interfaces::canon_tree;
+use crate::parts::push_named;
 use crate::sorting::list_in_order;
 use dt_base::{List, OutOfMemory, Text};
 use dtdl_terms::Interface;
@@ -22,9 +23,8 @@ fn named_interfaces(alloc: Global, items: &[Interface]) -> Result<Vec<Member>, O
 {
     let mut members = Vec::with_capacity(alloc, items.len())?;
     for item in items {
-        let key = Text::from_str(alloc, item.id.as_str())?;
         let value = canon_tree(alloc, item)?;
-        members.push(Member { key, value })?;
+        push_named(alloc, &mut members, item.id.as_str(), value)?;
     }
     Ok(members)
 }

@@ -2,6 +2,7 @@
 
 ghost use Rattle.std.specs.Prelude.{◌≡◌, IfOk};
 
+use crate::copies::copy_all;
 use crate::options::{copy_id, copy_text};
 use dt_base::names::Dtmi;
 use dt_base::{List, OutOfMemory, Text};
@@ -38,19 +39,9 @@ impl Localized {
     pub fn copy(&self, alloc: Global) -> Result<Localized, OutOfMemory>
         ensures { IfOk result (λ copy. copy ≡ self.now) }
     {
-        let entries = copy_entries(alloc, self.entries.as_slice())?;
+        let entries = copy_all(alloc, self.entries.as_slice())?;
         Ok(Localized { entries })
     }
-}
-
-fn copy_entries(alloc: Global, entries: &[Entry]) -> Result<List<Entry>, OutOfMemory>
-    ensures { IfOk result (λ copies. copies ≡ entries.now) }
-{
-    let mut copies = Vec::with_capacity(alloc, entries.len())?;
-    for entry in entries {
-        copies.push(entry.copy(alloc)?)?;
-    }
-    Ok(List::from_vec(copies))
 }
 
 /// What every element may have: its identifier, its comment, its description and its display name

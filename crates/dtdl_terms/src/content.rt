@@ -135,9 +135,9 @@ fn copy_telemetry(
 ) -> Result<ContentKind, OutOfMemory>
     ensures { IfOk result (λ copy. copy ≡ ContentKind.Telemetry schema.now semantic.now unit.now) }
 {
-    let schema = schema.copy(alloc)?;
     let semantic = copy_name(alloc, semantic)?;
     let unit = copy_name(alloc, unit)?;
+    let schema = schema.copy(alloc)?;
     Ok(ContentKind::Telemetry {
         schema,
         semantic,
@@ -155,9 +155,9 @@ fn copy_property(
 ) -> Result<ContentKind, OutOfMemory>
     ensures { IfOk result (λ copy. copy ≡ ContentKind.Property schema.now semantic.now unit.now writable) }
 {
-    let schema = schema.copy(alloc)?;
     let semantic = copy_name(alloc, semantic)?;
     let unit = copy_name(alloc, unit)?;
+    let schema = schema.copy(alloc)?;
     Ok(ContentKind::Property {
         schema,
         semantic,

@@ -4,7 +4,7 @@ ghost use Rattle.std.specs.Prelude.{◌≡◌, IfOk};
 
 use crate::common::Common;
 use dt_base::names::Name;
-use dt_base::{List, OutOfMemory, Text};
+use dt_base::{OutOfMemory, Text};
 use std::alloc::Global;
 
 /// The value of an entry of an enumeration (DTDL v2, "EnumValue", the property `enumValue`).
@@ -40,26 +40,12 @@ impl EnumEntry {
         ensures { IfOk result (λ copy. copy ≡ self.now) }
     {
         let name = self.name.copy(alloc)?;
-        let common = self.common.copy(alloc)?;
         let value = self.value.copy(alloc)?;
+        let common = self.common.copy(alloc)?;
         Ok(EnumEntry {
             name,
             common,
             value,
         })
     }
-}
-
-/// A list of equal entries.
-pub fn copy_enum_entries(
-    alloc: Global,
-    entries: &[EnumEntry],
-) -> Result<List<EnumEntry>, OutOfMemory>
-    ensures { IfOk result (λ copies. copies ≡ entries.now) }
-{
-    let mut copies = Vec::with_capacity(alloc, entries.len())?;
-    for entry in entries {
-        copies.push(entry.copy(alloc)?)?;
-    }
-    Ok(List::from_vec(copies))
 }

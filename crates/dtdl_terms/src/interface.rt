@@ -4,6 +4,7 @@ ghost use Rattle.std.specs.Prelude.{◌≡◌, IfOk};
 
 use crate::common::Localized;
 use crate::content::{Content, copy_contents};
+use crate::copies::copy_all;
 use crate::options::copy_text;
 use crate::schema::Schema;
 use dt_base::names::Dtmi;
@@ -34,9 +35,9 @@ impl Interface {
         let comment = copy_text(alloc, &self.comment)?;
         let description = self.description.copy(alloc)?;
         let display_name = self.display_name.copy(alloc)?;
-        let parents = copy_ids(alloc, self.parents.as_slice())?;
+        let parents = copy_all(alloc, self.parents.as_slice())?;
         let contents = copy_contents(alloc, self.contents.as_slice())?;
-        let schemas = copy_schemas(alloc, self.schemas.as_slice())?;
+        let schemas = copy_all(alloc, self.schemas.as_slice())?;
         Ok(Interface {
             id,
             comment,
@@ -47,26 +48,4 @@ impl Interface {
             schemas,
         })
     }
-}
-
-/// A list of equal identifiers.
-pub fn copy_ids(alloc: Global, ids: &[Dtmi]) -> Result<List<Dtmi>, OutOfMemory>
-    ensures { IfOk result (λ copies. copies ≡ ids.now) }
-{
-    let mut copies = Vec::with_capacity(alloc, ids.len())?;
-    for id in ids {
-        copies.push(id.copy(alloc)?)?;
-    }
-    Ok(List::from_vec(copies))
-}
-
-/// A list of equal schemas.
-pub fn copy_schemas(alloc: Global, schemas: &[Schema]) -> Result<List<Schema>, OutOfMemory>
-    ensures { IfOk result (λ copies. copies ≡ schemas.now) }
-{
-    let mut copies = Vec::with_capacity(alloc, schemas.len())?;
-    for schema in schemas {
-        copies.push(schema.copy(alloc)?)?;
-    }
-    Ok(List::from_vec(copies))
 }

@@ -5,6 +5,7 @@
 mod boxed;
 mod common;
 mod content;
+mod copies;
 mod enumeration;
 mod interface;
 mod laws;

@@ -3,6 +3,7 @@
 ghost use Rattle.std.specs.Prelude.{◌≡◌, [], None, length, slice_get, OnErr, OnOk};
 ghost use Rattle.std.specs.Option.{option_copied};
 ghost use Rattle.std.specs.Map.{values_of};
+ghost use Rattle.std.specs.BTreeMap.{IsOrdered, insert_entry};
 ghost use Rattle.dtdl_terms.specs.Sets.{keyed, InOrder, interface_at, with_interface, without_interface, next_past};
 
 use crate::interface::Interface;
@@ -95,7 +96,7 @@ impl ModelSet {
         ensures err { OnErr result (self.new ≡ self.old) }
     {
         let id = interface.id.copy(self.alloc)?;
-        self.interfaces.insert(id, interface)?;
+        put(&mut self.interfaces, id, interface)?;
         Ok(())
     }
 
@@ -106,6 +107,21 @@ impl ModelSet {
     {
         self.interfaces.remove(id)
     }
+}
+
+/// Puts a value under its key, in the place of one that is there. `Err` is want of memory: nothing changes, and key and
+/// value are given up.
+fn put<K: Ord + Drop, V: Drop>(
+    map: &mut BTreeMap<K, V>,
+    key: K,
+    value: V,
+) -> Result<(), OutOfMemory>
+    ensures entries { OnOk result (map.new.entries ≡ insert_entry K.cmp map.old.entries key value) }
+    ensures err { OnErr result (map.new.entries ≡ map.old.entries) }
+    ensures ordered { IsOrdered K.cmp map.new }
+{
+    map.insert(key, value)?;
+    Ok(())
 }
 
 /// The first interface that is left.

@@ -3,7 +3,7 @@
 ghost use Rattle.std.specs.Prelude.{◌≡◌, IfOk};
 
 use crate::content::Content;
-use crate::interface::{copy_ids, copy_schemas};
+use crate::copies::copy_all;
 use crate::schema::Schema;
 use dt_base::names::Dtmi;
 use dt_base::{List, OutOfMemory};
@@ -50,10 +50,10 @@ impl Resolved {
     pub fn copy(&self, alloc: Global) -> Result<Resolved, OutOfMemory>
         ensures { IfOk result (λ copy. copy ≡ self.now) }
     {
-        let contents = copy_resolved_contents(alloc, self.contents.as_slice())?;
-        let ancestors = copy_ids(alloc, self.ancestors.as_slice())?;
-        let named = copy_named(alloc, self.named.as_slice())?;
-        let parts = copy_parts(alloc, self.parts.as_slice())?;
+        let ancestors = copy_all(alloc, self.ancestors.as_slice())?;
+        let contents = copy_all(alloc, self.contents.as_slice())?;
+        let named = copy_all(alloc, self.named.as_slice())?;
+        let parts = copy_all(alloc, self.parts.as_slice())?;
         Ok(Resolved {
             contents,
             ancestors,
@@ -80,7 +80,7 @@ impl NamedIn {
         ensures { IfOk result (λ copy. copy ≡ self.now) }
     {
         let of = self.of.copy(alloc)?;
-        let schemas = copy_schemas(alloc, self.schemas.as_slice())?;
+        let schemas = copy_all(alloc, self.schemas.as_slice())?;
         Ok(NamedIn { of, schemas })
     }
 }
@@ -91,40 +91,7 @@ impl PartOf {
         ensures { IfOk result (λ copy. copy ≡ self.now) }
     {
         let of = self.of.copy(alloc)?;
-        let contents = copy_resolved_contents(alloc, self.contents.as_slice())?;
+        let contents = copy_all(alloc, self.contents.as_slice())?;
         Ok(PartOf { of, contents })
     }
-}
-
-fn copy_resolved_contents(
-    alloc: Global,
-    contents: &[ResolvedContent],
-) -> Result<List<ResolvedContent>, OutOfMemory>
-    ensures { IfOk result (λ copies. copies ≡ contents.now) }
-{
-    let mut copies = Vec::with_capacity(alloc, contents.len())?;
-    for content in contents {
-        copies.push(content.copy(alloc)?)?;
-    }
-    Ok(List::from_vec(copies))
-}
-
-fn copy_named(alloc: Global, named: &[NamedIn]) -> Result<List<NamedIn>, OutOfMemory>
-    ensures { IfOk result (λ copies. copies ≡ named.now) }
-{
-    let mut copies = Vec::with_capacity(alloc, named.len())?;
-    for schemas in named {
-        copies.push(schemas.copy(alloc)?)?;
-    }
-    Ok(List::from_vec(copies))
-}
-
-fn copy_parts(alloc: Global, parts: &[PartOf]) -> Result<List<PartOf>, OutOfMemory>
-    ensures { IfOk result (λ copies. copies ≡ parts.now) }
-{
-    let mut copies = Vec::with_capacity(alloc, parts.len())?;
-    for part in parts {
-        copies.push(part.copy(alloc)?)?;
-    }
-    Ok(List::from_vec(copies))
 }

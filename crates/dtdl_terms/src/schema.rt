@@ -4,7 +4,8 @@ ghost use Rattle.std.specs.Prelude.{◌≡◌, IfOk};
 
 use crate::boxed::Boxed;
 use crate::common::Common;
-use crate::enumeration::{EnumEntry, copy_enum_entries};
+use crate::copies::copy_all;
+use crate::enumeration::EnumEntry;
 use crate::primitive::Primitive;
 use dt_base::names::{Dtmi, Name};
 use dt_base::{List, OutOfMemory};
@@ -136,7 +137,7 @@ fn copy_enumeration(
     ensures { IfOk result (λ copy. copy ≡ Schema.Enumeration common.now of_text values.now) }
 {
     let common = copy_common(alloc, common)?;
-    let values = copy_enum_entries(alloc, values.as_slice())?;
+    let values = copy_all(alloc, values.as_slice())?;
     Ok(Schema::Enumeration {
         common,
         of_text,

@@ -32,8 +32,8 @@ impl Uploaded {
     pub fn copy(&self, alloc: Global) -> Result<Uploaded, OutOfMemory>
         ensures { IfOk result (λ copy. copy ≡ self.now) }
     {
-        let interface = self.interface.copy(alloc)?;
         let base = self.base.copy(alloc)?;
+        let interface = self.interface.copy(alloc)?;
         Ok(Uploaded {
             interface,
             document: self.document,

@@ -1,14 +1,14 @@
 //! The interfaces that new ones lead to.
 
 ghost use Rattle.std.specs.Prelude.{◌≡◌, ◌∷◌, [], ◌++◌, map, IfOk, OnOk, length};
-ghost use Rattle.std.specs.Option.{option_or};
+ghost use Rattle.std.specs.Option.{option_copied, option_or};
 ghost use Rattle.dt_base.specs.names.Grammar.{Identifier};
 ghost use Rattle.extend_resolve.specs.Machinery.Numbers.{kept_at, number_for};
-ghost use Rattle.extend_resolve.specs.Machinery.Gathering.{component_ids, with_id, with_ids, with_components, AreNumbered, IsGathered};
+ghost use Rattle.extend_resolve.specs.Machinery.Gathering.{component_id, component_ids, with_id, with_ids, with_components, AreNumbered, IsGathered};
 
 use dt_base::OutOfMemory;
 use dt_base::names::Dtmi;
-use dtdl_terms::{ContentKind, Interface, ModelSet, Uploaded};
+use dtdl_terms::{Content, ContentKind, Interface, ModelSet, Uploaded};
 use std::alloc::Global;
 use std::collections::BTreeMap;
 
@@ -84,11 +84,21 @@ fn add_components<'a>(
     ensures nodes { OnOk result (map (λ n. n.now) nodes.new.items ≡ with_ids set.now (map (λ n. n.now) nodes.old.items) (component_ids node.now)) }
 {
     'contents: for content in node.contents.as_slice() {
-        if let ContentKind::Component { of } = &content.kind {
+        if let Some(of) = component_of(content) {
             add(alloc, set, of, nodes, numbers)?;
         }
     }
     Ok(())
+}
+
+/// The interface that a component is of.
+pub fn component_of(content: &Content) -> Option<&Dtmi>
+    ensures { option_copied result ≡ component_id content.now }
+{
+    match &content.kind {
+        ContentKind::Component { of } => Some(of),
+        _ => None,
+    }
 }
 
 /// Adds the parents of an interface.

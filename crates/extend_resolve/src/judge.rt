@@ -7,8 +7,6 @@ ghost use Rattle.dtdl_terms.specs.Sets.{interface_at};
 ghost use Rattle.dtdl_terms.specs.declared.spot.Spot.TheVariants as spots;
 ghost use Rattle.extend_resolve.specs.SetRules.{NamesParent, NamesComponent};
 ghost use Rattle.extend_resolve.specs.Machinery.Links.{IsIn, links_at, Arrives, AreClear};
-ghost use Rattle.std.specs.Option.{option_copied};
-ghost use Rattle.extend_resolve.specs.Machinery.Gathering.{component_id};
 ghost use Rattle.extend_resolve.specs.Machinery.Numbers.{kept_at};
 ghost use Rattle.extend_resolve.specs.Machinery.Owners.{AreFresh, any_reached, add_reached};
 ghost use Rattle.extend_resolve.specs.Machinery.Firsts.{IsLeastFound, AtSpot};
@@ -17,13 +15,14 @@ ghost use Rattle.extend_resolve.specs.Machinery.Judges.{nodes_in, IsJudge, IsJud
 use crate::closure::closure;
 use crate::depths::depths;
 use crate::first::{Found, earlier, found_where};
+use crate::gathering::component_of;
 use crate::names::Names;
 use crate::owners::{Owner, add, any_other};
 use crate::rule::SetRule;
 use crate::world::World;
 use dt_base::OutOfMemory;
 use dt_base::names::Dtmi;
-use dtdl_terms::{Content, ContentKind, ModelSet, Spot, Uploaded};
+use dtdl_terms::{Content, ModelSet, Spot, Uploaded};
 use std::alloc::Global;
 
 /// The most steps of a chain of extension.
@@ -476,15 +475,5 @@ fn is_long(depth: Option<u64>, index: usize, own: Option<usize>, ancestors: &[us
     match depth {
         Some(depth) => { depth > MOST_STEPS && !(is_other(index, own) && is_among(ancestors, own)) }
         None => false,
-    }
-}
-
-/// The interface that a component is of.
-fn component_of(content: &Content) -> Option<&Dtmi>
-    ensures { option_copied result ≡ component_id content.now }
-{
-    match &content.kind {
-        ContentKind::Component { of } => Some(of),
-        _ => None,
     }
 }

@@ -11,7 +11,7 @@ use crate::machine::Machine;
 use dt_base::{OutOfMemory, Text};
 use graph_asks::{Ask, Reply};
 use graph_steps::bodies::{kept_part, part_tree};
-use local_rules::value_in;
+use json_tree::value_in;
 use twin_value::Twin;
 
 impl Machine {

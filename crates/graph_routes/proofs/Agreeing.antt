@@ -5,7 +5,7 @@ use Rattle.std.specs.Option.{option_and_then, option_or}
 use Rattle.std.proofs.lemmas.Slice.Eq.{bytes_eq-Decides}
 use Rattle.json_decimal.specs.Number.{Number}
 use Rattle.json_tree.specs.Values.{Json, Members, no_members, member}
-use Rattle.local_rules.specs.Members.{text_in, value_at}
+use Rattle.json_tree.specs.Members.{text_in, value_at}
 use Rattle.graph_routes.specs.Identifiers.{difference, first_difference}
 
 neither : {A : Type 0} (x y : Option A) → option_or x y ≡ None → (x ≡ None) × (y ≡ None)

@@ -3,7 +3,7 @@ use Rattle.std.proofs.Common.{◌≡◌, ℕ, zero, suc, ◌<◌, ◌≤◌, Lis
 use Rattle.std.specs.Option.{option_or}
 use Rattle.json_tree.specs.View.{view, members_view}
 use Rattle.json_tree.specs.declared.tree.Member.{Member}
-use Rattle.local_rules.specs.Members.{text_in}
+use Rattle.json_tree.specs.Members.{text_in}
 use Rattle.graph_routes.specs.Identifiers.{difference, first_difference}
 
 module _ (ids : List ℕ → Option (List ℕ)) where

@@ -9,7 +9,7 @@ use Rattle.json_tree.specs.Values.{HasDistinctKeys, Json, null, truth, number, t
 use Rattle.dtdl_terms.specs.Distinct.{HasDeclaration}
 use Rattle.dtdl_terms.specs.declared.uploaded.Uploaded.{Uploaded}
 use Rattle.local_rules.specs.Breaches.{BreaksNoLocalRule}
-use Rattle.local_rules.specs.Members.{list_of}
+use Rattle.json_tree.specs.Members.{list_of}
 use Rattle.local_rules.specs.Limits.{IsWithinLimits}
 use Rattle.model_read.specs.Uploads.{AreUploaded, IsUploadedAt}
 use Rattle.extend_resolve.specs.Breaches.{HasOrdinals}

@@ -11,7 +11,7 @@ use Rattle.json_read.specs.declared.fault.JsonFault.TheVariants as faults
 use Rattle.json_read.proofs.OneValue.{OneNumber}
 use Rattle.json_read.proofs.Spelled.{one_raw, one_spelled}
 use Rattle.json_read.proofs.OneFault.{fault_or_value, one_fault}
-use Rattle.local_rules.specs.Members.{members_in}
+use Rattle.json_tree.specs.Members.{members_in}
 use Rattle.twin_patch.specs.Codes.{code_text}
 use Rattle.twin_patch.specs.Operations.{Operation, operations_of}
 use Rattle.twin_patch.specs.declared.code.PatchCode.{PatchCode}

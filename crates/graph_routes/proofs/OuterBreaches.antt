@@ -6,7 +6,7 @@ use Rattle.std.proofs.lemmas.Slice.Eq.{bytes_eq-Decides}
 use Rattle.json_decimal.specs.Number.{Number}
 use Rattle.json_tree.specs.Values.{Json, null, truth, number, text, array, object, Members, no_members, member}
 use Rattle.json_tree.specs.Places.{IsPart, member_at, IsSomewhere}
-use Rattle.local_rules.specs.Members.{text_in, value_at, value_in}
+use Rattle.json_tree.specs.Members.{text_in, value_at, value_in}
 use Rattle.dt_base.specs.names.Grammar.{Identifier, NameText, OwnDtmiText, dtmi_text}
 use Rattle.dtdl_terms.specs.Terms.{no_contents}
 use Rattle.twin_value.specs.Codes.{code_number}

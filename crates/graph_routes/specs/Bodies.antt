@@ -9,7 +9,7 @@ use Rattle.json_read.specs.declared.fault.JsonFault.{JsonFault}
 use Rattle.json_read.specs.declared.fault.JsonFault.TheVariants as faults
 use Rattle.local_rules.specs.Breaches.{BreaksNoLocalRule, IsFirstBreach}
 use Rattle.local_rules.specs.Codes.{rule_code}
-use Rattle.local_rules.specs.Members.{list_of}
+use Rattle.json_tree.specs.Members.{list_of}
 use Rattle.local_rules.specs.declared.rule.LocalRule.{LocalRule}
 use Rattle.model_read.specs.Uploads.{AreUploaded}
 use Rattle.dtdl_terms.specs.declared.uploaded.Uploaded.{Uploaded}

@@ -3,7 +3,7 @@ use Rattle.std.specs.Prelude.{ℕ, List, Option, Some, None, codes, bytes_eq, if
 use Rattle.std.specs.Option.{option_or}
 use Rattle.json_decimal.specs.Number.{Number}
 use Rattle.json_tree.specs.Values.{Members, no_members, member}
-use Rattle.local_rules.specs.Members.{text_in}
+use Rattle.json_tree.specs.Members.{text_in}
 
 -- The identifier of the path that a member with this key has to give: of a twin's body `$dtId`, of a relationship's body
 -- `$relationshipId` and `$sourceId`.

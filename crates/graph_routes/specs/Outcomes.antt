@@ -2,7 +2,7 @@
 use Rattle.std.specs.Prelude.{◌≡◌, ℕ, ◌⊎◌, List, Option, Some, None}
 use Rattle.json_tree.specs.Values.{Json}
 use Rattle.json_tree.specs.Grammar.{Spells}
-use Rattle.local_rules.specs.Members.{members_in}
+use Rattle.json_tree.specs.Members.{members_in}
 use Rattle.twin_patch.specs.Operations.{operations_of}
 use Rattle.twin_patch.specs.Reading.{IsPatch}
 use Rattle.twin_patch.specs.declared.entry.PatchOf.{PatchOf}

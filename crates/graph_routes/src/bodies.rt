@@ -64,7 +64,7 @@ pub fn fault_refusal(alloc: Global, body: &[u8], fault: &JsonFault) -> Result<Re
 }
 
 /// Whether a value is a list of too many entries.
-#[tactic(auto, using(local_rules::proofs::Views::views))]
+#[tactic(auto, using(json_tree::proofs::Views::views))]
 fn is_too_many(tree: &Tree) -> bool
     ensures { IsTrue result ↔ IsTooMany (view tree.now) }
 {

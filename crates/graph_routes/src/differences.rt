@@ -3,15 +3,14 @@
 ghost use Rattle.std.specs.Prelude.{◌≡◌, ℕ, List, None, Some, IfOk, MatchOption};
 ghost use Rattle.std.specs.Option.{option_map};
 ghost use Rattle.json_tree.specs.View.{view, members_view};
-ghost use Rattle.local_rules.specs.Members.{members_in, text_in};
+ghost use Rattle.json_tree.specs.Members.{members_in, text_in};
 ghost use Rattle.graph_asks.specs.declared.refusal.Refusal.TheVariants as refusals;
 ghost use Rattle.graph_routes.specs.Identifiers.{difference, first_difference};
 ghost use Rattle.graph_routes.specs.Machinery.Found.{path_ids};
 
 use dt_base::{OutOfMemory, Text};
 use graph_asks::Refusal;
-use json_tree::{Member, Tree};
-use local_rules::{members_in, text_in};
+use json_tree::{Member, Tree, members_in, text_in};
 use std::alloc::Global;
 
 /// The identifiers of a path.

@@ -5,7 +5,7 @@ use Rattle.std.specs.Option.{IsSomeAnd}
 use Rattle.dt_base.specs.names.Grammar.{Identifier, dtmi_text}
 use Rattle.json_tree.specs.Values.{Json, object}
 use Rattle.json_tree.specs.Pointers.{IsPointerOf}
-use Rattle.local_rules.specs.Members.{members_in, value_in}
+use Rattle.json_tree.specs.Members.{members_in, value_in}
 use Rattle.dtdl_terms.specs.declared.interface.Interface.{Interface}
 use Rattle.dtdl_terms.specs.declared.limit.Limit.TheVariants as limits
 use Rattle.rel_graph.specs.Edges.{key_cmp, key}

@@ -1,4 +1,4 @@
-//! Worked rows of the lowest crates, through the public calls of `dt_base`, `dt_base::names`, `query_terms` and `value_texts`. They
+//! Worked rows of the lowest crates, through the public calls of `dt_base`, `dt_base::names` and `query_terms`. They
 //! stand here, since a crate with tests of its own is proved twice.
 #![tactic(auto)]
 
@@ -8,5 +8,3 @@ mod names;
 mod queries;
 #[cfg(test)]
 mod streams;
-#[cfg(test)]
-mod times;

@@ -22,25 +22,39 @@ fn reads_names(rt: HostRuntime) -> Result<(), Fail> {
         ("né", Some(NameFault::BadByte { at: 1 })),
         ("", Some(NameFault::Empty)),
     ] {
-        assert_eq!(rt; Name::read(alloc, text).err(), want, "{text}");
+        assert_eq!(rt; Name::read(alloc, text).err(), want);
     }
-    let name = Name::read(alloc, "speed")?;
-    assert_eq!(rt; name.copy(alloc)?.as_str(), "speed");
     Ok(())
+}
+
+/// The text of a copy of a name.
+fn copied_name(alloc: Global, text: &str) -> Result<String, Fail> {
+    let copy = Name::read(alloc, text)?.copy(alloc)?;
+    Ok(String::from_str(alloc, copy.as_str())?)
+}
+
+#[test]
+fn copies_names(rt: HostRuntime) -> Result<(), Fail> {
+    assert_eq!(rt; copied_name(rt.alloc(), "speed")?.as_str(), "speed");
+    Ok(())
+}
+
+/// The fault of a long name with this end.
+fn fault_of_name(alloc: Global, end: &str) -> Result<Option<NameFault>, Fail> {
+    let mut text = String::from_str(alloc, LETTERS)?;
+    text.push_str(end)?;
+    Ok(Name::read(alloc, text.as_str()).err())
 }
 
 #[test]
 fn bounds_names(rt: HostRuntime) -> Result<(), Fail> {
-    let alloc = rt.alloc();
     for (end, want) in [
         ("z", None),
         ("_", Some(NameFault::BadByte { at: 63 })),
         ("_z", Some(NameFault::TooLong)),
         ("zz", Some(NameFault::TooLong)),
     ] {
-        let mut text = String::from_str(alloc, LETTERS)?;
-        text.push_str(end)?;
-        assert_eq!(rt; Name::read(alloc, text.as_str()).err(), want, "{end}");
+        assert_eq!(rt; fault_of_name(rt.alloc(), end)?, want);
     }
     Ok(())
 }
@@ -70,10 +84,8 @@ fn reads_dtmis(rt: HostRuntime) -> Result<(), Fail> {
         ("dtmi:dtdl:a;0", Some(NameFault::BadVersion)),
         ("", Some(NameFault::Empty)),
     ] {
-        assert_eq!(rt; Dtmi::read(alloc, text).err(), want, "{text}");
+        assert_eq!(rt; Dtmi::read(alloc, text).err(), want);
     }
-    assert!(rt; has_dtmi_form("dtmi:dtdl:context;2"));
-    assert!(rt; !has_dtmi_form("dtmi:x"));
     Ok(())
 }
 
@@ -87,9 +99,14 @@ fn long_text(alloc: Global, letters: usize, end: &str) -> Result<String, Fail> {
     Ok(text)
 }
 
+/// The fault of an identifier of so many letters with this end.
+fn fault_of_dtmi(alloc: Global, letters: usize, end: &str) -> Result<Option<NameFault>, Fail> {
+    let text = long_text(alloc, letters, end)?;
+    Ok(Dtmi::read(alloc, text.as_str()).err())
+}
+
 #[test]
 fn bounds_dtmis(rt: HostRuntime) -> Result<(), Fail> {
-    let alloc = rt.alloc();
     for (letters, end, want) in [
         (2041, ";1", None),
         (2041, "", Some(NameFault::Ends)),
@@ -97,71 +114,58 @@ fn bounds_dtmis(rt: HostRuntime) -> Result<(), Fail> {
         (2040, "_", Some(NameFault::BadByte { at: 2045 })),
         (2042, ";1", Some(NameFault::TooLong)),
     ] {
-        let text = long_text(alloc, letters, end)?;
-        assert_eq!(rt;
-            Dtmi::read(alloc, text.as_str()).err(),
-            want,
-            "{letters} {end}"
-        );
+        assert_eq!(rt; fault_of_dtmi(rt.alloc(), letters, end)?, want);
     }
-    assert!(rt; has_dtmi_form(long_text(alloc, 9000, ";1")?.as_str()));
     Ok(())
 }
 
-/// How two identifiers compare: whether they differ in their version at most, and their order.
-fn compared(alloc: Global, left: &str, right: &str) -> Result<(bool, Ordering), Fail> {
-    let left = Dtmi::read(alloc, left)?;
-    let right = Dtmi::read(alloc, right)?;
-    Ok((same_path(&left, &right), order(&left, &right)))
+#[test]
+fn a_form_has_no_bound(rt: HostRuntime) -> Result<(), Fail> {
+    assert!(rt; has_dtmi_form("dtmi:dtdl:context;2"));
+    assert!(rt; !has_dtmi_form("dtmi:x"));
+    let text = long_text(rt.alloc(), 9000, ";1")?;
+    assert!(rt; has_dtmi_form(text.as_str()));
+    Ok(())
 }
 
-/// Whether two identifiers are equal, and whether the first comes before the second and behind it, by the operators.
-fn operators(alloc: Global, left: &str, right: &str) -> Result<[bool; 3], Fail> {
+/// Whether two identifiers compare so: whether they differ in their version at most, and their order, by name and by the operators.
+fn compare_so(
+    alloc: Global,
+    left: &str,
+    right: &str,
+    same: bool,
+    want: Ordering,
+) -> Result<bool, Fail> {
     let left = Dtmi::read(alloc, left)?;
     let right = Dtmi::read(alloc, right)?;
-    Ok([left == right, left < right, left > right])
+    let by_name = same_path(&left, &right) == same && order(&left, &right) == want;
+    let by_sign = [left == right, left < right, left > right];
+    Ok(by_name && by_sign == [want.is_eq(), want.is_lt(), want.is_gt()])
 }
 
 #[test]
 fn compares_dtmis(rt: HostRuntime) -> Result<(), Fail> {
-    let alloc = rt.alloc();
+    let ten = "dtmi:com:example:Room;10";
     for (left, right, same, want) in [
-        (
-            "dtmi:com:example:Room;10",
-            "dtmi:com:example:Room;9",
-            true,
-            Ordering::Less,
-        ),
-        (
-            "dtmi:com:example:Room;10",
-            "dtmi:com:example:Room;10",
-            true,
-            Ordering::Equal,
-        ),
-        (
-            "dtmi:com:example;10",
-            "dtmi:com:example:Room;10",
-            false,
-            Ordering::Greater,
-        ),
+        (ten, "dtmi:com:example:Room;9", true, Ordering::Less),
+        (ten, ten, true, Ordering::Equal),
+        ("dtmi:com:example;10", ten, false, Ordering::Greater),
     ] {
-        let (is_same, found) = compared(alloc, left, right)?;
-        assert_eq!(rt; is_same, same, "{left} {right}");
-        assert_eq!(rt; found, want, "{left} {right}");
-        let told = operators(alloc, left, right)?;
-        let wanted = [want.is_eq(), want.is_lt(), want.is_gt()];
-        assert_eq!(rt; told, wanted, "{left} {right}");
+        assert!(rt; compare_so(rt.alloc(), left, right, same, want)?);
     }
     Ok(())
 }
 
+/// Whether an identifier of this text and version is printed and copied so.
+fn is_told_so(alloc: Global, text: &str, version: u32) -> Result<bool, Fail> {
+    let id = Dtmi::read(alloc, text)?;
+    let copy = id.copy(alloc)?;
+    let is_printed = id.print(alloc)?.as_str() == text;
+    Ok(is_printed && id.version() == version && id.as_str() == text && copy == id)
+}
+
 #[test]
 fn prints_and_copies_dtmis(rt: HostRuntime) -> Result<(), Fail> {
-    let alloc = rt.alloc();
-    let id = Dtmi::read(alloc, "dtmi:com:example:Room;10")?;
-    assert_eq!(rt; id.version(), 10);
-    assert_eq!(rt; id.as_str(), "dtmi:com:example:Room;10");
-    assert_eq!(rt; id.print(alloc)?.as_str(), "dtmi:com:example:Room;10");
-    assert!(rt; id.copy(alloc)? == id);
+    assert!(rt; is_told_so(rt.alloc(), "dtmi:com:example:Room;10", 10)?);
     Ok(())
 }

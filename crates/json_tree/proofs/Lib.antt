@@ -1,5 +1,6 @@
 pub mod Choices
 pub mod Views
+pub mod Keyed
 pub mod Parts
 mod Escaped
 mod Printed

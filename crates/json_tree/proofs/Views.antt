@@ -1,8 +1,9 @@
 -- A tree, level by level.
-use Rattle.std.proofs.Common.{◌≡◌, ℕ, List, Bool, rules}
+use Rattle.std.proofs.Common.{◌≡◌, ℕ, List, [], ◌∷◌, Bool, refl, ap, rules}
 use Rattle.json_decimal.specs.declared.decimal.Decimal.{Decimal}
 use Rattle.json_decimal.specs.Decimals.{number_of}
-use Rattle.json_tree.specs.Values.{null, truth, number, text, array, object}
+use Rattle.json_tree.specs.Members.{list_of}
+use Rattle.json_tree.specs.Values.{Value, null, truth, number, text, array, object, elements_of}
 use Rattle.json_tree.specs.View.{view, elements_view, members_view}
 use Rattle.json_tree.specs.declared.tree.Tree.{Tree, the_lemmas}
 use Rattle.json_tree.specs.declared.tree.Tree as variants
@@ -25,3 +26,11 @@ view-List trees = search (rules, the_lemmas)
 
 pub view-Members : (members : List Member) → view (variants.Members members) ≡ object (members_view members)
 view-Members members = search (rules, the_lemmas)
+
+pub list_of-elements_of : {N : Type 0} (vs : List (Value N)) → list_of (elements_of vs) ≡ vs
+list_of-elements_of [] = refl
+list_of-elements_of (v ∷ vs) = ap (λ us. v ∷ us) (list_of-elements_of vs)
+
+pub ruleset views = (view-Null, view-Bool, view-Number, view-Text, view-List, view-Members)
+
+pub ruleset lists = (list_of-elements_of)

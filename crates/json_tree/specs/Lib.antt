@@ -1,6 +1,7 @@
 -- What public contracts cite.
 pub mod Values
 pub mod View
+pub mod Members
 pub mod Places
 pub mod Pointers
 pub mod Grammar

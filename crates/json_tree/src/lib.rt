@@ -1,9 +1,10 @@
-//! JSON values (RFC 8259) as trees: their texts, places in them, and pointers to these.
+//! JSON values (RFC 8259) as trees: their texts, what stands under a key, places in them, and pointers to these.
 #![tactic(auto)]
 
 mod copies;
 mod evaluation;
 mod laws;
+mod members;
 mod places;
 mod pointers;
 mod printing;
@@ -12,6 +13,7 @@ mod tree;
 
 pub use evaluation::at;
 pub use laws::{one_pointer, reads_back, reads_back_before_spaces};
+pub use members::{entries_in, is_same, members_in, text_at, text_in, value_at, value_in};
 pub use places::Place;
 pub use pointers::{Pointer, pointer_of};
 pub use printing::{print, push_quoted};

@@ -11,7 +11,7 @@ use Rattle.json_tree.specs.Values.{Json, null, truth, number, text, Members}
 use Rattle.json_tree.specs.View.{view}
 use Rattle.json_tree.specs.declared.tree.Tree.{Tree}
 use Rattle.json_tree.specs.declared.tree.Tree as variants
-use Rattle.local_rules.proofs.Views.{view-Null, view-Bool, view-Number, view-Text}
+use Rattle.json_tree.proofs.Views.{view-Null, view-Bool, view-Number, view-Text}
 use Rattle.local_faults.proofs.Parts.{leaf_of}
 use Rattle.json_tree.specs.Places.{IsPart}
 use Rattle.local_rules.specs.Machinery.Marks.{part_marked}

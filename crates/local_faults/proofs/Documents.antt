@@ -11,7 +11,7 @@ use Rattle.std.proofs.lemmas.Bool.{cases_lt}
 use Rattle.json_decimal.specs.Number.{Number}
 use Rattle.json_tree.specs.Values.{Json, text, array, object, Elements, Members}
 use Rattle.json_tree.specs.Places.{IsPart, element_at}
-use Rattle.local_rules.specs.Members.{members_in}
+use Rattle.json_tree.specs.Members.{members_in}
 use Rattle.local_rules.specs.Breaches.{Breaks, BreaksBySchemas, IsEarlierId, IsBroken, IsBreach, ComesBefore}
 use Rattle.local_rules.specs.Machinery.Marks.{HasMarkedRole, interface_role}
 use Rattle.local_rules.specs.declared.marks.MarkedRole.{MarkedRole}

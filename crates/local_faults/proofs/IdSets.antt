@@ -9,7 +9,7 @@ use Rattle.std.proofs.lemmas.Map.Text.{is_eq-slice_cmp}
 use Rattle.std.proofs.lemmas.Slice.Eq.{bytes_eq-Decides}
 use Rattle.json_decimal.specs.Number.{Number}
 use Rattle.json_tree.specs.Values.{Json, null, truth, number, text, array, object, Members}
-use Rattle.local_rules.specs.Members.{text_in}
+use Rattle.json_tree.specs.Members.{text_in}
 use Rattle.local_rules.specs.Identifiers.{OfText}
 use Rattle.local_rules.specs.Breaches.{IsFirstOf, BreaksAlone, BreaksBySchemas, BreaksById}
 use Rattle.local_rules.specs.Machinery.Firsts.{earlier}

@@ -4,7 +4,7 @@ use Rattle.std.specs.Option.{option_map, option_map_or}
 use Rattle.json_decimal.specs.Number.{Number}
 use Rattle.json_tree.specs.Values.{Json, null, truth, number, text, array, object, Elements, Members}
 use Rattle.json_tree.specs.Places.{IsPart, member_at}
-use Rattle.local_rules.specs.Members.{list_of}
+use Rattle.json_tree.specs.Members.{list_of}
 use Rattle.local_rules.specs.Roles.{HasRole, part_role, entry_role}
 use Rattle.local_rules.specs.Languages.{is_language}
 use Rattle.local_rules.specs.Repeats.{IsEntry, IsInEntry, repeats_name, repeats_text, repeats_value}

@@ -13,7 +13,7 @@ use Rattle.local_rules.specs.declared.marks.Mark.TheVariants as marks
 use Rattle.local_rules.specs.declared.marks.MarkedRole.{MarkedRole}
 use Rattle.local_rules.specs.declared.role.Element.{Element}
 use Rattle.local_rules.specs.declared.role.Role.{Role}
-use Rattle.local_rules.proofs.Views.{list_of-elements_of}
+use Rattle.json_tree.proofs.Views.{list_of-elements_of}
 
 pub item_within : (items : List Tree) (i : ℕ) (part : Json) → IsPart (array (elements_view items)) i part → i < length items
 item_within [] i part e = absurd cc

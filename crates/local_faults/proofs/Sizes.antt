@@ -5,7 +5,7 @@ use Rattle.json_decimal.specs.Number.{Number}
 use Rattle.json_tree.specs.Values.{Value, Json, null, truth, number, text, array, object, Elements, no_elements, element, Members, no_members, member, elements_of}
 use Rattle.json_tree.specs.View.{view, elements_view}
 use Rattle.json_tree.specs.declared.tree.Tree.{Tree}
-use Rattle.local_rules.specs.Members.{list_of, value_at, value_in, entries_in}
+use Rattle.json_tree.specs.Members.{list_of, value_at, value_in, entries_in}
 use Rattle.local_rules.specs.Levels.{entries_at, entries_under}
 
 abbrev mutual

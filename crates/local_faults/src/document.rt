@@ -10,8 +10,8 @@ ghost use Rattle.local_faults.specs.Machinery.Walks.{FindsFirst};
 use crate::schemas::NamedSchemas;
 use crate::walk::{Found, first_in};
 use dt_base::{List, OutOfMemory};
-use json_tree::{Place, Tree};
-use local_rules::{LocalRule, MarkedRole, members_in};
+use json_tree::{Place, Tree, members_in};
+use local_rules::{LocalRule, MarkedRole};
 use std::alloc::Global;
 use std::collections::BTreeSet;
 

@@ -7,8 +7,8 @@ ghost use Rattle.local_faults.specs.Machinery.Walks.{NotesId, JudgesMarked, Judg
 
 use crate::schemas::NamedSchemas;
 use dt_base::OutOfMemory;
-use json_tree::Tree;
-use local_rules::{LocalRule, MarkedRole, Role, earlier, marked_rule, text_in};
+use json_tree::{Tree, text_in};
+use local_rules::{LocalRule, MarkedRole, Role, earlier, marked_rule};
 use std::collections::BTreeSet;
 
 /// The text that a value is as an `@id`.

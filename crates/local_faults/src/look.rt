@@ -7,8 +7,7 @@ ghost use Rattle.json_tree.specs.View.{view, members_view};
 ghost use Rattle.local_rules.specs.Levels.{IsPrimitiveName, entries_at, id_in};
 
 use dtdl_terms::primitive_named;
-use json_tree::{Member, Tree};
-use local_rules::{entries_in, text_in, value_at, value_in};
+use json_tree::{Member, Tree, entries_in, text_in, value_at, value_in};
 
 /// The text `@id` of a value.
 pub fn id_in(tree: &Tree) -> Option<&str>

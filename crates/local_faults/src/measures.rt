@@ -4,15 +4,15 @@ ghost use Rattle.std.specs.Prelude.{◌≡◌, ◌+◌, ◌↔◌, ℕ, suc, fal
 ghost use Rattle.std.specs.Option.{option_map};
 ghost use Rattle.json_tree.specs.Values.{text, object};
 ghost use Rattle.json_tree.specs.View.{view, members_view};
-ghost use Rattle.local_rules.specs.Members.{value_at, value_in};
+ghost use Rattle.json_tree.specs.Members.{value_at, value_in};
 ghost use Rattle.local_rules.specs.Levels.{parts_by};
 ghost use Rattle.local_faults.specs.Machinery.Measured.{AreMeasured, IsMeasure, Measures, MeasuresParts};
 ghost use Rattle.local_rules.specs.declared.role.Element.TheVariants as element;
 
 use crate::index::Names;
 use crate::look::{entries_at, is_primitive};
-use json_tree::{Member, Tree};
-use local_rules::{Element, Position, type_of, value_at, value_in};
+use json_tree::{Member, Tree, value_at, value_in};
+use local_rules::{Element, Position, type_of};
 
 /// The greatest level that is told apart from greater ones.
 const MAX_LEVEL: u8 = 6;

@@ -15,8 +15,8 @@ use crate::look::is_primitive;
 use crate::measures::{Measure, measure_of};
 use crate::rounds::measures_of;
 use dt_base::OutOfMemory;
-use json_tree::{Member, Tree};
-use local_rules::{LocalRule, Role, SchemaUse, text_in};
+use json_tree::{Member, Tree, text_in};
+use local_rules::{LocalRule, Role, SchemaUse};
 use std::alloc::Global;
 use std::marker::Model;
 

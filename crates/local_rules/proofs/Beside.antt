@@ -3,7 +3,7 @@ use Rattle.std.proofs.Common.{◌≡◌, ◌↔◌, Bool, true, false, not, IsTr
 use Rattle.std.proofs.lemmas.Bool.{false≢true}
 use Rattle.json_decimal.specs.Number.{Number}
 use Rattle.json_tree.specs.Values.{array, Elements}
-use Rattle.local_rules.specs.Members.{list_of}
+use Rattle.json_tree.specs.Members.{list_of}
 use Rattle.local_rules.specs.Roles.{type_in}
 use Rattle.local_rules.specs.Types.{BadSemanticType, MayHaveBeside, further}
 use Rattle.local_rules.specs.declared.role.Element.{Element}

@@ -1,4 +1,3 @@
-pub mod Views
 pub mod Tabled
 pub mod Hyphens
 pub mod Firsts
@@ -7,7 +6,6 @@ pub mod Beside
 pub mod Compared
 pub mod Sameness
 pub mod Among
-pub mod Keyed
 pub mod Named
 pub mod Typed
 pub mod Keys

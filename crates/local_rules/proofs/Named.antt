@@ -5,7 +5,7 @@ use Rattle.std.proofs.lemmas.Slice.Eq.{bytes_eq-Decides}
 use Rattle.json_decimal.specs.Number.{Number}
 use Rattle.json_tree.specs.Values.{Json, text, array, Elements, no_elements, element}
 use Rattle.json_tree.specs.Places.{element_at}
-use Rattle.local_rules.specs.Members.{list_of, text_in}
+use Rattle.json_tree.specs.Members.{list_of, text_in}
 use Rattle.local_rules.specs.Repeats.{holds_some}
 use Rattle.local_rules.specs.Levels.{entries_under}
 

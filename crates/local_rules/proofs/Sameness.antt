@@ -4,7 +4,7 @@ use Rattle.std.specs.Prelude.{slice_get, option_and_then}
 use Rattle.std.specs.Option.{option_map}
 use Rattle.std.specs.List.{list_any, take-map}
 use Rattle.json_tree.specs.Values.{Json, number, text}
-use Rattle.local_rules.specs.Members.{text_in, value_in}
+use Rattle.json_tree.specs.Members.{text_in, value_in}
 use Rattle.local_rules.specs.Repeats.{is_among, holds_some, name_in, repeats, repeats_name, repeats_text, repeats_value, same_value}
 use Rattle.local_rules.specs.Machinery.Repeated.{comparable, comparison_of, repeats_by, value_comparison_of}
 use Rattle.local_rules.specs.Machinery.Marks.{entry_repeats, entry_repeats_value}

@@ -2,7 +2,7 @@
 use Rattle.std.proofs.Common.{◌≡◌, Some, None, filter_map, option_to_list, option_and_then, bytes_eq, codes}
 use Rattle.json_decimal.specs.Number.{Number}
 use Rattle.json_tree.specs.Values.{Json, null, truth, number, text, array, object, Members}
-use Rattle.local_rules.specs.Members.{list_of, text_in, value_at}
+use Rattle.json_tree.specs.Members.{list_of, text_in, value_at}
 use Rattle.local_rules.specs.Tables.{type_text, types_of}
 use Rattle.local_rules.specs.Roles.{element_named, named_by, only, type_in, type_of}
 use Rattle.local_rules.specs.declared.role.Element.{Element}

@@ -2,7 +2,7 @@
 use Rattle.std.proofs.Common.{◌≡◌, ℕ, zero, suc, ◌<◌, ◌↔◌, List, [], ◌∷◌, length, slice_index_or, Some, None, refl, ap, ◌∙◌, arith}
 use Rattle.json_decimal.specs.Number.{Number}
 use Rattle.json_tree.specs.Values.{Members}
-use Rattle.local_rules.specs.Members.{value_at}
+use Rattle.json_tree.specs.Members.{value_at}
 use Rattle.local_rules.specs.Tables.{key_text, required}
 use Rattle.local_rules.specs.Kinds.{LacksKeyOf, needed_keys}
 use Rattle.local_rules.specs.declared.key.Key.{Key}

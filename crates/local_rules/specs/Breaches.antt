@@ -3,7 +3,7 @@ use Rattle.std.specs.Prelude.{◌≡◌, ℕ, ◌<◌, ◌⊎◌, List, [], ◌�
 use Rattle.json_decimal.specs.Number.{Number}
 use Rattle.json_tree.specs.Values.{Json, null, truth, number, text, array, object, Members}
 use Rattle.json_tree.specs.Places.{IsBefore, element_at}
-use Rattle.local_rules.specs.Members.{members_in}
+use Rattle.json_tree.specs.Members.{members_in}
 use Rattle.local_rules.specs.Codes.{rule_number}
 use Rattle.local_rules.specs.Roles.{HasRole}
 use Rattle.local_rules.specs.Kinds.{WrongKind, UnknownKey, MissingKey}

@@ -5,7 +5,7 @@ use Rattle.json_decimal.specs.Number.{Number}
 use Rattle.json_tree.specs.Values.{Json, text, object, Members}
 use Rattle.dtdl_terms.specs.Primitives.{primitive_name}
 use Rattle.dtdl_terms.specs.declared.primitive.Primitive.{Primitive}
-use Rattle.local_rules.specs.Members.{value_in, text_in, entries_in, members_in}
+use Rattle.json_tree.specs.Members.{value_in, text_in, entries_in, members_in}
 use Rattle.local_rules.specs.Roles.{type_of}
 use Rattle.local_rules.specs.Repeats.{holds_some}
 use Rattle.local_rules.specs.Identifiers.{OfText}

@@ -1,5 +1,4 @@
 pub mod Codes
-pub mod Members
 pub mod Tables
 pub mod Roles
 pub mod Kinds

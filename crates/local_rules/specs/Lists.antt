@@ -1,7 +1,7 @@
 -- Rules on the lengths of lists.
 use Rattle.std.specs.Prelude.{◌≡◌, ◌<◌, length}
 use Rattle.json_tree.specs.Values.{Json}
-use Rattle.local_rules.specs.Members.{entries_in}
+use Rattle.json_tree.specs.Members.{entries_in}
 use Rattle.local_rules.specs.declared.role.ValueSchema.{ValueSchema}
 use Rattle.local_rules.specs.declared.role.Role.{Role}
 use Rattle.local_rules.specs.declared.role.Role.TheVariants as role

@@ -5,7 +5,7 @@ use Rattle.std.specs.Ordering.{int_eq}
 use Rattle.std.proofs.Math.Bool.{beq}
 use Rattle.json_decimal.specs.Number.{Number}
 use Rattle.json_tree.specs.Values.{Json, number, text, array, Elements}
-use Rattle.local_rules.specs.Members.{list_of, value_in, text_in}
+use Rattle.json_tree.specs.Members.{list_of, value_in, text_in}
 use Rattle.local_rules.specs.Roles.{HasRole}
 use Rattle.local_rules.specs.declared.role.ValueSchema.{ValueSchema}
 use Rattle.local_rules.specs.declared.role.Role.{Role}

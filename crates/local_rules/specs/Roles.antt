@@ -3,7 +3,7 @@ use Rattle.std.specs.Prelude.{◌≡◌, ℕ, List, [], ◌∷◌, ◌++◌, Opt
 use Rattle.json_decimal.specs.Number.{Number}
 use Rattle.json_tree.specs.Values.{Json, null, truth, number, text, array, object, Members}
 use Rattle.json_tree.specs.Places.{IsPart, member_at}
-use Rattle.local_rules.specs.Members.{list_of, value_at, text_in}
+use Rattle.json_tree.specs.Members.{list_of, value_at, text_in}
 use Rattle.local_rules.specs.Tables.{key_text, required, optional, type_text, types_of}
 use Rattle.local_rules.specs.declared.key.Key.{Key}
 use Rattle.local_rules.specs.declared.key.Key.TheVariants as key

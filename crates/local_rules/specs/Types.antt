@@ -2,7 +2,7 @@
 use Rattle.std.specs.Prelude.{◌≡◌, ◌≢◌, ℕ, List, [], ◌∷◌, Some, None, filter, is_none, codes}
 use Rattle.dt_base.specs.names.Grammar.{NameText}
 use Rattle.json_tree.specs.Values.{Json, null, truth, number, text, array, object, no_elements, element}
-use Rattle.local_rules.specs.Members.{list_of}
+use Rattle.json_tree.specs.Members.{list_of}
 use Rattle.local_rules.specs.Roles.{type_in, named_by}
 use Rattle.local_rules.specs.declared.role.Element.{Element}
 use Rattle.local_rules.specs.declared.role.Element.TheVariants as element_kind

@@ -45,7 +45,7 @@ fn element_id_text_rule(text: &str) -> Option<LocalRule>
 }
 
 /// The first rule that an identifier of an interface breaks.
-#[tactic(auto, using(crate::proofs::Views::views))]
+#[tactic(auto, using(json_tree::proofs::Views::views))]
 pub fn interface_id_rule(tree: &Tree) -> Option<LocalRule>
     ensures { IsFirstAmong (IdBreaksAt (λ _. of_interface) (view tree.now)) id_rules result }
 {
@@ -56,7 +56,7 @@ pub fn interface_id_rule(tree: &Tree) -> Option<LocalRule>
 }
 
 /// The first rule that another identifier breaks.
-#[tactic(auto, using(crate::proofs::Views::views))]
+#[tactic(auto, using(json_tree::proofs::Views::views))]
 pub fn element_id_rule(tree: &Tree) -> Option<LocalRule>
     ensures { IsFirstAmong (IdBreaksAt (λ _. of_element) (view tree.now)) id_rules result }
 {
@@ -67,7 +67,7 @@ pub fn element_id_rule(tree: &Tree) -> Option<LocalRule>
 }
 
 /// The first rule on identifiers that a text in the role of a schema breaks: it is one where it begins with `dtmi:`.
-#[tactic(auto, using(crate::proofs::Views::views))]
+#[tactic(auto, using(json_tree::proofs::Views::views))]
 pub fn schema_id_rule(tree: &Tree) -> Option<LocalRule>
     ensures { IsFirstAmong (IdBreaksAt schema_id_use (view tree.now)) id_rules result }
 {

@@ -3,15 +3,14 @@
 ghost use Rattle.std.specs.Prelude.{◌≡◌, ◌↔◌, [], ◌∷◌, IsTrue, None, Some};
 ghost use Rattle.json_tree.specs.Values.{text};
 ghost use Rattle.json_tree.specs.View.{view, members_view};
-ghost use Rattle.local_rules.specs.Members.{value_at};
+ghost use Rattle.json_tree.specs.Members.{value_at};
 ghost use Rattle.local_rules.specs.Tables.{key_text, required};
 ghost use Rattle.local_rules.specs.Kinds.{is_of_kind, kind_of, needed_keys, LacksKeyOf, MissingKey};
 
 use crate::key::Key;
-use crate::members::value_at;
 use crate::role::{Element, Kind, Role};
 use crate::roles::element_of;
-use json_tree::{Member, Tree};
+use json_tree::{Member, Tree, value_at};
 
 /// The kind of value that a role wants.
 pub fn kind_of(role: Role) -> Kind
@@ -51,7 +50,7 @@ pub fn kind_of(role: Role) -> Kind
 }
 
 /// Whether a value is of a kind.
-#[tactic(auto, using(crate::proofs::Views::views))]
+#[tactic(auto, using(json_tree::proofs::Views::views))]
 pub fn is_of_kind(kind: Kind, tree: &Tree) -> bool
     ensures { result ≡ is_of_kind kind (view tree.now) }
 {
@@ -76,7 +75,7 @@ fn admits_text(kind: Kind) -> bool
 }
 
 /// Whether a value is an object that lacks a required key.
-#[tactic(auto, using(crate::proofs::Views::views))]
+#[tactic(auto, using(json_tree::proofs::Views::views))]
 pub fn lacks_key(role: Role, tree: &Tree) -> bool
     ensures { IsTrue result ↔ MissingKey role (view tree.now) }
 {

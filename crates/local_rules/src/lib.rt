@@ -7,7 +7,6 @@ mod kinds;
 mod languages;
 mod lists;
 mod marks;
-mod members;
 mod own;
 mod quantities;
 mod repeated;
@@ -19,7 +18,6 @@ mod texts;
 mod types;
 
 pub use marks::{EntryMarks, Mark, MarkedRole};
-pub use members::{entries_in, members_in, text_at, text_in, value_at, value_in};
 pub use own::marked_rule;
 pub use role::{Element, Localized, PayloadUse, Position, Role, SchemaUse, ValueSchema};
 pub use roles::{element_of, type_of};

@@ -3,11 +3,10 @@
 ghost use Rattle.std.specs.Prelude.{◌≡◌, ◌↔◌, ◌<◌, length, IsTrue};
 ghost use Rattle.json_tree.specs.View.{view};
 ghost use Rattle.local_rules.specs.Lists.{TooManyContents, TooManyFields, TooManyParents};
-ghost use Rattle.local_rules.specs.Members.{entries_in};
+ghost use Rattle.json_tree.specs.Members.{entries_in};
 
-use crate::members::entries_in;
 use crate::role::Role;
-use json_tree::Tree;
+use json_tree::{Tree, entries_in};
 
 /// The most entries of `contents`.
 const MOST_CONTENTS: usize = 300;

@@ -19,7 +19,7 @@ pub fn is_bad_value_schema(tree: &Tree) -> bool
 }
 
 /// Whether a value is a whole number of 32 bits.
-#[tactic(auto, using(crate::proofs::Views::views))]
+#[tactic(auto, using(json_tree::proofs::Views::views))]
 fn is_integer(tree: &Tree) -> bool
     ensures { IsTrue result ↔ IsInteger32 (view tree.now) }
 {
@@ -40,7 +40,7 @@ fn is_small(number: &Decimal) -> bool
 }
 
 /// Whether a value is a text.
-#[tactic(auto, using(crate::proofs::Views::views))]
+#[tactic(auto, using(json_tree::proofs::Views::views))]
 fn is_string(tree: &Tree) -> bool
     ensures { IsTrue result ↔ IsStringValue (view tree.now) }
 {
@@ -72,7 +72,7 @@ pub fn is_bad_map_key(part: SchemaUse, tree: &Tree) -> bool
 }
 
 /// Whether a value is a whole number from 1 to 2,147,483,647.
-#[tactic(auto, using(crate::proofs::Views::views))]
+#[tactic(auto, using(json_tree::proofs::Views::views))]
 fn is_multiplicity(tree: &Tree) -> bool
     ensures { IsTrue result ↔ IsMultiplicity (view tree.now) }
 {
@@ -93,7 +93,7 @@ fn is_positive(number: &Decimal) -> bool
 }
 
 /// Whether `minMultiplicity` is not 0.
-#[tactic(auto, using(crate::proofs::Views::views))]
+#[tactic(auto, using(json_tree::proofs::Views::views))]
 pub fn is_bad_min_multiplicity(tree: &Tree) -> bool
     ensures { IsTrue result ↔ BadMultiplicity Role.MinMultiplicity (view tree.now) }
 {

@@ -9,10 +9,9 @@ ghost use Rattle.json_tree.specs.View.{view, members_view};
 ghost use Rattle.local_rules.specs.Machinery.Repeated.{AreApart, AreInBuckets, HasBucket, HasSeen, comparable, compared, number_by, repeats_by, value_by};
 ghost use Rattle.local_rules.specs.Repeats.{holds_some, is_among, name_in, same_value};
 
-use crate::members::{members_in, text_at, text_in, value_in};
 use dt_base::OutOfMemory;
 use json_decimal::Decimal;
-use json_tree::Tree;
+use json_tree::{Tree, members_in, text_at, text_in, value_in};
 use std::alloc::Global;
 use std::collections::BTreeSet;
 use text_buckets::Buckets;
@@ -61,7 +60,7 @@ pub fn name_in(tree: &Tree) -> Option<&str>
 }
 
 /// A value that is a number or a text.
-#[tactic(auto, using(crate::proofs::Views::views))]
+#[tactic(auto, using(json_tree::proofs::Views::views))]
 fn comparison_key_in(tree: &Tree) -> Option<ComparisonKey<'_>>
     ensures { option_map value_by result ≡ comparable (view tree.now) }
 {

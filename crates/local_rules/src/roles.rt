@@ -6,10 +6,9 @@ ghost use Rattle.json_tree.specs.View.{view, members_view};
 ghost use Rattle.local_rules.specs.Roles.{content_schema_role, element_member, element_of, entry_role, enum_value_role, id_role, key_of, key_role, schema_of_values_named, named_by, only, payload_schema_role, position_of, role_of_key, schema_role, type_alone, type_in, type_of, untyped_role, schema_of_values};
 
 use crate::key::Key;
-use crate::members::{text_at, text_in, value_at};
 use crate::role::{Element, Localized, PayloadUse, Position, Role, SchemaUse, ValueSchema};
 use crate::tables::{element_named, key_of};
-use json_tree::{Member, Tree};
+use json_tree::{Member, Tree, text_at, text_in, value_at};
 
 /// The type of a position that an entry of `@type` names.
 pub fn type_named(position: Position, entry: &Tree) -> Option<Element>
@@ -39,7 +38,7 @@ fn only_type(position: Position, entries: &[Tree]) -> Option<Element>
 
 /// The type of a position that a value of `@type` names: it is the type's text, or a list in which exactly one
 /// entry is a type of the position.
-#[tactic(auto, using(crate::proofs::Views::views, crate::proofs::Views::lists))]
+#[tactic(auto, using(json_tree::proofs::Views::views, json_tree::proofs::Views::lists))]
 pub fn type_in(position: Position, tree: &Tree) -> Option<Element>
     ensures { result ≡ type_in position (view tree.now) }
 {

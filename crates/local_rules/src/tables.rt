@@ -8,8 +8,8 @@ ghost use Rattle.local_rules.specs.Tables.{key_text, type_text};
 ghost use Rattle.local_rules.specs.Roles.{element_named, key_of};
 
 use crate::key::Key;
-use crate::members::is_same;
 use crate::role::{Element, Position};
+use json_tree::is_same;
 
 /// The key of at most 7 bytes that has this text.
 fn short_key_named(text: &str) -> Option<Key>

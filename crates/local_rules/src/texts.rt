@@ -22,7 +22,7 @@ const MOST_OF_DISPLAY_NAME: usize = 64;
 const MOST_OF_DESCRIPTION: usize = 512;
 
 /// Whether a value is this text.
-#[tactic(auto, using(crate::proofs::Views::views))]
+#[tactic(auto, using(json_tree::proofs::Views::views))]
 pub fn is_text(tree: &Tree, wanted: &str) -> bool
     ensures { IsTrue result ↔ (view tree.now ≡ text wanted.now) }
 {
@@ -33,7 +33,7 @@ pub fn is_text(tree: &Tree, wanted: &str) -> bool
 }
 
 /// Whether a value is a text of the name grammar.
-#[tactic(auto, using(crate::proofs::Views::views))]
+#[tactic(auto, using(json_tree::proofs::Views::views))]
 pub fn is_name(tree: &Tree) -> bool
     ensures { IsTrue result ↔ IsNameValue (view tree.now) }
 {
@@ -44,7 +44,7 @@ pub fn is_name(tree: &Tree) -> bool
 }
 
 /// Whether a name is a text that is none of the name grammar.
-#[tactic(auto, using(crate::proofs::Views::views))]
+#[tactic(auto, using(json_tree::proofs::Views::views))]
 pub fn is_bad_name(tree: &Tree) -> bool
     ensures { IsTrue result ↔ OfText (λ bytes. NameText bytes → ⊥) (view tree.now) }
 {
@@ -73,7 +73,7 @@ fn is_longer(text: &str, most: usize) -> bool
 }
 
 /// Whether a value is a text of more scalar values than this.
-#[tactic(auto, using(crate::proofs::Views::views))]
+#[tactic(auto, using(json_tree::proofs::Views::views))]
 fn is_long_text(tree: &Tree, most: usize) -> bool
     ensures { IsTrue result ↔ OfText (λ bytes. most < scalar_values bytes) (view tree.now) }
 {

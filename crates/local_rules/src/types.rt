@@ -28,7 +28,7 @@ fn only_entry(entries: &[Tree]) -> Option<&Tree>
 }
 
 /// Whether `@context` is neither the context of DTDL v2 nor a list with that one entry.
-#[tactic(auto, using(crate::proofs::Views::views))]
+#[tactic(auto, using(json_tree::proofs::Views::views))]
 pub fn is_bad_context(tree: &Tree) -> bool
     ensures { IsTrue result ↔ BadContext Role.Context (view tree.now) }
 {
@@ -96,7 +96,7 @@ fn may_have_beside(element: Element, position: Position, entries: &[Tree]) -> bo
 }
 
 /// Whether a value of `@type` that names this element is a list with further entries that it may not have.
-#[tactic(auto, using(crate::proofs::Views::views))]
+#[tactic(auto, using(json_tree::proofs::Views::views))]
 fn has_bad_beside(element: Element, position: Position, tree: &Tree) -> bool
     ensures { type_in position (view tree.now) ≡ Some element → (IsTrue result ↔ BadSemanticType (Role.Type position) (view tree.now)) }
 {

@@ -13,7 +13,7 @@ use Rattle.json_tree.specs.View.{view, elements_view}
 use Rattle.json_tree.specs.declared.tree.Tree.{Tree}
 use Rattle.local_rules.specs.Breaches.{IsBreach}
 use Rattle.local_rules.specs.declared.rule.LocalRule.{LocalRule}
-use Rattle.local_rules.proofs.Views.{list_of-elements_of}
+use Rattle.json_tree.proofs.Views.{list_of-elements_of}
 use Rattle.dtdl_terms.specs.declared.uploaded.Uploaded.{Uploaded}
 use Rattle.model_read.specs.Uploads.{IsUploadedAt}
 use Rattle.json_batches.specs.Batches.{batch_text, rest_text}

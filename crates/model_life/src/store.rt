@@ -18,6 +18,29 @@ use dt_base::{List, OutOfMemory, Text};
 use dtdl_terms::{Interface, ModelSet, Uploaded};
 use std::alloc::Global;
 
+/// Adds the record of an interface that is new. After `Err` it may be there.
+fn add_record(
+    records: &mut Records,
+    alloc: Global,
+    interface: &Interface,
+) -> Result<(), OutOfMemory>
+    ensures record { OnOk result ((q : Identifier) → record_at q records.new ≡ cond (is_eq (id_cmp q interface.now.id)) (Some (fresh_record interface.now)) (record_at q records.old)) }
+    ensures others { (q : Identifier) → is_eq (id_cmp q interface.now.id) ≡ false → record_at q records.new ≡ record_at q records.old }
+{
+    let bytes = canon_interface(alloc, interface)?.len() as u64;
+    let text = Text::from_str(alloc, interface.id.as_str())?;
+    let id = interface.id.copy(alloc)?;
+    records.insert(
+        id,
+        Record {
+            text,
+            decommissioned: false,
+            bytes,
+        },
+    )?;
+    Ok(())
+}
+
 /// Puts an interface into the set, with a record. After `Err` the record may be left in.
 fn enter(
     set: &mut ModelSet,
@@ -31,17 +54,7 @@ fn enter(
     ensures err { OnErr result (set.new ≡ set.old) }
     ensures others { (q : Identifier) → is_eq (id_cmp q interface.id) ≡ false → record_at q records.new ≡ record_at q records.old }
 {
-    let bytes = canon_interface(alloc, &interface)?.len() as u64;
-    let text = Text::from_str(alloc, interface.id.as_str())?;
-    let id = interface.id.copy(alloc)?;
-    records.insert(
-        id,
-        Record {
-            text,
-            decommissioned: false,
-            bytes,
-        },
-    )?;
+    add_record(records, alloc, &interface)?;
     set.insert(interface)?;
     Ok(())
 }

@@ -17,7 +17,7 @@ use Rattle.dtdl_terms.specs.declared.content.Content.{Content}
 use Rattle.dtdl_terms.specs.declared.enumeration.EnumEntry.{EnumEntry}
 use Rattle.dtdl_terms.specs.declared.interface.Interface.{Interface}
 use Rattle.dtdl_terms.specs.declared.schema.Schema.{Schema}
-use Rattle.local_rules.specs.Members.{list_of, members_in, pairs_of, text_in, value_at}
+use Rattle.json_tree.specs.Members.{list_of, members_in, pairs_of, text_in, value_at}
 use Rattle.local_rules.specs.Roles.{HasRole, element_of, entry_role, id_role, key_of, schema_role, type_of, schema_of_values}
 use Rattle.local_rules.specs.Repeats.{IsInEntry, name_in, repeats_name, repeats_text}
 use Rattle.local_rules.specs.Breaches.{BreaksByPlace}
@@ -33,7 +33,7 @@ use Rattle.local_rules.specs.declared.role.Role.{Role}
 use Rattle.local_rules.specs.declared.role.Role.TheVariants as role
 use Rattle.local_rules.specs.declared.role.SchemaUse.TheVariants as schema_use
 use Rattle.local_rules.specs.declared.role.ValueSchema.{ValueSchema}
-use Rattle.local_rules.proofs.Keyed.{position_of_key}
+use Rattle.json_tree.proofs.Keyed.{position_of_key}
 use Rattle.model_read.specs.Declarations.{ArePayloads, AreProperties, AreEntriesOf, AreKind, DeclaresInterface, HasCommon, HasContents, HasKindOf, HasLocalized, HasOptionalId, HasOptionalPayload, HasParents, HasSchemas, HasString, IsContent, IsContentEntry, IsEnumEntry, IsIdentifier, IsLocalized, IsLocalizedBy, IsPayload, IsSchema, IsTextOfLanguage}
 use Rattle.local_rules.specs.Typed.{IsPropertyTerm, type_of_kind}
 use Rattle.model_read.proofs.Valid.{here, of_kind}

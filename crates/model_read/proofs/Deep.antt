@@ -5,7 +5,7 @@ use Rattle.std.specs.List.{cons_option}
 use Rattle.json_decimal.specs.Number.{Number}
 use Rattle.json_tree.specs.Values.{Json, object, Elements, no_elements, element, Members}
 use Rattle.dtdl_terms.specs.Terms.{SchemaTerm, primitive, named, array_of, enumeration, map_of, object_of, PayloadTerm, payload, PayloadTerms, no_payloads, more_payloads}
-use Rattle.local_rules.specs.Members.{list_of, value_at, value_in}
+use Rattle.json_tree.specs.Members.{list_of, value_at, value_in}
 use Rattle.local_rules.specs.Roles.{type_of}
 use Rattle.local_rules.specs.Levels.{HasLevel, entries_under, parts_by}
 use Rattle.local_rules.specs.declared.role.Element.{Element}

@@ -10,7 +10,7 @@ use Rattle.json_tree.specs.declared.tree.Member.{Member}
 use Rattle.dtdl_terms.specs.TermViews.{payloads_term, contents_term}
 use Rattle.dtdl_terms.specs.declared.schema.Payload.{Payload}
 use Rattle.dtdl_terms.specs.declared.content.Content.{Content}
-use Rattle.local_rules.specs.Members.{list_of, pairs_of}
+use Rattle.json_tree.specs.Members.{list_of, pairs_of}
 use Rattle.model_read.specs.Declarations.{ArePayloads, AreProperties}
 
 -- ---- loops

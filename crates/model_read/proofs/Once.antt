@@ -17,7 +17,7 @@ use Rattle.dtdl_terms.specs.declared.enumeration.EnumValue.{EnumValue}
 use Rattle.dtdl_terms.specs.declared.enumeration.EnumValue.TheVariants as values
 use Rattle.dtdl_terms.specs.declared.primitive.Primitive.{Primitive}
 use Rattle.dtdl_terms.specs.declared.primitive.Primitive.TheVariants as primitives
-use Rattle.local_rules.specs.Members.{list_of, pairs_of, value_at}
+use Rattle.json_tree.specs.Members.{list_of, pairs_of, value_at}
 use Rattle.local_rules.specs.Roles.{type_of}
 use Rattle.local_rules.specs.declared.role.Element.{Element}
 use Rattle.local_rules.specs.declared.role.Element.TheVariants as element_kind

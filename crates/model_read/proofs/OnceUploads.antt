@@ -15,7 +15,7 @@ use Rattle.dtdl_terms.specs.declared.interface.Interface.{Interface}
 use Rattle.dtdl_terms.specs.declared.schema.Schema.{Schema}
 use Rattle.dtdl_terms.specs.declared.uploaded.Uploaded.{Uploaded}
 use Rattle.dtdl_terms.proofs.OneTerm.{one_schema, one_content}
-use Rattle.local_rules.specs.Members.{list_of, value_at}
+use Rattle.json_tree.specs.Members.{list_of, value_at}
 use Rattle.local_rules.specs.declared.role.Position.{Position}
 use Rattle.local_rules.specs.declared.role.Position.TheVariants as position
 use Rattle.model_read.specs.Declarations.{IsIdentifier, AreEntriesOf, IsSemantic, HasSemantic, HasMax, AreKind, IsContent, AreProperties, HasKindOf, IsContentEntry, HasEach, IsSchema, HasParents, DeclaresInterface}

@@ -9,7 +9,7 @@ use Rattle.json_tree.specs.Places.{member_at}
 use Rattle.dt_base.specs.names.Grammar.{Identifier}
 use Rattle.dtdl_terms.specs.declared.content.Content.{Content}
 use Rattle.dtdl_terms.specs.declared.uploaded.Uploaded.{Uploaded}
-use Rattle.local_rules.specs.Members.{list_of, value_at}
+use Rattle.json_tree.specs.Members.{list_of, value_at}
 use Rattle.model_read.specs.Declarations.{AreEntriesOf, HasContents, HasEach, HasParents}
 use Rattle.model_read.specs.Uploads.{AreUploaded, HasOrdinal, IsUploaded, IsUploadedAt}
 use Rattle.extend_resolve.specs.Breaches.{HasOrdinals}

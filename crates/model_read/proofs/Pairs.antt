@@ -8,7 +8,7 @@ use Rattle.json_decimal.specs.Number.{Number}
 use Rattle.json_tree.specs.Values.{Json, Elements, no_elements, element}
 use Rattle.json_tree.specs.Places.{element_at}
 use Rattle.dtdl_terms.specs.Distinct.{AreDistinct}
-use Rattle.local_rules.specs.Members.{list_of}
+use Rattle.json_tree.specs.Members.{list_of}
 use Rattle.local_rules.specs.Repeats.{holds_some, is_among, repeats}
 
 module _ {A : Type 0} where

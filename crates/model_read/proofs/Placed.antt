@@ -6,7 +6,7 @@ use Rattle.json_tree.specs.Values.{Json}
 use Rattle.json_tree.specs.Places.{member_at}
 use Rattle.json_tree.specs.View.{view, member_view, members_view}
 use Rattle.json_tree.specs.declared.tree.Member.{Member}
-use Rattle.local_rules.specs.Members.{value_at}
+use Rattle.json_tree.specs.Members.{value_at}
 use Rattle.json_tree.proofs.Parts.{member_part}
 use Rattle.model_read.specs.Uploads.{IsNew, HasOrdinal}
 

@@ -20,7 +20,7 @@ use Rattle.local_rules.specs.Quantities.{IsStringValue}
 use Rattle.local_rules.specs.Types.{MayHaveBeside, further}
 use Rattle.local_rules.specs.declared.role.Element.TheVariants as element_kind
 use Rattle.local_rules.specs.declared.role.Position.{Position}
-use Rattle.local_rules.proofs.Views.{list_of-elements_of}
+use Rattle.json_tree.proofs.Views.{list_of-elements_of}
 use Rattle.model_read.proofs.Seen.{seen_list}
 use Rattle.json_tree.proofs.Parts.{item_part}
 use Rattle.model_read.specs.Machinery.Shapes.{CanBe, CanBeId, CanBeName, CanBeMultiplicity, CanBeTypes, EachIs, IsListOf}

@@ -8,8 +8,8 @@ use Rattle.json_tree.specs.View.{view, elements_view, members_view}
 use Rattle.json_tree.specs.declared.tree.Tree.{Tree}
 use Rattle.json_tree.specs.declared.tree.Tree as variants
 use Rattle.json_tree.specs.declared.tree.Member.{Member}
-use Rattle.local_rules.proofs.Views.{view-Text, view-List, view-Members}
-use Rattle.local_rules.specs.Members.{list_of}
+use Rattle.json_tree.proofs.Views.{view-Text, view-List, view-Members}
+use Rattle.json_tree.specs.Members.{list_of}
 use Rattle.model_read.specs.Declarations.{HasParents, IsIdentifier}
 
 pub seen_text : (t : Tree) (bytes slice : List ℕ) → t ≡ variants.Text bytes → slice ≡ bytes → view t ≡ text slice

@@ -2,7 +2,7 @@
 use Rattle.std.proofs.Common.{◌≡◌, ◌≢◌, ℕ, ◌⊎◌, inl, inr, List, [], ◌∷◌, Bool, true, Contains, Option, Some, None, option_and_then, codes, refl, sym, ap, subst, ◌∙◌, lit≤}
 use Rattle.json_decimal.specs.Number.{Number}
 use Rattle.json_tree.specs.Values.{Json, null, truth, number, text, array, object, Members}
-use Rattle.local_rules.specs.Members.{text_in, value_at}
+use Rattle.json_tree.specs.Members.{text_in, value_at}
 use Rattle.local_rules.specs.Tables.{key_text, required, types_of}
 use Rattle.local_rules.specs.Roles.{element_member, element_of, entry_role, key_of, key_role, schema_of_values_named, position_of, schema_role, type_in, type_of, untyped_role, schema_of_values}
 use Rattle.local_rules.specs.Kinds.{LacksKeyOf, is_of_kind, kind_of, needed_keys}
@@ -31,7 +31,7 @@ use Rattle.json_decimal.specs.declared.decimal.Decimal.{Decimal}
 use Rattle.json_tree.specs.View.{view, elements_view}
 use Rattle.json_tree.specs.declared.tree.Tree.{Tree}
 use Rattle.json_tree.specs.declared.tree.Tree as variants
-use Rattle.local_rules.proofs.Views.{view-Null, view-Bool, view-Number, view-List}
+use Rattle.json_tree.proofs.Views.{view-Null, view-Bool, view-Number, view-List}
 use Rattle.model_read.specs.Machinery.Shapes.{ArrayShape, CanBeEnumValue, CanBeId, CanBeMultiplicity, CanBeName, CanBeTypes, CanBeValueSchema, CommonShape, CommandShape, ComponentShape, ContentShape, EnumEntryShape, EnumerationShape, HasMember, InterfaceShape, IsListOf, IsObject, IsParents, IsValid, IsValidContent, IsValidEnumEntry, IsValidInterface, IsValidPayload, IsValidProperty, IsValidSchema, IsTruth, IsWords, KindShape, MapShape, MayHave, ObjectShape, PayloadShape, PropertyShape, RelationshipPropertyShape, RelationshipShape, SchemaShape, TelemetryShape}
 use Rattle.model_read.proofs.Leaves as leaves
 use Rattle.model_read.proofs.Valid.{entry_valid, has_key, here, member_valid, keyed_valid, of_kind}

@@ -3,7 +3,7 @@ use Rattle.std.proofs.Common.{◌≡◌, ℕ, inl, inr, List, [], ◌∷◌, ◌
 use Rattle.json_decimal.specs.Number.{Number}
 use Rattle.json_tree.specs.Values.{Json, array, object, Elements, Members}
 use Rattle.json_tree.specs.Places.{IsPart, element_at}
-use Rattle.local_rules.specs.Members.{members_in, value_at}
+use Rattle.json_tree.specs.Members.{members_in, value_at}
 use Rattle.local_rules.specs.Roles.{HasRole, element_member, element_of, entry_role, key_of, key_role, member_role, part_role, role_of_key}
 use Rattle.local_rules.specs.Breaches.{IsBroken}
 use Rattle.local_rules.specs.Levels.{TooDeep}
@@ -13,7 +13,7 @@ use Rattle.local_rules.specs.declared.rule.LocalRule.TheVariants as rule
 use Rattle.local_rules.specs.declared.role.Element.{Element}
 use Rattle.local_rules.specs.declared.role.Role.{Role}
 use Rattle.local_rules.specs.declared.role.Role.TheVariants as role
-use Rattle.local_rules.proofs.Keyed.{position_of_key}
+use Rattle.json_tree.proofs.Keyed.{position_of_key}
 use Rattle.model_read.specs.Machinery.Shapes.{IsValid}
 use Rattle.model_read.proofs.Valid.{part_valid}
 use Rattle.model_read.proofs.Whole.{interface}

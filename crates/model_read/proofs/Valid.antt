@@ -5,7 +5,7 @@ use Rattle.std.proofs.lemmas.Bool.{true_from_ne_false}
 use Rattle.json_decimal.specs.Number.{Number}
 use Rattle.json_tree.specs.Values.{Json, array, object, Elements, Members}
 use Rattle.json_tree.specs.Places.{IsPart, element_at, member_at}
-use Rattle.local_rules.specs.Members.{value_at}
+use Rattle.json_tree.specs.Members.{value_at}
 use Rattle.local_rules.specs.Tables.{key_text, required}
 use Rattle.local_rules.specs.Roles.{element_member, element_of, entry_role, key_of, key_role, member_role, part_role, role_of_key}
 use Rattle.local_rules.specs.Kinds.{LacksKeyOf, kind_of, is_of_kind, needed_keys}
@@ -15,7 +15,7 @@ use Rattle.local_rules.specs.declared.rule.LocalRule.{LocalRule}
 use Rattle.local_rules.specs.declared.rule.LocalRule.TheVariants as rule
 use Rattle.local_rules.specs.declared.role.Element.{Element}
 use Rattle.local_rules.specs.declared.role.Role.{Role}
-use Rattle.local_rules.proofs.Keyed.{position_of_key}
+use Rattle.json_tree.proofs.Keyed.{position_of_key}
 use Rattle.local_rules.proofs.Wanted.{lacks_needed}
 use Rattle.model_read.specs.Machinery.Shapes.{IsValid}
 

@@ -4,7 +4,7 @@ use Rattle.std.specs.Prelude.{codes, option_and_then}
 use Rattle.json_decimal.specs.Number.{Number}
 use Rattle.json_tree.specs.Values.{Json, null, truth, number, text, array, object, Members}
 use Rattle.json_tree.specs.Places.{IsPart}
-use Rattle.local_rules.specs.Members.{members_in, value_at, value_in}
+use Rattle.json_tree.specs.Members.{members_in, value_at, value_in}
 use Rattle.local_rules.specs.Roles.{HasRole, element_member, id_role, key_of, member_role, part_role, role_of_key, type_in, type_of}
 use Rattle.local_rules.specs.Kinds.{LacksKeyOf, needed_keys}
 use Rattle.local_rules.specs.Identifiers.{OfText}
@@ -22,11 +22,11 @@ use Rattle.local_rules.specs.declared.role.SchemaUse.{SchemaUse}
 use Rattle.json_decimal.specs.Decimals.{number_of}
 use Rattle.json_decimal.specs.declared.decimal.Decimal.{Decimal}
 use Rattle.json_tree.specs.View.{view, elements_view, members_view}
-use Rattle.local_rules.proofs.Views.{view-Null, view-Bool, view-Number, view-Text}
+use Rattle.json_tree.proofs.Views.{view-Null, view-Bool, view-Number, view-Text}
 use Rattle.json_tree.specs.declared.tree.Tree.{Tree}
 use Rattle.json_tree.specs.declared.tree.Tree as variants
 use Rattle.json_tree.specs.declared.tree.Member.{Member}
-use Rattle.local_rules.proofs.Keyed.{position_of_key}
+use Rattle.json_tree.proofs.Keyed.{position_of_key}
 use Rattle.local_rules.proofs.Named.{found_under, id_is}
 use Rattle.local_rules.proofs.Wanted.{lacks_first}
 use Rattle.model_read.specs.Machinery.Shapes.{CanBeId, EachIs, IsValid, IsValidInterface, NamesSchema}

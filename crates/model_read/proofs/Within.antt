@@ -16,7 +16,7 @@ use Rattle.dtdl_terms.specs.declared.content.Content.{Content}
 use Rattle.dtdl_terms.specs.declared.enumeration.EnumEntry.{EnumEntry}
 use Rattle.dtdl_terms.specs.declared.interface.Interface.{Interface}
 use Rattle.dtdl_terms.specs.declared.schema.Schema.{Schema}
-use Rattle.local_rules.specs.Members.{list_of, members_in, pairs_of, value_at}
+use Rattle.json_tree.specs.Members.{list_of, members_in, pairs_of, value_at}
 use Rattle.local_rules.specs.Roles.{element_of, key_of, schema_role, type_of, schema_of_values}
 use Rattle.local_rules.specs.Identifiers.{id_use, of_interface}
 use Rattle.local_rules.specs.Levels.{IsOuter}

@@ -18,7 +18,7 @@ use Rattle.dtdl_terms.specs.declared.enumeration.EnumValue.TheVariants as values
 use Rattle.dtdl_terms.specs.declared.content.Content.{Content}
 use Rattle.dtdl_terms.specs.declared.interface.Interface.{Interface}
 use Rattle.dtdl_terms.specs.declared.schema.Schema.{Schema}
-use Rattle.local_rules.specs.Members.{list_of, pairs_of, value_at, members_in}
+use Rattle.json_tree.specs.Members.{list_of, pairs_of, value_at, members_in}
 use Rattle.local_rules.specs.Roles.{type_of}
 use Rattle.local_rules.specs.Typed.{IsPropertyTerm, type_of_kind}
 use Rattle.local_rules.specs.Types.{further}

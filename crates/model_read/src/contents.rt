@@ -3,7 +3,7 @@
 ghost use Rattle.std.specs.Prelude.{◌∷◌, [], Some, IfOk, OnOk, codes};
 ghost use Rattle.std.specs.List.{AllZip};
 ghost use Rattle.json_tree.specs.View.{view, members_view, elements_view};
-ghost use Rattle.local_rules.specs.Members.{list_of, value_at};
+ghost use Rattle.json_tree.specs.Members.{list_of, value_at};
 ghost use Rattle.local_rules.specs.Roles.{type_of};
 ghost use Rattle.local_rules.specs.declared.role.Element.TheVariants as element;
 ghost use Rattle.local_rules.specs.declared.role.Position.TheVariants as position;

@@ -5,7 +5,7 @@ ghost use Rattle.std.specs.List.{AllZip};
 ghost use Rattle.json_decimal.specs.Decimals.{number_of};
 ghost use Rattle.json_tree.specs.Values.{number, text};
 ghost use Rattle.json_tree.specs.View.{view, members_view, elements_view};
-ghost use Rattle.local_rules.specs.Members.{list_of};
+ghost use Rattle.json_tree.specs.Members.{list_of};
 ghost use Rattle.model_read.specs.Declarations.{DeclaresEnumEntry, HasString, IsEnumEntry, IsEnumValue, value_schema};
 ghost use Rattle.model_read.specs.Machinery.Shapes.{CanBeEnumValue, CanBeValueSchema, EachIs, EnumEntryShape, HasMember, IsValidEnumEntry};
 
@@ -30,7 +30,7 @@ fn number_value(decimal: &Decimal) -> EnumValue
 }
 
 /// The enum value that a value is.
-#[tactic(auto, using(local_rules::proofs::Views::views))]
+#[tactic(auto, using(json_tree::proofs::Views::views))]
 fn enum_value_of(alloc: Global, tree: &Tree) -> Result<EnumValue, OutOfMemory>
     requires { CanBeEnumValue (view tree.now) }
     ensures { IfOk result (λ v. IsEnumValue (view tree.now) v) }
@@ -47,9 +47,9 @@ fn enum_entry_in(alloc: Global, members: &[Member]) -> Result<EnumEntry, OutOfMe
     requires { EnumEntryShape (members_view members.now) }
     ensures { IfOk result (λ e. DeclaresEnumEntry (members_view members.now) e) }
 {
+    let value = enum_value_of(alloc, wanted(members, "enumValue"))?;
     let name = name_at(alloc, members, "name")?;
     let common = common_of(alloc, members)?;
-    let value = enum_value_of(alloc, wanted(members, "enumValue"))?;
     Ok(EnumEntry {
         name,
         common,

@@ -3,7 +3,7 @@
 ghost use Rattle.std.specs.Prelude.{Some, IfOk, codes};
 ghost use Rattle.std.specs.List.{AllZip};
 ghost use Rattle.json_tree.specs.View.{view, members_view, elements_view};
-ghost use Rattle.local_rules.specs.Members.{list_of, value_at};
+ghost use Rattle.json_tree.specs.Members.{list_of, value_at};
 ghost use Rattle.dtdl_terms.specs.TermViews.{schema_term};
 ghost use Rattle.model_read.specs.Declarations.{DeclaresInterface, HasParents, HasSchemas, IsIdentifier, IsSchema};
 ghost use Rattle.model_read.specs.Machinery.Shapes.{CanBeId, EachIs, InterfaceShape, IsListOf, IsParents, IsValidSchema, MayHave};
@@ -16,8 +16,7 @@ use crate::texts::{id_at, id_of, optional_text};
 use dt_base::names::Dtmi;
 use dt_base::{List, OutOfMemory};
 use dtdl_terms::{Interface, Schema};
-use json_tree::{Member, Tree};
-use local_rules::value_at;
+use json_tree::{Member, Tree, value_at};
 use std::alloc::Global;
 
 /// The identifiers that the entries of a list are.

@@ -5,7 +5,7 @@ ghost use Rattle.json_decimal.specs.Decimals.{number_of};
 ghost use Rattle.json_decimal.specs.Comparing.{IsWhole};
 ghost use Rattle.json_tree.specs.View.{view, members_view};
 ghost use Rattle.json_tree.specs.Values.{number, truth};
-ghost use Rattle.local_rules.specs.Members.{value_at};
+ghost use Rattle.json_tree.specs.Members.{value_at};
 ghost use Rattle.local_rules.specs.declared.role.Element.TheVariants as element;
 ghost use Rattle.local_rules.specs.declared.role.Position.TheVariants as position;
 ghost use Rattle.dtdl_terms.specs.TermViews.{payload_term};
@@ -21,12 +21,12 @@ use dt_base::OutOfMemory;
 use dt_base::names::Name;
 use dtdl_terms::{Boxed, Common, Content, ContentKind, Payload};
 use json_decimal::Decimal;
-use json_tree::{Member, Tree};
-use local_rules::{Position, value_at};
+use json_tree::{Member, Tree, value_at};
+use local_rules::Position;
 use std::alloc::Global;
 
 /// The truth value that a value is.
-#[tactic(auto, using(local_rules::proofs::Views::views))]
+#[tactic(auto, using(json_tree::proofs::Views::views))]
 fn truth_of(tree: &Tree) -> bool
     requires { IsTruth (view tree.now) }
     ensures { view tree.now ≡ truth result }
@@ -62,7 +62,7 @@ fn count_of(decimal: &Decimal) -> u32
 }
 
 /// The number that a value is.
-#[tactic(auto, using(local_rules::proofs::Views::views))]
+#[tactic(auto, using(json_tree::proofs::Views::views))]
 fn decimal_of(tree: &Tree) -> &Decimal
     requires { CanBeMultiplicity (view tree.now) }
     ensures { view tree.now ≡ number (number_of result.now) }
@@ -112,9 +112,9 @@ pub fn push_telemetry(
     requires { TelemetryShape position.Content (members_view members.now) }
     ensures { OnOk result (GainsKind position.Content (Some element.Telemetry) (members_view members.now) name common contents.old.items contents.new.items) }
 {
-    let schema = schema_at(alloc, members, "schema")?;
     let semantic = semantic_at(alloc, Position::Content, members)?;
     let unit = optional_name(alloc, members, "unit")?;
+    let schema = schema_at(alloc, members, "schema")?;
     let kind = ContentKind::Telemetry {
         schema,
         semantic,
@@ -136,10 +136,10 @@ pub fn push_property(
     requires { PropertyShape position (members_view members.now) }
     ensures { OnOk result (GainsKind position (Some element.Property) (members_view members.now) name common contents.old.items contents.new.items) }
 {
-    let schema = schema_at(alloc, members, "schema")?;
     let semantic = semantic_at(alloc, position, members)?;
     let unit = optional_name(alloc, members, "unit")?;
     let writable = is_writable(members);
+    let schema = schema_at(alloc, members, "schema")?;
     let kind = ContentKind::Property {
         schema,
         semantic,

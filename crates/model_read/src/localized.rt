@@ -3,7 +3,7 @@
 ghost use Rattle.std.specs.Prelude.{◌≡◌, [], ◌∷◌, Some, IfOk, codes};
 ghost use Rattle.std.specs.List.{AllZip};
 ghost use Rattle.json_tree.specs.View.{view, member_view, members_view};
-ghost use Rattle.local_rules.specs.Members.{pairs_of, value_at};
+ghost use Rattle.json_tree.specs.Members.{pairs_of, value_at};
 ghost use Rattle.local_rules.specs.Quantities.{IsStringValue};
 ghost use Rattle.model_read.specs.Declarations.{HasLocalized, IsLocalizedBy, IsTextOfLanguage};
 ghost use Rattle.model_read.specs.Machinery.Shapes.{HaveStrings, IsWords, MayHave};
@@ -11,8 +11,7 @@ ghost use Rattle.model_read.specs.Machinery.Shapes.{HaveStrings, IsWords, MayHav
 use crate::texts::text_of;
 use dt_base::{List, OutOfMemory, Text};
 use dtdl_terms::{Entry, Localized};
-use json_tree::{Member, Tree};
-use local_rules::value_at;
+use json_tree::{Member, Tree, value_at};
 use std::alloc::Global;
 
 /// The text of one language.
@@ -50,7 +49,7 @@ fn english(alloc: Global, text: &Text) -> Result<List<Entry>, OutOfMemory>
 }
 
 /// The localized text that a value is.
-#[tactic(auto, using(local_rules::proofs::Views::views))]
+#[tactic(auto, using(json_tree::proofs::Views::views))]
 fn localized_of(alloc: Global, tree: &Tree) -> Result<List<Entry>, OutOfMemory>
     requires { IsWords (view tree.now) }
     ensures { IfOk result (λ es. IsLocalizedBy (view tree.now) es) }

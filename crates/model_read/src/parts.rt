@@ -3,15 +3,14 @@
 ghost use Rattle.std.specs.Prelude.{◌≡◌, ◌≢◌, Some, None};
 ghost use Rattle.json_tree.specs.Values.{array, object};
 ghost use Rattle.json_tree.specs.View.{view, members_view, elements_view};
-ghost use Rattle.local_rules.specs.Members.{value_at};
+ghost use Rattle.json_tree.specs.Members.{value_at};
 ghost use Rattle.model_read.specs.Declarations.{AreEntriesOf};
 ghost use Rattle.model_read.specs.Machinery.Shapes.{IsArray, IsObject, MayHave};
 
-use json_tree::{Member, Tree};
-use local_rules::value_at;
+use json_tree::{Member, Tree, value_at};
 
 /// The members of an object.
-#[tactic(auto, using(local_rules::proofs::Views::views))]
+#[tactic(auto, using(json_tree::proofs::Views::views))]
 pub fn members_of(tree: &Tree) -> &[Member]
     requires { IsObject (view tree.now) }
     ensures { view tree.now ≡ object (members_view result.now) }
@@ -25,7 +24,7 @@ pub fn members_of(tree: &Tree) -> &[Member]
 }
 
 /// The entries of a list.
-#[tactic(auto, using(local_rules::proofs::Views::views))]
+#[tactic(auto, using(json_tree::proofs::Views::views))]
 pub fn entries_of(tree: &Tree) -> &[Tree]
     requires { IsArray (view tree.now) }
     ensures { view tree.now ≡ array (elements_view result.now) }

@@ -3,11 +3,10 @@
 ghost use Rattle.std.specs.Prelude.{◌≡◌, ◌≢◌, ◌↔◌, ℕ, List, Some, None, IsTrue, codes};
 ghost use Rattle.json_tree.specs.Values.{text};
 ghost use Rattle.json_tree.specs.View.{members_view};
-ghost use Rattle.local_rules.specs.Members.{value_at};
+ghost use Rattle.json_tree.specs.Members.{value_at};
 ghost use Rattle.model_read.specs.Uploads.{HasOrdinal};
 
-use json_tree::Member;
-use local_rules::text_at;
+use json_tree::{Member, text_at};
 
 /// The ordinal of the member with this key, where there is one.
 pub fn ordinal_at(members: &[Member], key: &str) -> Option<u64>

@@ -6,7 +6,7 @@ ghost use Rattle.json_tree.specs.Values.{Json, array, object};
 ghost use Rattle.json_tree.specs.View.{view, members_view, elements_view};
 ghost use Rattle.json_tree.specs.Places.{StandsAt};
 ghost use Rattle.local_rules.specs.Breaches.{IsBreach};
-ghost use Rattle.local_rules.specs.Members.{list_of};
+ghost use Rattle.json_tree.specs.Members.{list_of};
 ghost use Rattle.local_rules.specs.declared.rule.LocalRule.{LocalRule};
 ghost use Rattle.model_read.specs.Ends.{IsRightEnd};
 ghost use Rattle.model_read.specs.Uploads.{AreUploaded, IsUploaded, IsUploadedAt};
@@ -114,7 +114,7 @@ fn uploads_of(
 }
 
 /// The interfaces of a document.
-#[tactic(auto, using(local_rules::proofs::Views::views))]
+#[tactic(auto, using(json_tree::proofs::Views::views))]
 fn uploads_in(alloc: Global, tree: &Tree, document: u32) -> Result<List<Uploaded>, OutOfMemory>
     requires { (place : List ℕ) (broken : LocalRule) → IsBreach (view tree.now) place broken → ⊥ }
     ensures { IfOk result (λ us. AreUploaded (view tree.now) document us) }

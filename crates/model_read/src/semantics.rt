@@ -11,8 +11,8 @@ ghost use Rattle.model_read.specs.Machinery.Shapes.{CanBe, CanBeTypes, MayHave};
 use crate::texts::name_of;
 use dt_base::OutOfMemory;
 use dt_base::names::Name;
-use json_tree::{Member, Tree};
-use local_rules::{Further, Position, first_further, value_at};
+use json_tree::{Member, Tree, value_at};
+use local_rules::{Further, Position, first_further};
 use std::alloc::Global;
 
 /// The name that a further entry is, with none behind it.
@@ -28,7 +28,7 @@ fn only_name(alloc: Global, position: Position, found: &Further) -> Result<Name,
 }
 
 /// The semantic type among the entries of a list `@type`.
-#[tactic(auto, using(local_rules::proofs::Views::lists))]
+#[tactic(auto, using(json_tree::proofs::Views::lists))]
 fn semantic_among(
     alloc: Global,
     position: Position,
@@ -44,7 +44,7 @@ fn semantic_among(
 }
 
 /// The semantic type that a value of `@type` names.
-#[tactic(auto, using(local_rules::proofs::Views::views))]
+#[tactic(auto, using(json_tree::proofs::Views::views))]
 fn semantic_of(alloc: Global, position: Position, tree: &Tree) -> Result<Option<Name>, OutOfMemory>
     requires { CanBeTypes position (view tree.now) }
     ensures { IfOk result (λ s. IsSemantic position (Some (view tree.now)) s) }

@@ -11,12 +11,11 @@ ghost use Rattle.model_read.specs.Machinery.Shapes.{CanBeId, CanBeName, HasMembe
 use crate::parts::wanted;
 use dt_base::names::{Dtmi, Name, NameFault};
 use dt_base::{OutOfMemory, Text};
-use json_tree::{Member, Tree};
-use local_rules::value_at;
+use json_tree::{Member, Tree, value_at};
 use std::alloc::Global;
 
 /// The text that a value is.
-#[tactic(auto, using(local_rules::proofs::Views::views))]
+#[tactic(auto, using(json_tree::proofs::Views::views))]
 pub fn bytes_of(tree: &Tree) -> &str
     requires { IsStringValue (view tree.now) }
     ensures { view tree.now ≡ text result.now }

@@ -1,13 +1,11 @@
-//! Worked rows and outside vectors of numbers, of records that are read, of documents in batches, of canonical texts and of the commands, through the
-//! public calls of `json_decimal`, `model_read`, `model_batches`, `canon_print` and `dtdl_cmd`. They stand here, since a crate with tests of its own is proved twice.
+//! Worked rows and outside vectors of numbers, of records that are read, of documents in batches and of canonical texts, through the
+//! public calls of `json_decimal`, `model_read`, `model_batches` and `canon_print`. They stand here, since a crate with tests of its own is proved twice.
 #![tactic(auto)]
 
 #[cfg(test)]
 mod batches;
 #[cfg(test)]
 mod canonical;
-#[cfg(test)]
-mod commands;
 #[cfg(test)]
 mod decimals;
 #[cfg(test)]

@@ -7,8 +7,8 @@ use Rattle.json_decimal.specs.Number.{Number}
 use Rattle.json_tree.specs.Values.{Json, null, truth, number, text, array, object, Members, no_members, member}
 use Rattle.json_tree.specs.Places.{member_at}
 use Rattle.json_tree.specs.Pointers.{pointer_text}
-use Rattle.local_rules.specs.Members.{text_in, value_at}
-use Rattle.local_rules.proofs.Keyed.{position_of_key}
+use Rattle.json_tree.specs.Members.{text_in, value_at}
+use Rattle.json_tree.proofs.Keyed.{position_of_key}
 use Rattle.twin_value.specs.Breaches.{BodyBreachComesBefore, HasNoBreach, IsFirstBodyBreach, text_under}
 use Rattle.twin_value.specs.Codes.{code_name, code_number}
 use Rattle.twin_value.specs.declared.code.BodyCode.{BodyCode}

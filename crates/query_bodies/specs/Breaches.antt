@@ -3,7 +3,7 @@
 use Rattle.std.specs.Prelude.{◌≡◌, ℕ, ◌⊎◌, List, [], ◌∷◌, Bool, true, false, Some, None, codes}
 use Rattle.json_tree.specs.Values.{Json, null, truth, number, text, array, object}
 use Rattle.json_tree.specs.Places.{member_at}
-use Rattle.local_rules.specs.Members.{members_in, text_in}
+use Rattle.json_tree.specs.Members.{members_in, text_in}
 use Rattle.twin_value.specs.Breaches.{Lacks}
 use Rattle.twin_value.specs.Fits.{is_object}
 use Rattle.twin_value.specs.declared.code.BodyCode.{BodyCode}

@@ -13,13 +13,12 @@ ghost use Rattle.query_bodies.specs.Machinery.Firsts.{first_breach, first_of_mem
 
 use dt_base::{OutOfMemory, Text};
 use graph_asks::{At, Refusal};
-use json_tree::{Member, Tree};
-use local_rules::{text_in, value_at};
+use json_tree::{Member, Tree, text_in, value_at};
 use std::alloc::Global;
 use twin_value::BodyCode;
 
 /// Whether a value is a text or null.
-#[tactic(auto, using(local_rules::proofs::Views::views))]
+#[tactic(auto, using(json_tree::proofs::Views::views))]
 fn is_text_or_null(tree: &Tree) -> bool
     ensures { result ≡ is_text_or_null (view tree.now) }
 {
@@ -75,7 +74,7 @@ fn first_of_members(members: &[Member]) -> Option<(&'static str, BodyCode)>
 }
 
 /// The first breach of a body: the pointer to it, and its code.
-#[tactic(auto, using(local_rules::proofs::Views::views))]
+#[tactic(auto, using(json_tree::proofs::Views::views))]
 fn first_breach(tree: &Tree) -> Option<(&'static str, BodyCode)>
     ensures { option_map (λ b. (b.0.now, b.1)) result ≡ first_breach (view tree.now) }
 {

@@ -1,9 +1,10 @@
-//! Takes each line of the standard input as a query, and prints on a line its printed form or its refusal.
+//! Takes each line of the standard input as a query, and prints on a line the printed form of a copy of it, or its refusal.
 #![tactic(auto)]
 
 use anyhow::bail;
 use dt_base::{StdSource, read_all};
 use query_parse::{QueryFault, read};
+use query_terms::Query;
 use query_text::text;
 use std::alloc::Global;
 
@@ -24,16 +25,23 @@ fn refusal_of(alloc: Global, fault: &QueryFault) -> anyhow::Result<String> {
     Ok(printed)
 }
 
-/// The printed form of the query that the line is, or its refusal.
-fn answer_of(alloc: Global, line: &str) -> anyhow::Result<String> {
-    let query = match read(alloc, line) {
-        Ok(query) => query,
-        Err(fault) => return refusal_of(alloc, &fault),
+/// The printed form of a copy of a query.
+fn form_of(alloc: Global, query: &Query) -> anyhow::Result<String> {
+    let Ok(copy) = query.copy(alloc) else {
+        bail!("out of memory");
     };
-    let Ok(printed) = text(alloc, &query) else {
+    let Ok(printed) = text(alloc, &copy) else {
         bail!("out of memory");
     };
     Ok(String::from_str(alloc, printed.as_str())?)
+}
+
+/// The printed form of the query that the line is, or its refusal.
+fn answer_of(alloc: Global, line: &str) -> anyhow::Result<String> {
+    match read(alloc, line) {
+        Ok(query) => form_of(alloc, &query),
+        Err(fault) => refusal_of(alloc, &fault),
+    }
 }
 
 fn main(rt: HostRuntime) -> anyhow::Result<()> {

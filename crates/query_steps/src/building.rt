@@ -1,6 +1,6 @@
 //! Conditions, put together from their parts.
 
-ghost use Rattle.std.specs.Prelude.{◌≡◌, IfOk};
+ghost use Rattle.std.specs.Prelude.{◌≡◌, Some, IfOk};
 ghost use Rattle.query_terms.specs.Conditions.{condition, compared, among, not_among, is_kind, has_part, of_model};
 ghost use Rattle.query_grammar.specs.Machinery.Steps.{with_both, with_either, negations, closed, left_chain, membership};
 
@@ -64,14 +64,27 @@ pub(crate) fn negated(alloc: Global, built: Built, nots: u32) -> Result<Built, O
     Ok(built)
 }
 
+/// The factors of a term with one more, behind so many NOTs.
+pub(crate) fn term_of(
+    alloc: Global,
+    both: Option<Built>,
+    nots: u32,
+    factor: Built,
+) -> Result<Built, OutOfMemory>
+    ensures { IfOk result (λ b. b ≡ with_both both (negations nots factor)) }
+{
+    let factor = negated(alloc, factor, nots)?;
+    with_both(alloc, both, factor)
+}
+
 /// The state behind a whole factor.
 pub(crate) fn closed(
     alloc: Global,
     notes: Notes,
     around: Around,
     factor: Built,
-) -> Result<State, OutOfMemory>
-    ensures { IfOk result (λ s. s ≡ closed notes around factor) }
+) -> Result<Option<State>, OutOfMemory>
+    ensures { IfOk result (λ s. s ≡ Some (closed notes around factor)) }
 {
     let Around {
         head,
@@ -85,9 +98,11 @@ pub(crate) fn closed(
         nots,
         room,
     } = chain;
-    let factor = negated(alloc, factor, nots)?;
-    let term = with_both(alloc, both, factor)?;
-    Ok(State::BehindFactor(notes, head, either, term, chains, room))
+    let Ok(term) = term_of(alloc, both, nots, factor) else {
+        drop((notes, head, either, chains));
+        return Err(OutOfMemory);
+    };
+    Ok(Some(State::BehindFactor(notes, head, either, term, chains, room)))
 }
 
 /// The state behind a parenthesis that closes, where one is open.
@@ -102,7 +117,10 @@ pub(crate) fn left_chain(
 {
     let mut chains = chains;
     match chains.pop() {
-        None => Ok(None),
+        None => {
+            drop((notes, head, chains, built));
+            Ok(None)
+        }
         Some(chain) => {
             let room = chain.room;
             let around = Around {
@@ -111,8 +129,7 @@ pub(crate) fn left_chain(
                 chains,
                 room,
             };
-            let state = closed(alloc, notes, around, built)?;
-            Ok(Some(state))
+            closed(alloc, notes, around, built)
         }
     }
 }

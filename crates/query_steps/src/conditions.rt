@@ -1,54 +1,47 @@
 //! The states of reading a condition.
 
-ghost use Rattle.std.specs.Prelude.{◌≡◌, IfOk};
+ghost use Rattle.std.specs.Prelude.{◌≡◌, suc, [], ◌∷◌, ◌++◌, Some, IfOk, OnOk};
 ghost use Rattle.query_terms.specs.declared.operand.Operand.TheVariants as operands;
 ghost use Rattle.query_terms.specs.declared.tokens.token.Mark.TheVariants as marks;
 ghost use Rattle.query_grammar.specs.declared.state.State.TheVariants as states;
 ghost use Rattle.query_grammar.specs.declared.state.Goal.TheVariants as goals;
 ghost use Rattle.query_grammar.specs.Machinery.Steps.{closed, closed_step, is_mark, when, negating, inside, with_room, path_begun, factor_step, literal_step, takes_literal, operand_step, behind_factor_step, behind_left_step, behind_step, operand_path, path_step, field_step};
 
-use crate::building::{closed, left_chain, negated, with_both, with_either};
+use crate::building::{closed, left_chain, term_of, with_either};
+use crate::noting::path_noted;
 use crate::tests_of_tokens::{is_dot, is_mark, when};
 use dt_base::{List, OutOfMemory, Text};
-use query_grammar::{Around, Built, Chain, Chains, Goal, Head, Notes, PlacedName, Referent, State};
+use query_grammar::{Around, Built, Chain, Chains, Goal, Head, Notes, PlacedName, State};
 use query_terms::tokens::{Mark, Token, Word};
 use query_terms::{Cond, Literal, Operand};
 use std::alloc::Global;
+
+/// Counts one NOT more. There are never more than 64.
+fn count_not(chain: &mut Chain) -> Result<(), OutOfMemory>
+    ensures { OnOk result (chain.new ≡ record chain.old { nots = suc chain.old.nots }) }
+{
+    match chain.nots.checked_add(1) {
+        Some(nots) => {
+            chain.nots = nots;
+            Ok(())
+        }
+        None => Err(OutOfMemory),
+    }
+}
 
 /// The state behind NOT, where one more may be open.
 fn behind_not(notes: Notes, around: Around) -> Result<Option<State>, OutOfMemory>
     ensures { IfOk result (λ s. s ≡ with_room around.room (λ room. states.Factor notes (negating around room))) }
 {
-    let Around {
-        head,
-        chain,
-        chains,
-        room,
-    } = around;
-    let Chain {
-        either,
-        both,
-        nots,
-        room: outer,
-    } = chain;
-    if room == 0 {
+    let mut around = around;
+    if around.room == 0 {
+        drop((notes, around));
         return Ok(None);
     }
-    // There are never more than 64.
-    let Some(nots) = nots.checked_add(1) else {
+    around.room -= 1;
+    let Ok(()) = count_not(&mut around.chain) else {
+        drop((notes, around));
         return Err(OutOfMemory);
-    };
-    let chain = Chain {
-        either,
-        both,
-        nots,
-        room: outer,
-    };
-    let around = Around {
-        head,
-        chain,
-        chains,
-        room: room - 1,
     };
     Ok(Some(State::Factor(notes, around)))
 }
@@ -57,16 +50,20 @@ fn behind_not(notes: Notes, around: Around) -> Result<Option<State>, OutOfMemory
 fn behind_open(notes: Notes, around: Around) -> Result<Option<State>, OutOfMemory>
     ensures { IfOk result (λ s. s ≡ with_room around.room (λ room. states.Factor notes (inside around room))) }
 {
+    if around.room == 0 {
+        drop((notes, around));
+        return Ok(None);
+    }
     let Around {
         head,
         chain,
         mut chains,
         room,
     } = around;
-    if room == 0 {
-        return Ok(None);
-    }
-    chains.push(chain)?;
+    let Ok(()) = chains.push(chain) else {
+        drop((notes, head, chains));
+        return Err(OutOfMemory);
+    };
     let chain = Chain {
         either: None,
         both: None,
@@ -97,13 +94,14 @@ fn path_begun(
     goal: Goal,
     at: u32,
     name: Text,
-) -> Result<State, OutOfMemory>
-    ensures { IfOk result (λ s. s ≡ path_begun notes around goal at name) }
+) -> Result<Option<State>, OutOfMemory>
+    ensures { IfOk result (λ s. s ≡ Some (path_begun notes around goal at name)) }
 {
-    let mut path = List::new(alloc);
-    path.push(name.copy(alloc)?)?;
-    let notes = notes.with_use(PlacedName { at, name }, Referent::Path)?;
-    Ok(State::Path(notes, around, goal, path))
+    let Ok((notes, path)) = path_noted(alloc, notes, at, name) else {
+        drop((around, goal));
+        return Err(OutOfMemory);
+    };
+    Ok(Some(State::Path(notes, around, goal, path)))
 }
 
 pub(crate) fn factor(
@@ -133,15 +131,15 @@ pub(crate) fn factor(
                 State::ModelOpen(notes, around, PlacedName { at, name }),
             ))
         }
-        Token::Name(Word::Alias, name) => {
-            let state = path_begun(alloc, notes, around, Goal::Left, at, name)?;
-            Ok(Some(state))
-        }
+        Token::Name(Word::Alias, name) => path_begun(alloc, notes, around, Goal::Left, at, name),
         Token::Name(Word::True, _) => Ok(Some(left_literal(notes, around, Literal::Truth(true)))),
         Token::Name(Word::False, _) => Ok(Some(left_literal(notes, around, Literal::Truth(false)))),
         Token::Number(number) => Ok(Some(left_literal(notes, around, Literal::Number(number)))),
         Token::Text(text, _) => Ok(Some(left_literal(notes, around, Literal::Word(text)))),
-        _ => Ok(None),
+        other => {
+            drop((notes, around, other));
+            Ok(None)
+        }
     }
 }
 
@@ -181,15 +179,15 @@ pub(crate) fn operand(
     ensures { IfOk result (λ s. s ≡ operand_step notes around goal at token) }
 {
     match token {
-        Token::Name(Word::Alias, name) => {
-            let state = path_begun(alloc, notes, around, goal, at, name)?;
-            Ok(Some(state))
-        }
+        Token::Name(Word::Alias, name) => path_begun(alloc, notes, around, goal, at, name),
         Token::Name(Word::True, _) => Ok(literal(notes, around, goal, Literal::Truth(true))),
         Token::Name(Word::False, _) => Ok(literal(notes, around, goal, Literal::Truth(false))),
         Token::Number(number) => Ok(literal(notes, around, goal, Literal::Number(number))),
         Token::Text(text, _) => Ok(literal(notes, around, goal, Literal::Word(text))),
-        _ => Ok(None),
+        other => {
+            drop((notes, around, goal, other));
+            Ok(None)
+        }
     }
 }
 
@@ -201,9 +199,9 @@ pub(crate) fn behind_factor(
     built: Built,
     chains: Chains,
     room: u32,
-    token: Token,
+    token: &Token,
 ) -> Result<Option<State>, OutOfMemory>
-    ensures { IfOk result (λ s. s ≡ behind_factor_step notes head before built chains room token) }
+    ensures { IfOk result (λ s. s ≡ behind_factor_step notes head before built chains room token.now) }
 {
     match token {
         Token::Name(Word::And, _) => {
@@ -224,7 +222,10 @@ pub(crate) fn behind_factor(
             )))
         }
         Token::Name(Word::Or, _) => {
-            let either = with_either(alloc, before, built)?;
+            let Ok(either) = with_either(alloc, before, built) else {
+                drop((notes, head, chains));
+                return Err(OutOfMemory);
+            };
             let chain = Chain {
                 either: Some(either),
                 both: None,
@@ -242,23 +243,32 @@ pub(crate) fn behind_factor(
             )))
         }
         Token::Mark(Mark::Close) => {
-            let whole = with_either(alloc, before, built)?;
+            let Ok(whole) = with_either(alloc, before, built) else {
+                drop((notes, head, chains));
+                return Err(OutOfMemory);
+            };
             left_chain(alloc, notes, head, chains, whole)
         }
-        _ => Ok(None),
+        _ => {
+            drop((notes, head, before, built, chains));
+            Ok(None)
+        }
     }
 }
 
-fn behind_left(notes: Notes, around: Around, operand: Operand, token: Token) -> Option<State>
-    ensures { result ≡ behind_left_step notes around operand token }
+fn behind_left(notes: Notes, around: Around, operand: Operand, token: &Token) -> Option<State>
+    ensures { result ≡ behind_left_step notes around operand token.now }
 {
     match token {
         Token::Mark(Mark::Compare(compare)) => {
-            Some(State::Operand(notes, around, Goal::Right(operand, compare)))
+            Some(State::Operand(notes, around, Goal::Right(operand, *compare)))
         }
         Token::Name(Word::In, _) => Some(State::ListOpen(notes, around, operand, true)),
         Token::Name(Word::Nin, _) => Some(State::ListOpen(notes, around, operand, false)),
-        _ => None,
+        _ => {
+            drop((notes, around, operand));
+            None
+        }
     }
 }
 
@@ -268,9 +278,9 @@ fn behind_closed(
     notes: Notes,
     around: Around,
     factor: Built,
-    token: Token,
+    token: &Token,
 ) -> Result<Option<State>, OutOfMemory>
-    ensures { IfOk result (λ s. s ≡ closed_step notes around factor token) }
+    ensures { IfOk result (λ s. s ≡ closed_step notes around factor token.now) }
 {
     let Around {
         head,
@@ -284,8 +294,10 @@ fn behind_closed(
         nots,
         room,
     } = chain;
-    let factor = negated(alloc, factor, nots)?;
-    let term = with_both(alloc, both, factor)?;
+    let Ok(term) = term_of(alloc, both, nots, factor) else {
+        drop((notes, head, either, chains));
+        return Err(OutOfMemory);
+    };
     behind_factor(alloc, notes, head, either, term, chains, room, token)
 }
 
@@ -305,9 +317,9 @@ pub(crate) fn behind(
     around: Around,
     goal: Goal,
     operand: Operand,
-    token: Token,
+    token: &Token,
 ) -> Result<Option<State>, OutOfMemory>
-    ensures { IfOk result (λ s. s ≡ behind_step notes around goal operand token) }
+    ensures { IfOk result (λ s. s ≡ behind_step notes around goal operand token.now) }
 {
     match goal {
         Goal::Left => Ok(behind_left(notes, around, operand, token)),
@@ -320,7 +332,7 @@ pub(crate) fn behind(
             behind_close(alloc, notes, around, Built { cond }, token)
         }
         Goal::First(kind) => {
-            let passes = is_mark(Mark::Comma, &token);
+            let passes = is_mark(Mark::Comma, token);
             Ok(when(
                 passes,
                 State::Operand(notes, around, Goal::Second(kind, operand)),
@@ -339,13 +351,16 @@ pub(crate) fn behind_close(
     notes: Notes,
     around: Around,
     factor: Built,
-    token: Token,
+    token: &Token,
 ) -> Result<Option<State>, OutOfMemory>
-    ensures { IfOk result (λ s. s ≡ when (is_mark marks.Close token) (closed notes around factor)) }
+    ensures { IfOk result (λ s. s ≡ when (is_mark marks.Close token.now) (closed notes around factor)) }
 {
-    let passes = is_mark(Mark::Close, &token);
-    let state = closed(alloc, notes, around, factor)?;
-    Ok(when(passes, state))
+    if is_mark(Mark::Close, token) {
+        closed(alloc, notes, around, factor)
+    } else {
+        drop((notes, around, factor));
+        Ok(None)
+    }
 }
 
 pub(crate) fn path(
@@ -354,14 +369,32 @@ pub(crate) fn path(
     around: Around,
     goal: Goal,
     path: List<Text>,
-    token: Token,
+    token: &Token,
 ) -> Result<Option<State>, OutOfMemory>
-    ensures { IfOk result (λ s. s ≡ path_step notes around goal path token) }
+    ensures { IfOk result (λ s. s ≡ path_step notes around goal path token.now) }
 {
-    if is_dot(&token) {
+    if is_dot(token) {
         return Ok(Some(State::Field(notes, around, goal, path)));
     }
     behind(alloc, notes, around, goal, Operand::Path(path), token)
+}
+
+/// The state behind one name more of a path.
+fn path_longer(
+    notes: Notes,
+    around: Around,
+    goal: Goal,
+    path: List<Text>,
+    name: Text,
+) -> Result<Option<State>, OutOfMemory>
+    ensures { IfOk result (λ s. s ≡ Some (states.Path notes around goal (path ++ name ∷ []))) }
+{
+    let mut path = path;
+    let Ok(()) = path.push(name) else {
+        drop((notes, around, goal, path));
+        return Err(OutOfMemory);
+    };
+    Ok(Some(State::Path(notes, around, goal, path)))
 }
 
 pub(crate) fn field(
@@ -374,11 +407,10 @@ pub(crate) fn field(
     ensures { IfOk result (λ s. s ≡ field_step notes around goal path token) }
 {
     match token {
-        Token::Name(_, name) => {
-            let mut path = path;
-            path.push(name)?;
-            Ok(Some(State::Path(notes, around, goal, path)))
+        Token::Name(_, name) => path_longer(notes, around, goal, path, name),
+        other => {
+            drop((notes, around, goal, path, other));
+            Ok(None)
         }
-        _ => Ok(None),
     }
 }

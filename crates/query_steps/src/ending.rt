@@ -6,7 +6,7 @@ ghost use Rattle.query_terms.specs.Queries.{asked};
 ghost use Rattle.query_grammar.specs.declared.state.State.TheVariants as states;
 ghost use Rattle.query_grammar.specs.Machinery.Steps.{asked_of, end, end_of_chain, end_closed, end_behind, with_join, head_of};
 
-use crate::building::{negated, with_both, with_either};
+use crate::building::{term_of, with_either};
 use crate::sourcing::{head_of, joined};
 use dt_base::{OutOfMemory, Text};
 use query_grammar::{Around, Built, Chain, Chains, Goal, Head, Notes, State};
@@ -49,12 +49,43 @@ fn end_of_chain(
 {
     let mut chains = chains;
     match chains.pop() {
-        Some(_) => Ok(None),
+        Some(chain) => {
+            drop((notes, head, before, built, chains, chain));
+            Ok(None)
+        }
         None => {
             let whole = with_either(alloc, before, built)?;
             Ok(Some((query_of(head, Some(whole)), notes)))
         }
     }
+}
+
+/// The query behind a factor that ends a condition.
+fn end_closed(
+    alloc: Global,
+    notes: Notes,
+    around: Around,
+    factor: Built,
+) -> Result<Option<(Query, Notes)>, OutOfMemory>
+    ensures { IfOk result (λ o. option_map (λ p. (asked p.0, p.1)) o ≡ end_closed notes around factor) }
+{
+    let Around {
+        head,
+        chain,
+        chains,
+        room: _,
+    } = around;
+    let Chain {
+        either,
+        both,
+        nots,
+        room: _,
+    } = chain;
+    let Ok(term) = term_of(alloc, both, nots, factor) else {
+        drop((notes, head, either, chains));
+        return Err(OutOfMemory);
+    };
+    end_of_chain(alloc, notes, head, either, term, chains)
 }
 
 /// The query behind an operand that ends a comparison.
@@ -69,24 +100,13 @@ fn end_behind(
 {
     match goal {
         Goal::Right(left, compare) => {
-            let Around {
-                head,
-                chain,
-                chains,
-                room: _,
-            } = around;
-            let Chain {
-                either,
-                both,
-                nots,
-                room: _,
-            } = chain;
             let cond = Cond::Compare(left, compare, operand);
-            let factor = negated(alloc, Built { cond }, nots)?;
-            let term = with_both(alloc, both, factor)?;
-            end_of_chain(alloc, notes, head, either, term, chains)
+            end_closed(alloc, notes, around, Built { cond })
         }
-        _ => Ok(None),
+        other => {
+            drop((notes, around, other, operand));
+            Ok(None)
+        }
     }
 }
 

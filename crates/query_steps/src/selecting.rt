@@ -1,14 +1,16 @@
 //! The states of reading what is selected.
 
-ghost use Rattle.std.specs.Prelude.{◌≡◌, ◌≤◌, ◌^◌, IfOk};
+ghost use Rattle.std.specs.Prelude.{◌≡◌, ◌≤◌, ◌^◌, [], ◌∷◌, ◌++◌, Some, IfOk};
 ghost use Rattle.json_decimal.specs.Decimals.{number_of};
+ghost use Rattle.query_grammar.specs.declared.state.State.TheVariants as states;
 ghost use Rattle.query_grammar.specs.Grammar.{top_size};
-ghost use Rattle.query_grammar.specs.Machinery.Steps.{start_step, item_begun, select_step, top_number_step, behind_top_step, item_start_step, behind_item_step, item_path_step, item_field_step, item_as_step};
+ghost use Rattle.query_grammar.specs.Machinery.Steps.{start_step, item_begun, select_step, top_number_step, behind_top_step, item_start_step, behind_item_step, item_path_step, item_field_step, item_as_step, noting_output};
 
+use crate::noting::{item_noted, item_path_noted, with_name};
 use crate::tests_of_tokens::{is_as, is_dot};
 use dt_base::{List, OutOfMemory, Text};
 use json_decimal::Decimal;
-use query_grammar::{Notes, PlacedName, Referent, State};
+use query_grammar::{Notes, PlacedName, State};
 use query_terms::tokens::{Mark, Token, Word};
 use query_terms::{Item, Projection};
 use std::alloc::Global;
@@ -16,8 +18,8 @@ use std::alloc::Global;
 /// The most items.
 const MOST_ITEMS: usize = 20;
 
-pub(crate) fn start(token: Token) -> Option<State>
-    ensures { result ≡ start_step token }
+pub(crate) fn start(token: &Token) -> Option<State>
+    ensures { result ≡ start_step token.now }
 {
     match token {
         Token::Name(Word::Select, _) => Some(State::Select),
@@ -33,17 +35,11 @@ fn item_begun(
     items: List<Item>,
     at: u32,
     name: Text,
-) -> Result<State, OutOfMemory>
-    ensures { IfOk result (λ s. s ≡ item_begun notes top items at name) }
+) -> Result<Option<State>, OutOfMemory>
+    ensures { IfOk result (λ s. s ≡ Some (item_begun notes top items at name)) }
 {
-    let mut path = List::new(alloc);
-    path.push(name.copy(alloc)?)?;
-    let first = PlacedName {
-        at,
-        name: name.copy(alloc)?,
-    };
-    let notes = notes.with_use(first, Referent::Path)?;
-    Ok(State::ItemPath(notes, top, items, path, PlacedName { at, name }))
+    let (notes, path, last) = item_path_noted(alloc, notes, at, name)?;
+    Ok(Some(State::ItemPath(notes, top, items, path, last)))
 }
 
 pub(crate) fn select(alloc: Global, at: u32, token: Token) -> Result<Option<State>, OutOfMemory>
@@ -53,14 +49,16 @@ pub(crate) fn select(alloc: Global, at: u32, token: Token) -> Result<Option<Stat
         Token::Name(Word::Count, _) => Ok(Some(State::CountOpen)),
         Token::Name(Word::Top, _) => Ok(Some(State::TopOpen)),
         Token::Name(Word::Alias, name) => {
-            let state = item_begun(alloc, Notes::new(alloc), None, List::new(alloc), at, name)?;
-            Ok(Some(state))
+            item_begun(alloc, Notes::new(alloc), None, List::new(alloc), at, name)
         }
         Token::Mark(Mark::Star) => Ok(Some(State::BehindSelect(
             Notes::new(alloc),
             Projection::Star { top: None },
         ))),
-        _ => Ok(None),
+        other => {
+            drop(other);
+            Ok(None)
+        }
     }
 }
 
@@ -88,11 +86,11 @@ fn top_size(number: &Decimal) -> Option<u32>
     Some(size as u32)
 }
 
-pub(crate) fn top_number(token: Token) -> Option<State>
-    ensures { result ≡ top_number_step token }
+pub(crate) fn top_number(token: &Token) -> Option<State>
+    ensures { result ≡ top_number_step token.now }
 {
     match token {
-        Token::Number(number) => match top_size(&number) {
+        Token::Number(number) => match top_size(number) {
             Some(size) => Some(State::TopClose(size)),
             None => None,
         },
@@ -114,21 +112,23 @@ pub(crate) fn behind_top(
             Projection::Star { top: Some(size) },
         ))),
         Token::Name(Word::Alias, name) => {
-            let state = item_begun(
+            item_begun(
                 alloc,
                 Notes::new(alloc),
                 Some(size),
                 List::new(alloc),
                 at,
                 name,
-            )?;
-            Ok(Some(state))
+            )
         }
         Token::Mark(Mark::Star) => Ok(Some(State::BehindSelect(
             Notes::new(alloc),
             Projection::Star { top: Some(size) },
         ))),
-        _ => Ok(None),
+        other => {
+            drop(other);
+            Ok(None)
+        }
     }
 }
 
@@ -143,11 +143,11 @@ pub(crate) fn item_start(
     ensures { IfOk result (λ s. s ≡ item_start_step notes top items at token) }
 {
     match token {
-        Token::Name(Word::Alias, name) => {
-            let state = item_begun(alloc, notes, top, items, at, name)?;
-            Ok(Some(state))
+        Token::Name(Word::Alias, name) => item_begun(alloc, notes, top, items, at, name),
+        other => {
+            drop((notes, items, other));
+            Ok(None)
         }
-        _ => Ok(None),
     }
 }
 
@@ -155,9 +155,9 @@ pub(crate) fn behind_item(
     notes: Notes,
     top: Option<u32>,
     items: List<Item>,
-    token: Token,
+    token: &Token,
 ) -> Option<State>
-    ensures { result ≡ behind_item_step notes top items token }
+    ensures { result ≡ behind_item_step notes top items token.now }
 {
     match token {
         Token::Name(Word::From, _) => Some(State::Source(notes, Projection::Items { top, items })),
@@ -165,10 +165,14 @@ pub(crate) fn behind_item(
             if items.len() < MOST_ITEMS {
                 Some(State::ItemStart(notes, top, items))
             } else {
+                drop((notes, items));
                 None
             }
         }
-        _ => None,
+        _ => {
+            drop((notes, items));
+            None
+        }
     }
 }
 
@@ -179,21 +183,33 @@ pub(crate) fn item_path(
     items: List<Item>,
     path: List<Text>,
     last: PlacedName,
-    token: Token,
+    token: &Token,
 ) -> Result<Option<State>, OutOfMemory>
-    ensures { IfOk result (λ s. s ≡ item_path_step notes top items path last token) }
+    ensures { IfOk result (λ s. s ≡ item_path_step notes top items path last token.now) }
 {
-    if is_dot(&token) {
+    if is_dot(token) {
         return Ok(Some(State::ItemField(notes, top, items, path)));
     }
-    if is_as(&token) {
+    if is_as(token) {
         return Ok(Some(State::ItemAs(notes, top, items, path)));
     }
-    let mut items = items;
-    let out = last.name.copy(alloc)?;
-    items.push(Item { path, out })?;
-    let notes = notes.with_output(last)?;
+    let (notes, items) = item_noted(alloc, notes, items, path, last)?;
     Ok(behind_item(notes, top, items, token))
+}
+
+/// The state behind one name more of an item's path.
+fn item_path_longer(
+    alloc: Global,
+    notes: Notes,
+    top: Option<u32>,
+    items: List<Item>,
+    path: List<Text>,
+    last: PlacedName,
+) -> Result<Option<State>, OutOfMemory>
+    ensures { IfOk result (λ s. s ≡ Some (states.ItemPath notes top items (path ++ last.1 ∷ []) last)) }
+{
+    let path = with_name(alloc, path, &last.name)?;
+    Ok(Some(State::ItemPath(notes, top, items, path, last)))
 }
 
 pub(crate) fn item_field(
@@ -209,12 +225,28 @@ pub(crate) fn item_field(
 {
     match token {
         Token::Name(_, name) => {
-            let mut path = path;
-            path.push(name.copy(alloc)?)?;
-            Ok(Some(State::ItemPath(notes, top, items, path, PlacedName { at, name })))
+            item_path_longer(alloc, notes, top, items, path, PlacedName { at, name })
         }
-        _ => Ok(None),
+        other => {
+            drop((notes, items, path, other));
+            Ok(None)
+        }
     }
+}
+
+/// The state behind the name that an item has in the answer.
+fn item_named(
+    alloc: Global,
+    notes: Notes,
+    top: Option<u32>,
+    items: List<Item>,
+    path: List<Text>,
+    placed: PlacedName,
+) -> Result<Option<State>, OutOfMemory>
+    ensures { IfOk result (λ s. s ≡ Some (states.BehindItem (noting_output notes placed) top (items ++ (record { path = path; out = placed.1 }) ∷ []))) }
+{
+    let (notes, items) = item_noted(alloc, notes, items, path, placed)?;
+    Ok(Some(State::BehindItem(notes, top, items)))
 }
 
 pub(crate) fn item_as(
@@ -230,13 +262,12 @@ pub(crate) fn item_as(
 {
     match token {
         Token::Name(Word::Alias, name) => {
-            let mut items = items;
-            let out = name.copy(alloc)?;
-            items.push(Item { path, out })?;
-            let notes = notes.with_output(PlacedName { at, name })?;
-            Ok(Some(State::BehindItem(notes, top, items)))
+            item_named(alloc, notes, top, items, path, PlacedName { at, name })
         }
-        _ => Ok(None),
+        other => {
+            drop((notes, items, path, other));
+            Ok(None)
+        }
     }
 }
 

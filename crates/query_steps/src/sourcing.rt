@@ -1,10 +1,13 @@
 //! The states of reading where rows come from.
 
-ghost use Rattle.std.specs.Prelude.{◌≡◌, IfOk};
-ghost use Rattle.query_grammar.specs.Machinery.Steps.{source_step, condition_begun, head_of, relationships_alias_step, behind_relationships_step, twins_alias_step, behind_twins_step, join_target_step, join_source_step, join_name_step, with_join, join_alias_step};
+ghost use Rattle.std.specs.Prelude.{◌≡◌, true, false, Some, None, length, IfOk};
+ghost use Rattle.query_grammar.specs.declared.names.Referent.TheVariants as referents;
+ghost use Rattle.query_grammar.specs.declared.state.State.TheVariants as states;
+ghost use Rattle.query_grammar.specs.Machinery.Steps.{noting_alias, noting_use, source_step, condition_begun, head_of, relationships_alias_step, behind_relationships_step, twins_alias_step, behind_twins_step, join_target_step, join_source_step, join_name_step, with_join, join_alias_step};
 
+use crate::noting::{alias_noted, use_noted};
 use dt_base::{List, OutOfMemory, Text};
-use query_grammar::{Around, Chain, Chains, Head, Notes, PlacedName, Referent, State};
+use query_grammar::{Around, Chain, Chains, Head, Notes, Referent, State};
 use query_terms::tokens::{Token, Word};
 use query_terms::{Join, Projection};
 use std::alloc::Global;
@@ -12,13 +15,16 @@ use std::alloc::Global;
 /// How many parentheses and NOTs may be open at a place.
 const MOST_OPEN: u32 = 64;
 
-pub(crate) fn source(notes: Notes, select: Projection, token: Token) -> Option<State>
-    ensures { result ≡ source_step notes select token }
+pub(crate) fn source(notes: Notes, select: Projection, token: &Token) -> Option<State>
+    ensures { result ≡ source_step notes select token.now }
 {
     match token {
         Token::Name(Word::Relationships, _) => Some(State::RelationshipsAlias(notes, select)),
         Token::Name(Word::Twins, _) => Some(State::TwinsAlias(notes, select)),
-        _ => None,
+        _ => {
+            drop((notes, select));
+            None
+        }
     }
 }
 
@@ -58,6 +64,24 @@ fn condition_begun(alloc: Global, notes: Notes, head: Head) -> State
     State::Factor(notes, around)
 }
 
+/// The state behind the alias of the relationships.
+fn relationships_named(
+    alloc: Global,
+    notes: Notes,
+    select: Projection,
+    at: u32,
+    name: Text,
+) -> Result<Option<State>, OutOfMemory>
+    ensures { IfOk result (λ s. s ≡ Some (states.BehindRelationships (noting_alias notes (at, name)) (head_of select true (Some name)))) }
+{
+    let Ok((notes, alias)) = alias_noted(alloc, notes, at, name) else {
+        drop(select);
+        return Err(OutOfMemory);
+    };
+    let head = head_of(alloc, select, true, Some(alias));
+    Ok(Some(State::BehindRelationships(notes, head)))
+}
+
 pub(crate) fn relationships_alias(
     alloc: Global,
     notes: Notes,
@@ -68,17 +92,15 @@ pub(crate) fn relationships_alias(
     ensures { IfOk result (λ s. s ≡ relationships_alias_step notes select at token) }
 {
     match token {
-        Token::Name(Word::Alias, name) => {
-            let alias = name.copy(alloc)?;
-            let notes = notes.with_alias(PlacedName { at, name })?;
-            let head = head_of(alloc, select, true, Some(alias));
-            Ok(Some(State::BehindRelationships(notes, head)))
-        }
+        Token::Name(Word::Alias, name) => relationships_named(alloc, notes, select, at, name),
         Token::Name(Word::Where, _) => {
             let head = head_of(alloc, select, true, None);
             Ok(Some(condition_begun(alloc, notes, head)))
         }
-        _ => Ok(None),
+        other => {
+            drop((notes, select, other));
+            Ok(None)
+        }
     }
 }
 
@@ -86,14 +108,35 @@ pub(crate) fn behind_relationships(
     alloc: Global,
     notes: Notes,
     head: Head,
-    token: Token,
+    token: &Token,
 ) -> Option<State>
-    ensures { result ≡ behind_relationships_step notes head token }
+    ensures { result ≡ behind_relationships_step notes head token.now }
 {
     match token {
         Token::Name(Word::Where, _) => Some(condition_begun(alloc, notes, head)),
-        _ => None,
+        _ => {
+            drop((notes, head));
+            None
+        }
     }
+}
+
+/// The state behind the alias of the twins.
+fn twins_named(
+    alloc: Global,
+    notes: Notes,
+    select: Projection,
+    at: u32,
+    name: Text,
+) -> Result<Option<State>, OutOfMemory>
+    ensures { IfOk result (λ s. s ≡ Some (states.BehindTwins (noting_alias notes (at, name)) (head_of select false (Some name)))) }
+{
+    let Ok((notes, alias)) = alias_noted(alloc, notes, at, name) else {
+        drop(select);
+        return Err(OutOfMemory);
+    };
+    let head = head_of(alloc, select, false, Some(alias));
+    Ok(Some(State::BehindTwins(notes, head)))
 }
 
 pub(crate) fn twins_alias(
@@ -106,12 +149,7 @@ pub(crate) fn twins_alias(
     ensures { IfOk result (λ s. s ≡ twins_alias_step notes select at token) }
 {
     match token {
-        Token::Name(Word::Alias, name) => {
-            let alias = name.copy(alloc)?;
-            let notes = notes.with_alias(PlacedName { at, name })?;
-            let head = head_of(alloc, select, false, Some(alias));
-            Ok(Some(State::BehindTwins(notes, head)))
-        }
+        Token::Name(Word::Alias, name) => twins_named(alloc, notes, select, at, name),
         Token::Name(Word::Join, _) => {
             let head = head_of(alloc, select, false, None);
             Ok(Some(State::JoinTarget(notes, head)))
@@ -120,18 +158,41 @@ pub(crate) fn twins_alias(
             let head = head_of(alloc, select, false, None);
             Ok(Some(condition_begun(alloc, notes, head)))
         }
-        _ => Ok(None),
+        other => {
+            drop((notes, select, other));
+            Ok(None)
+        }
     }
 }
 
-pub(crate) fn behind_twins(alloc: Global, notes: Notes, head: Head, token: Token) -> Option<State>
-    ensures { result ≡ behind_twins_step notes head token }
+pub(crate) fn behind_twins(alloc: Global, notes: Notes, head: Head, token: &Token) -> Option<State>
+    ensures { result ≡ behind_twins_step notes head token.now }
 {
     match token {
         Token::Name(Word::Join, _) => Some(State::JoinTarget(notes, head)),
         Token::Name(Word::Where, _) => Some(condition_begun(alloc, notes, head)),
-        _ => None,
+        _ => {
+            drop((notes, head));
+            None
+        }
     }
+}
+
+/// The state behind the alias of what a join leads to.
+fn join_target_named(
+    alloc: Global,
+    notes: Notes,
+    head: Head,
+    at: u32,
+    name: Text,
+) -> Result<Option<State>, OutOfMemory>
+    ensures { IfOk result (λ s. s ≡ Some (states.JoinRelated (noting_alias notes (at, name)) head name)) }
+{
+    let Ok((notes, target)) = alias_noted(alloc, notes, at, name) else {
+        drop(head);
+        return Err(OutOfMemory);
+    };
+    Ok(Some(State::JoinRelated(notes, head, target)))
 }
 
 pub(crate) fn join_target(
@@ -144,13 +205,31 @@ pub(crate) fn join_target(
     ensures { IfOk result (λ s. s ≡ join_target_step notes head at token) }
 {
     match token {
-        Token::Name(Word::Alias, name) => {
-            let target = name.copy(alloc)?;
-            let notes = notes.with_alias(PlacedName { at, name })?;
-            Ok(Some(State::JoinRelated(notes, head, target)))
+        Token::Name(Word::Alias, name) => join_target_named(alloc, notes, head, at, name),
+        other => {
+            drop((notes, head, other));
+            Ok(None)
         }
-        _ => Ok(None),
     }
+}
+
+/// The state behind the alias of what a join begins with.
+fn join_source_named(
+    alloc: Global,
+    notes: Notes,
+    head: Head,
+    target: Text,
+    at: u32,
+    name: Text,
+) -> Result<Option<State>, OutOfMemory>
+    ensures { IfOk result (λ s. s ≡ Some (states.JoinDot (noting_use notes (at, name) (referents.Source (length head.joins))) head target name)) }
+{
+    let referent = Referent::Source(head.joins.len());
+    let Ok((notes, source)) = use_noted(alloc, notes, at, name, referent) else {
+        drop((head, target));
+        return Err(OutOfMemory);
+    };
+    Ok(Some(State::JoinDot(notes, head, target, source)))
 }
 
 pub(crate) fn join_source(
@@ -165,12 +244,12 @@ pub(crate) fn join_source(
 {
     match token {
         Token::Name(Word::Alias, name) => {
-            let source = name.copy(alloc)?;
-            let referent = Referent::Source(head.joins.len());
-            let notes = notes.with_use(PlacedName { at, name }, referent)?;
-            Ok(Some(State::JoinDot(notes, head, target, source)))
+            join_source_named(alloc, notes, head, target, at, name)
         }
-        _ => Ok(None),
+        other => {
+            drop((notes, head, target, other));
+            Ok(None)
+        }
     }
 }
 
@@ -185,7 +264,10 @@ pub(crate) fn join_name(
 {
     match token {
         Token::Name(_, name) => Some(State::JoinAlias(notes, head, target, source, name)),
-        _ => None,
+        other => {
+            drop((notes, head, target, source, other));
+            None
+        }
     }
 }
 
@@ -219,6 +301,65 @@ pub(crate) fn joined(
     })
 }
 
+/// The state behind the alias of the relationships of a join.
+fn join_named(
+    alloc: Global,
+    notes: Notes,
+    head: Head,
+    target: Text,
+    source: Text,
+    relationship: Text,
+    at: u32,
+    name: Text,
+) -> Result<Option<State>, OutOfMemory>
+    ensures { IfOk result (λ s. s ≡ Some (states.BehindTwins (noting_alias notes (at, name)) (with_join head target source relationship (Some name)))) }
+{
+    let Ok((notes, rel)) = alias_noted(alloc, notes, at, name) else {
+        drop((head, target, source, relationship));
+        return Err(OutOfMemory);
+    };
+    let Ok(head) = joined(head, target, source, relationship, Some(rel)) else {
+        drop(notes);
+        return Err(OutOfMemory);
+    };
+    Ok(Some(State::BehindTwins(notes, head)))
+}
+
+/// The state behind a join without an alias of its own that one more join follows.
+fn join_again(
+    notes: Notes,
+    head: Head,
+    target: Text,
+    source: Text,
+    relationship: Text,
+) -> Result<Option<State>, OutOfMemory>
+    ensures { IfOk result (λ s. s ≡ Some (states.JoinTarget notes (with_join head target source relationship None))) }
+{
+    let Ok(head) = joined(head, target, source, relationship, None) else {
+        drop(notes);
+        return Err(OutOfMemory);
+    };
+    Ok(Some(State::JoinTarget(notes, head)))
+}
+
+/// The state behind a join without an alias of its own that WHERE follows.
+fn join_where(
+    alloc: Global,
+    notes: Notes,
+    head: Head,
+    target: Text,
+    source: Text,
+    relationship: Text,
+) -> Result<Option<State>, OutOfMemory>
+    ensures { IfOk result (λ s. s ≡ Some (condition_begun notes (with_join head target source relationship None))) }
+{
+    let Ok(head) = joined(head, target, source, relationship, None) else {
+        drop(notes);
+        return Err(OutOfMemory);
+    };
+    Ok(Some(condition_begun(alloc, notes, head)))
+}
+
 pub(crate) fn join_alias(
     alloc: Global,
     notes: Notes,
@@ -233,19 +374,15 @@ pub(crate) fn join_alias(
 {
     match token {
         Token::Name(Word::Alias, name) => {
-            let rel = name.copy(alloc)?;
-            let notes = notes.with_alias(PlacedName { at, name })?;
-            let head = joined(head, target, source, relationship, Some(rel))?;
-            Ok(Some(State::BehindTwins(notes, head)))
+            join_named(alloc, notes, head, target, source, relationship, at, name)
         }
-        Token::Name(Word::Join, _) => {
-            let head = joined(head, target, source, relationship, None)?;
-            Ok(Some(State::JoinTarget(notes, head)))
-        }
+        Token::Name(Word::Join, _) => join_again(notes, head, target, source, relationship),
         Token::Name(Word::Where, _) => {
-            let head = joined(head, target, source, relationship, None)?;
-            Ok(Some(condition_begun(alloc, notes, head)))
+            join_where(alloc, notes, head, target, source, relationship)
         }
-        _ => Ok(None),
+        other => {
+            drop((notes, head, target, source, relationship, other));
+            Ok(None)
+        }
     }
 }

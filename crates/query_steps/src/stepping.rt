@@ -15,7 +15,7 @@ use crate::sourcing::{
 };
 use crate::stage::{Stage, stage_of};
 use crate::testing::{behind_list_item, behind_model, exact, list_item, model_start, model_text};
-use crate::tests_of_tokens::{is_mark, is_word, when};
+use crate::tests_of_tokens::{when_mark, when_word};
 use dt_base::{List, OutOfMemory};
 use query_grammar::{Built, Notes, State};
 use query_terms::tokens::{Mark, Token, Word};
@@ -34,19 +34,19 @@ fn in_selection(
     ensures { IfOk result (λ s. s ≡ step state at token) }
 {
     match state {
-        State::Start => Ok(start(token)),
+        State::Start => Ok(start(&token)),
         State::Select => select(alloc, at, token),
-        State::CountOpen => Ok(when(is_mark(Mark::Open, &token), State::CountClose)),
+        State::CountOpen => Ok(when_mark(Mark::Open, token, State::CountClose)),
         State::CountClose => {
             let next = State::BehindSelect(Notes::new(alloc), Projection::Count);
-            Ok(when(is_mark(Mark::Close, &token), next))
+            Ok(when_mark(Mark::Close, token, next))
         }
-        State::TopOpen => Ok(when(is_mark(Mark::Open, &token), State::TopNumber)),
-        State::TopNumber => Ok(top_number(token)),
-        State::TopClose(size) => Ok(when(is_mark(Mark::Close, &token), State::BehindTop(size))),
+        State::TopOpen => Ok(when_mark(Mark::Open, token, State::TopNumber)),
+        State::TopNumber => Ok(top_number(&token)),
+        State::TopClose(size) => Ok(when_mark(Mark::Close, token, State::BehindTop(size))),
         State::BehindTop(size) => behind_top(alloc, size, at, token),
         State::BehindSelect(notes, select) => {
-            Ok(when(is_word(Word::From, &token), State::Source(notes, select)))
+            Ok(when_word(Word::From, token, State::Source(notes, select)))
         }
         _ => unreachable!(),
     }
@@ -66,7 +66,7 @@ fn in_items(
     match state {
         State::ItemStart(notes, top, items) => item_start(alloc, notes, top, items, at, token),
         State::ItemPath(notes, top, items, path, last) => {
-            item_path(alloc, notes, top, items, path, last, token)
+            item_path(alloc, notes, top, items, path, last, &token)
         }
         State::ItemField(notes, top, items, path) => {
             item_field(alloc, notes, top, items, path, at, token)
@@ -74,7 +74,7 @@ fn in_items(
         State::ItemAs(notes, top, items, path) => item_as(
             alloc, notes, top, items, path, at, token,
         ),
-        State::BehindItem(notes, top, items) => Ok(behind_item(notes, top, items, token)),
+        State::BehindItem(notes, top, items) => Ok(behind_item(notes, top, items, &token)),
         _ => unreachable!(),
     }
 }
@@ -91,15 +91,15 @@ fn in_source(
     ensures { IfOk result (λ s. s ≡ step state at token) }
 {
     match state {
-        State::Source(notes, select) => Ok(source(notes, select, token)),
+        State::Source(notes, select) => Ok(source(notes, select, &token)),
         State::RelationshipsAlias(notes, select) => {
             relationships_alias(alloc, notes, select, at, token)
         }
         State::BehindRelationships(notes, head) => {
-            Ok(behind_relationships(alloc, notes, head, token))
+            Ok(behind_relationships(alloc, notes, head, &token))
         }
         State::TwinsAlias(notes, select) => twins_alias(alloc, notes, select, at, token),
-        State::BehindTwins(notes, head) => Ok(behind_twins(alloc, notes, head, token)),
+        State::BehindTwins(notes, head) => Ok(behind_twins(alloc, notes, head, &token)),
         _ => unreachable!(),
     }
 }
@@ -118,17 +118,15 @@ fn in_joins(
     match state {
         State::JoinTarget(notes, head) => join_target(alloc, notes, head, at, token),
         State::JoinRelated(notes, head, target) => {
-            Ok(when(
-                is_word(Word::Related, &token),
-                State::JoinSource(notes, head, target),
-            ))
+            Ok(when_word(Word::Related, token, State::JoinSource(notes, head, target)))
         }
         State::JoinSource(notes, head, target) => join_source(
             alloc, notes, head, target, at, token,
         ),
         State::JoinDot(notes, head, target, source) => {
-            Ok(when(
-                is_mark(Mark::Dot, &token),
+            Ok(when_mark(
+                Mark::Dot,
+                token,
                 State::JoinName(notes, head, target, source),
             ))
         }
@@ -149,7 +147,7 @@ fn in_path(alloc: Global, state: State, at: u32, token: Token) -> Result<Option<
     ensures { IfOk result (λ s. s ≡ step state at token) }
 {
     match state {
-        State::Path(notes, around, goal, names) => path(alloc, notes, around, goal, names, token),
+        State::Path(notes, around, goal, names) => path(alloc, notes, around, goal, names, &token),
         State::Field(notes, around, goal, names) => field(notes, around, goal, names, token),
         _ => unreachable!(),
     }
@@ -170,7 +168,7 @@ fn in_operands(
         State::Factor(notes, around) => factor(alloc, notes, around, at, token),
         State::Operand(notes, around, goal) => operand(alloc, notes, around, goal, at, token),
         State::Behind(notes, around, goal, operand) => {
-            behind(alloc, notes, around, goal, operand, token)
+            behind(alloc, notes, around, goal, operand, &token)
         }
         _ => unreachable!(),
     }
@@ -189,23 +187,20 @@ fn in_lists(
 {
     match state {
         State::FunctionOpen(notes, around, goal) => {
-            Ok(when(
-                is_mark(Mark::Open, &token),
-                State::Operand(notes, around, goal),
-            ))
+            Ok(when_mark(Mark::Open, token, State::Operand(notes, around, goal)))
         }
         State::ListOpen(notes, around, operand, within) => {
             let next = State::ListItem(notes, around, operand, within, List::new(alloc));
-            Ok(when(is_mark(Mark::OpenList, &token), next))
+            Ok(when_mark(Mark::OpenList, token, next))
         }
         State::ListItem(notes, around, operand, within, literals) => {
             list_item(notes, around, operand, within, literals, token)
         }
         State::BehindListItem(notes, around, operand, within, literals) => {
-            behind_list_item(alloc, notes, around, operand, within, literals, token)
+            behind_list_item(alloc, notes, around, operand, within, literals, &token)
         }
         State::BehindFactor(notes, head, before, built, chains, room) => {
-            behind_factor(alloc, notes, head, before, built, chains, room, token)
+            behind_factor(alloc, notes, head, before, built, chains, room, &token)
         }
         _ => unreachable!(),
     }
@@ -224,32 +219,30 @@ fn in_model_test(
 {
     match state {
         State::ModelOpen(notes, around, spot) => {
-            Ok(when(
-                is_mark(Mark::Open, &token),
-                State::ModelStart(notes, around, spot),
-            ))
+            Ok(when_mark(Mark::Open, token, State::ModelStart(notes, around, spot)))
         }
         State::ModelStart(notes, around, spot) => {
             model_start(alloc, notes, around, spot, at, token)
         }
         State::ModelComma(notes, around, twin) => {
-            Ok(when(
-                is_mark(Mark::Comma, &token),
+            Ok(when_mark(
+                Mark::Comma,
+                token,
                 State::ModelText(notes, around, Some(twin)),
             ))
         }
         State::ModelText(notes, around, twin) => Ok(model_text(notes, around, twin, token)),
         State::BehindModel(notes, around, twin, model) => {
-            behind_model(alloc, notes, around, twin, model, token)
+            behind_model(alloc, notes, around, twin, model, &token)
         }
-        State::Exact(notes, around, twin, model) => Ok(exact(notes, around, twin, model, token)),
+        State::Exact(notes, around, twin, model) => Ok(exact(notes, around, twin, model, &token)),
         State::ModelClose(notes, around, twin, model) => {
             let cond = Cond::OfModel {
                 twin,
                 model,
                 exact: true,
             };
-            behind_close(alloc, notes, around, Built { cond }, token)
+            behind_close(alloc, notes, around, Built { cond }, &token)
         }
         _ => unreachable!(),
     }

@@ -1,11 +1,12 @@
 //! The states of reading lists of literals and tests for models.
 
-ghost use Rattle.std.specs.Prelude.{◌≡◌, None, IfOk};
+ghost use Rattle.std.specs.Prelude.{◌≡◌, Some, None, IfOk};
 ghost use Rattle.query_grammar.specs.declared.names.Referent.TheVariants as referents;
 ghost use Rattle.query_grammar.specs.declared.state.State.TheVariants as states;
 ghost use Rattle.query_grammar.specs.Machinery.Steps.{noting_use, one_literal_more, list_item_step, behind_list_item_step, model_start_step, model_text_step, behind_model_step, exact_step};
 
 use crate::building::{closed, membership};
+use crate::noting::use_noted;
 use crate::tests_of_tokens::when;
 use dt_base::names::Dtmi;
 use dt_base::{List, OutOfMemory, Text};
@@ -26,7 +27,10 @@ fn one_literal_more(
     ensures { IfOk result (λ s. s ≡ Some (one_literal_more notes around operand within literals literal)) }
 {
     let mut literals = literals;
-    literals.push(literal)?;
+    let Ok(()) = literals.push(literal) else {
+        drop((notes, around, operand, literals));
+        return Err(OutOfMemory);
+    };
     Ok(Some(State::BehindListItem(notes, around, operand, within, literals)))
 }
 
@@ -81,7 +85,10 @@ pub(crate) fn list_item(
                 Literal::Word(text),
             )
         }
-        _ => Ok(None),
+        other => {
+            drop((notes, around, operand, literals, other));
+            Ok(None)
+        }
     }
 }
 
@@ -92,19 +99,21 @@ pub(crate) fn behind_list_item(
     operand: Operand,
     within: bool,
     literals: List<Literal>,
-    token: Token,
+    token: &Token,
 ) -> Result<Option<State>, OutOfMemory>
-    ensures { IfOk result (λ s. s ≡ behind_list_item_step notes around operand within literals token) }
+    ensures { IfOk result (λ s. s ≡ behind_list_item_step notes around operand within literals token.now) }
 {
     match token {
         Token::Mark(Mark::Comma) => Ok(Some(State::ListItem(
             notes, around, operand, within, literals,
         ))),
         Token::Mark(Mark::CloseList) => {
-            let state = closed(alloc, notes, around, membership(within, operand, literals))?;
-            Ok(Some(state))
+            closed(alloc, notes, around, membership(within, operand, literals))
         }
-        _ => Ok(None),
+        _ => {
+            drop((notes, around, operand, literals));
+            Ok(None)
+        }
     }
 }
 
@@ -115,12 +124,14 @@ fn model_named(
     around: Around,
     at: u32,
     name: Text,
-) -> Result<State, OutOfMemory>
-    ensures { IfOk result (λ s. s ≡ states.ModelComma (noting_use notes (at, name) referents.Model) around name) }
+) -> Result<Option<State>, OutOfMemory>
+    ensures { IfOk result (λ s. s ≡ Some (states.ModelComma (noting_use notes (at, name) referents.Model) around name)) }
 {
-    let twin = name.copy(alloc)?;
-    let notes = notes.with_use(PlacedName { at, name }, Referent::Model)?;
-    Ok(State::ModelComma(notes, around, twin))
+    let Ok((notes, twin)) = use_noted(alloc, notes, at, name, Referent::Model) else {
+        drop(around);
+        return Err(OutOfMemory);
+    };
+    Ok(Some(State::ModelComma(notes, around, twin)))
 }
 
 /// The state behind the identifier of a test for a model without an alias, whose name stands at the spot.
@@ -129,11 +140,14 @@ fn model_bare(
     around: Around,
     spot: PlacedName,
     model: Dtmi,
-) -> Result<State, OutOfMemory>
-    ensures { IfOk result (λ s. s ≡ states.BehindModel (noting_use notes spot referents.Bare) around None model) }
+) -> Result<Option<State>, OutOfMemory>
+    ensures { IfOk result (λ s. s ≡ Some (states.BehindModel (noting_use notes spot referents.Bare) around None model)) }
 {
-    let notes = notes.with_use(spot, Referent::Bare)?;
-    Ok(State::BehindModel(notes, around, None, model))
+    let Ok(notes) = notes.with_use(spot, Referent::Bare) else {
+        drop((around, model));
+        return Err(OutOfMemory);
+    };
+    Ok(Some(State::BehindModel(notes, around, None, model)))
 }
 
 pub(crate) fn model_start(
@@ -147,18 +161,18 @@ pub(crate) fn model_start(
     ensures { IfOk result (λ s. s ≡ model_start_step notes around spot at token) }
 {
     match token {
-        Token::Name(Word::Alias, name) => {
-            let state = model_named(alloc, notes, around, at, name)?;
-            Ok(Some(state))
-        }
+        Token::Name(Word::Alias, name) => model_named(alloc, notes, around, at, name),
         Token::Text(_, model) => match model {
-            Some(model) => {
-                let state = model_bare(notes, around, spot, model)?;
-                Ok(Some(state))
+            Some(model) => model_bare(notes, around, spot, model),
+            None => {
+                drop((notes, around, spot));
+                Ok(None)
             }
-            None => Ok(None),
         },
-        _ => Ok(None),
+        other => {
+            drop((notes, around, spot, other));
+            Ok(None)
+        }
     }
 }
 
@@ -173,9 +187,15 @@ pub(crate) fn model_text(
     match token {
         Token::Text(_, model) => match model {
             Some(model) => Some(State::BehindModel(notes, around, twin, model)),
-            None => None,
+            None => {
+                drop((notes, around, twin));
+                None
+            }
         },
-        _ => None,
+        other => {
+            drop((notes, around, twin, other));
+            None
+        }
     }
 }
 
@@ -185,9 +205,9 @@ pub(crate) fn behind_model(
     around: Around,
     twin: Option<Text>,
     model: Dtmi,
-    token: Token,
+    token: &Token,
 ) -> Result<Option<State>, OutOfMemory>
-    ensures { IfOk result (λ s. s ≡ behind_model_step notes around twin model token) }
+    ensures { IfOk result (λ s. s ≡ behind_model_step notes around twin model token.now) }
 {
     match token {
         Token::Mark(Mark::Comma) => Ok(Some(State::Exact(notes, around, twin, model))),
@@ -197,10 +217,12 @@ pub(crate) fn behind_model(
                 model,
                 exact: false,
             };
-            let state = closed(alloc, notes, around, Built { cond })?;
-            Ok(Some(state))
+            closed(alloc, notes, around, Built { cond })
         }
-        _ => Ok(None),
+        _ => {
+            drop((notes, around, twin, model));
+            Ok(None)
+        }
     }
 }
 
@@ -209,15 +231,18 @@ pub(crate) fn exact(
     around: Around,
     twin: Option<Text>,
     model: Dtmi,
-    token: Token,
+    token: &Token,
 ) -> Option<State>
-    ensures { result ≡ exact_step notes around twin model token }
+    ensures { result ≡ exact_step notes around twin model token.now }
 {
     match token {
         Token::Name(Word::Alias, name) => {
             let passes = same_letters(name.as_str(), "exact");
             when(passes, State::ModelClose(notes, around, twin, model))
         }
-        _ => None,
+        _ => {
+            drop((notes, around, twin, model));
+            None
+        }
     }
 }

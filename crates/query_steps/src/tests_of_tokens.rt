@@ -61,7 +61,7 @@ pub(crate) fn is_mark(mark: Mark, token: &Token) -> bool
     }
 }
 
-pub(crate) fn is_word(word: Word, token: &Token) -> bool
+fn is_word(word: Word, token: &Token) -> bool
     ensures { result ≡ is_word word token.now }
 {
     match token {
@@ -95,4 +95,18 @@ pub(crate) fn when(passes: bool, state: State) -> Option<State>
     ensures { result ≡ when passes state }
 {
     if passes { Some(state) } else { None }
+}
+
+/// The state, where the token is this mark.
+pub(crate) fn when_mark(mark: Mark, token: Token, state: State) -> Option<State>
+    ensures { result ≡ when (is_mark mark token) state }
+{
+    when(is_mark(mark, &token), state)
+}
+
+/// The state, where the token is this word.
+pub(crate) fn when_word(word: Word, token: Token, state: State) -> Option<State>
+    ensures { result ≡ when (is_word word token) state }
+{
+    when(is_word(word, &token), state)
 }

@@ -8,7 +8,7 @@ use Rattle.json_tree.specs.Values.{Json, null, truth, number, text, array, objec
 use Rattle.json_tree.specs.Places.{member_at}
 use Rattle.json_tree.specs.declared.tree.Tree.{Tree}
 use Rattle.rel_graph.specs.declared.edge.Edge.{Edge}
-use Rattle.local_rules.specs.Members.{text_in, value_at, value_in, members_in}
+use Rattle.json_tree.specs.Members.{text_in, value_at, value_in, members_in}
 use Rattle.dt_base.specs.names.Grammar.{Identifier, OwnDtmiText}
 use Rattle.dt_base.specs.names.Faults.{RefusesDtmi}
 use Rattle.dt_base.specs.declared.names.fault.NameFault.{NameFault}

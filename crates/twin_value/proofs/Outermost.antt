@@ -6,7 +6,7 @@ use Rattle.std.proofs.lemmas.Bool.{cases_lt}
 use Rattle.json_tree.specs.Values.{Json, null, truth, number, text, array, object}
 use Rattle.json_tree.specs.View.{members_view}
 use Rattle.json_tree.specs.declared.tree.Member.{Member}
-use Rattle.local_rules.specs.Members.{members_in}
+use Rattle.json_tree.specs.Members.{members_in}
 use Rattle.dtdl_terms.specs.Terms.{no_contents}
 use Rattle.twin_value.specs.Codes.{code_number}
 use Rattle.twin_value.specs.Fits.{is_object}

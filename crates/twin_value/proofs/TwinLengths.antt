@@ -6,7 +6,7 @@ use Rattle.json_tree.specs.Printing.{printed}
 use Rattle.json_tree.specs.View.{view}
 use Rattle.json_length.specs.Lengths.{member_length, members_length}
 use Rattle.json_length.proofs.Lengths.{members_printed}
-use Rattle.local_rules.specs.Members.{members_in}
+use Rattle.json_tree.specs.Members.{members_in}
 use Rattle.dt_base.specs.names.Grammar.{dtmi_text}
 use Rattle.rel_graph.specs.declared.edge.Edge.{Edge}
 use Rattle.json_tree.specs.declared.tree.Tree.{Tree}

@@ -6,7 +6,7 @@ use Rattle.std.specs.Char.{is_ascii_alphanumeric}
 use Rattle.json_decimal.specs.Number.{Number}
 use Rattle.json_tree.specs.Values.{Json, null, truth, number, text, array, object, Members, no_members, member}
 use Rattle.json_tree.specs.Places.{IsBefore, element_at, member_at}
-use Rattle.local_rules.specs.Members.{text_in, value_in, members_in}
+use Rattle.json_tree.specs.Members.{text_in, value_in, members_in}
 use Rattle.dt_base.specs.names.Grammar.{Identifier, NameText, HasDtmiForm, is_reserved}
 use Rattle.dtdl_terms.specs.Terms.{ContentTerms, no_contents}
 use Rattle.dtdl_terms.specs.TermViews.{schema_term, kind_term}

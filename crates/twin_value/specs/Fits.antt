@@ -1,7 +1,7 @@
 -- Which values are of a schema (DTDL v2, "Schemas").
 use Rattle.std.specs.Prelude.{◌≡◌, ℕ, ℤ, FitsSigned, ◌⊎◌, List, [], ◌∷◌, Option, Some, None, Bool, true, false, IsTrue, IsSome}
 use Rattle.std.specs.Option.{IsSomeAnd}
-use Rattle.local_rules.specs.Members.{text_in}
+use Rattle.json_tree.specs.Members.{text_in}
 use Rattle.std.specs.Int.{Width, w32, w64}
 use Rattle.json_decimal.specs.Number.{Number}
 use Rattle.json_decimal.specs.Comparing.{IsWhole}

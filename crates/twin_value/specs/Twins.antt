@@ -6,7 +6,7 @@ use Rattle.json_tree.specs.Values.{Json, text, object, Members, no_members, memb
 use Rattle.json_tree.specs.View.{view}
 use Rattle.json_tree.specs.Sorting.{IsSortedOf}
 use Rattle.json_tree.specs.declared.tree.Tree.{Tree}
-use Rattle.local_rules.specs.Members.{value_in, members_in}
+use Rattle.json_tree.specs.Members.{value_in, members_in}
 use Rattle.dt_base.specs.names.Grammar.{OwnDtmiText, dtmi_text}
 use Rattle.rel_graph.specs.declared.edge.Edge.{Edge}
 use Rattle.twin_value.specs.Roles.{Role, value, part_body, body_member_role}

@@ -13,8 +13,7 @@ use crate::role::Role;
 use crate::walk::first_in;
 use dt_base::OutOfMemory;
 use dt_base::names::NameFault;
-use json_tree::{Place, Tree};
-use local_rules::{members_in, text_at};
+use json_tree::{Place, Tree, members_in, text_at};
 use std::alloc::Global;
 use thiserror::Error;
 

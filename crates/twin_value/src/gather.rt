@@ -9,7 +9,7 @@ ghost use Rattle.json_tree.specs.Values.{Json, Members, object, text, no_members
 ghost use Rattle.json_tree.specs.View.{view, members_view};
 ghost use Rattle.json_tree.specs.Sorting.{IsSortedOf, MembersAreSortedOf};
 ghost use Rattle.json_tree.specs.declared.tree.Member.{Member};
-ghost use Rattle.local_rules.specs.Members.{members_in};
+ghost use Rattle.json_tree.specs.Members.{members_in};
 ghost use Rattle.twin_value.specs.Twins.{picked, same_value, any_key, without_metadata, with_metadata, is_value_role, is_part_role};
 ghost use Rattle.twin_value.specs.Machinery.Gathering.{PutsBehind};
 ghost use Rattle.twin_value.specs.Machinery.Views.{role_view, keys_role};
@@ -17,8 +17,7 @@ ghost use Rattle.twin_value.specs.Machinery.Views.{role_view, keys_role};
 use crate::keys::Keys;
 use crate::role::Role;
 use dt_base::{List, OutOfMemory, Text};
-use json_tree::{Member, Tree, sorted};
-use local_rules::members_in;
+use json_tree::{Member, Tree, members_in, sorted};
 use std::alloc::Global;
 
 /// Puts members into the order of their keys.
@@ -65,7 +64,7 @@ fn push_sorted(
 }
 
 /// The same with a text.
-#[tactic(auto, using(local_rules::proofs::Views::views))]
+#[tactic(auto, using(json_tree::proofs::Views::views))]
 pub fn push_text(
     members: &mut Vec<Member>,
     alloc: Global,

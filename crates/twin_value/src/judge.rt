@@ -13,8 +13,7 @@ use crate::ids::{is_model_id, is_twin_id};
 use crate::role::Role;
 use crate::shapes::{is_object, is_of};
 use dt_base::names::is_name;
-use json_tree::Tree;
-use local_rules::{text_in, value_in};
+use json_tree::{Tree, text_in, value_in};
 
 /// The first code that a value breaks that is to be a text.
 fn broken_text(tree: &Tree) -> Option<BodyCode>

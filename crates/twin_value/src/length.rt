@@ -12,8 +12,7 @@ use crate::link::Relationship;
 use crate::twin::Twin;
 use dt_base::names::Dtmi;
 use json_length::{left_after_members, left_after_text};
-use json_tree::Member;
-use local_rules::members_in;
+use json_tree::{Member, members_in};
 
 /// The bytes of `:{"$metadata":{},` before the members of a component, and of the comma behind its brace.
 const AROUND_PART: u64 = 18;

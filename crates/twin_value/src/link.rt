@@ -2,13 +2,16 @@
 
 ghost use Rattle.std.specs.Prelude.{◌≡◌, ◌↔◌, ◌∷◌, [], IsTrue, Some, IfOk, IsSome, MatchResult, codes};
 ghost use Rattle.std.specs.Option.{option_map};
+ghost use Rattle.json_tree.specs.Values.{object};
 ghost use Rattle.json_tree.specs.View.{view, members_view};
-ghost use Rattle.local_rules.specs.Members.{members_in};
+ghost use Rattle.json_tree.specs.Sorting.{IsSortedOf};
+ghost use Rattle.json_tree.specs.Members.{members_in};
 ghost use Rattle.dtdl_terms.specs.TermViews.{contents_term};
 ghost use Rattle.twin_value.specs.Named.{content_called};
 ghost use Rattle.twin_value.specs.Breaches.{IsBodyBreach, IsLinkBreach, body_role, link_source, HasNoBreach, EndsBy, NamesNone, link_called, as_link, named_link, link_properties, key_position, text_under, link_role_of};
 ghost use Rattle.twin_value.specs.Machinery.Views.{role_view};
-ghost use Rattle.twin_value.specs.Twins.{IsLinkOf};
+ghost use Rattle.twin_value.specs.Roles.{body_member_role};
+ghost use Rattle.twin_value.specs.Twins.{IsLinkOf, picked, same_value, is_value_role};
 
 use crate::code::BodyCode;
 use crate::end::{BodyEnd, judge_body, text_under};
@@ -19,8 +22,7 @@ use crate::role::Role;
 use dt_base::names::{Dtmi, is_name};
 use dt_base::{List, OutOfMemory, Text};
 use dtdl_terms::{Content, ContentKind, Resolved, ResolvedContent};
-use json_tree::{Member, Place, Tree};
-use local_rules::{members_in, text_at};
+use json_tree::{Member, Place, Tree, members_in, text_at};
 use rel_graph::Edge;
 use std::alloc::Global;
 
@@ -124,6 +126,15 @@ fn name_place(alloc: Global, tree: &Tree) -> Result<Place, OutOfMemory>
     })
 }
 
+/// The values of the properties of a relationship, sorted.
+fn link_values(alloc: Global, tree: &Tree, role: Role) -> Result<Tree, OutOfMemory>
+    ensures { IfOk result (λ t. IsSortedOf (object (picked (λ key. is_value_role (body_member_role (role_view role.entry) key)) same_value (members_in (view tree.now)))) (view t)) }
+{
+    let keys = Keys::of(alloc, role)?;
+    let values = values_of(alloc, members_in(tree), &keys)?;
+    Ok(values)
+}
+
 /// The relationship of a source and an identifier for which a body without breach stands.
 fn link_from(
     alloc: Global,
@@ -140,8 +151,7 @@ fn link_from(
     let id = Text::from_str(alloc, id)?;
     let name = Text::from_str(alloc, text_under(tree, "$relationshipName"))?;
     let target = Text::from_str(alloc, text_under(tree, "$targetId"))?;
-    let keys = Keys::of(alloc, role)?;
-    let payload = values_of(alloc, members_in(tree), &keys)?;
+    let payload = link_values(alloc, tree, role)?;
     Ok(Edge {
         source,
         id,

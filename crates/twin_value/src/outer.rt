@@ -16,8 +16,7 @@ use crate::library::Library;
 use crate::role::Role;
 use crate::walk::{Found, first_in};
 use dt_base::OutOfMemory;
-use json_tree::{Member, Place, Tree};
-use local_rules::members_in;
+use json_tree::{Member, Place, Tree, members_in};
 use std::alloc::Global;
 
 /// Whether nothing declares what stands in a role.

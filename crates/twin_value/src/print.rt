@@ -13,8 +13,7 @@ use crate::link::Relationship;
 use crate::twin::Twin;
 use dt_base::OutOfMemory;
 use dt_base::names::Dtmi;
-use json_tree::{Member, Tree};
-use local_rules::members_in;
+use json_tree::{Member, Tree, members_in};
 use std::alloc::Global;
 
 /// The `$metadata` of a twin of a model.

@@ -12,11 +12,10 @@ ghost use Rattle.twin_value.specs.Fits.{is_array, is_object, is_truth, number_in
 
 use dtdl_terms::{EnumEntry, EnumValue, Primitive, Schema};
 use json_decimal::Decimal;
-use json_tree::Tree;
-use local_rules::text_in;
+use json_tree::{Tree, text_in};
 use value_texts::{is_date, is_date_time, is_duration, is_time};
 
-#[tactic(auto, using(local_rules::proofs::Views::views))]
+#[tactic(auto, using(json_tree::proofs::Views::views))]
 pub fn is_object(tree: &Tree) -> bool
     ensures { result ≡ is_object (view tree.now) }
 {
@@ -26,7 +25,7 @@ pub fn is_object(tree: &Tree) -> bool
     }
 }
 
-#[tactic(auto, using(local_rules::proofs::Views::views))]
+#[tactic(auto, using(json_tree::proofs::Views::views))]
 fn is_array(tree: &Tree) -> bool
     ensures { result ≡ is_array (view tree.now) }
 {
@@ -36,7 +35,7 @@ fn is_array(tree: &Tree) -> bool
     }
 }
 
-#[tactic(auto, using(local_rules::proofs::Views::views))]
+#[tactic(auto, using(json_tree::proofs::Views::views))]
 fn is_truth(tree: &Tree) -> bool
     ensures { result ≡ is_truth (view tree.now) }
 {
@@ -47,7 +46,7 @@ fn is_truth(tree: &Tree) -> bool
 }
 
 /// The number that a value is.
-#[tactic(auto, using(local_rules::proofs::Views::views))]
+#[tactic(auto, using(json_tree::proofs::Views::views))]
 fn number_in(tree: &Tree) -> Option<&Decimal>
     ensures { option_map (λ d. number_of d.now) result ≡ number_in (view tree.now) }
 {

@@ -19,8 +19,7 @@ use crate::role::Role;
 use dt_base::names::Dtmi;
 use dt_base::{OutOfMemory, Text};
 use dtdl_terms::{Resolved, ResolvedContent};
-use json_tree::Tree;
-use local_rules::{members_in, value_in};
+use json_tree::{Tree, members_in, value_in};
 use std::alloc::Global;
 
 /// A twin: its identifier, its model, the values of its properties, and its components by their names, each with the

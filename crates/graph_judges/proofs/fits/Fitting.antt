@@ -5,7 +5,7 @@ use Rattle.std.specs.Prelude.{IsTrue}
 use Rattle.json_decimal.specs.Number.{Number}
 use Rattle.json_tree.specs.Values.{text, object, Members, no_members, member}
 use Rattle.std.proofs.Common.{codes}
-use Rattle.local_rules.specs.Members.{members_in}
+use Rattle.json_tree.specs.Members.{members_in}
 use Rattle.dt_base.specs.names.Grammar.{dtmi_text}
 use Rattle.dtdl_terms.specs.declared.interface.Interface.{Interface}
 use Rattle.dtdl_terms.specs.declared.resolved.Resolved.{Resolved}

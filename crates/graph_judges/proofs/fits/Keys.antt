@@ -7,7 +7,7 @@ use Rattle.std.specs.declared.cmp.Ordering.{Ordering}
 use Rattle.std.proofs.lemmas.Slice.Eq.{bytes_eq-Decides}
 use Rattle.json_decimal.specs.Number.{Number}
 use Rattle.json_tree.specs.Values.{Json, text, Members, no_members, member}
-use Rattle.local_rules.specs.Members.{value_at}
+use Rattle.json_tree.specs.Members.{value_at}
 use Rattle.ordered_table.proofs.Flat.{C, c_total}
 use Rattle.dtdl_terms.specs.declared.resolved.ResolvedContent.{ResolvedContent}
 use Rattle.twin_patch.specs.Objects.{sorted_value, sorted_members}

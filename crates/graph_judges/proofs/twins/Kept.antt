@@ -7,7 +7,7 @@ use Rattle.json_decimal.specs.Number.{Number}
 use Rattle.json_tree.specs.Values.{Json, object, Members, no_members, member, LacksKey, HasDistinctKeys, MembersHaveDistinctKeys}
 use Rattle.json_tree.specs.View.{view}
 use Rattle.json_tree.specs.declared.tree.Tree.{Tree}
-use Rattle.local_rules.specs.Members.{members_in, value_at}
+use Rattle.json_tree.specs.Members.{members_in, value_at}
 use Rattle.twin_patch.specs.Objects.{with_member, sorted_value}
 use Rattle.twin_patch.specs.Operations.{change_of, BringsDistinctKeys}
 use Rattle.twin_patch.specs.declared.patch.Op.{Op}

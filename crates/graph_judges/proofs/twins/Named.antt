@@ -5,7 +5,7 @@ use Rattle.std.specs.Option.{IsSomeAnd, option_and_then}
 use Rattle.std.specs.List.{find}
 use Rattle.dt_base.specs.names.Grammar.{Identifier, dtmi_text}
 use Rattle.json_tree.specs.Values.{Json, null, truth, number, text, array, object}
-use Rattle.local_rules.specs.Members.{text_in, value_in}
+use Rattle.json_tree.specs.Members.{text_in, value_in}
 use Rattle.dtdl_terms.specs.Sets.{interface_at}
 use Rattle.dtdl_terms.specs.declared.interface.Interface.{Interface}
 use Rattle.ordered_table.proofs.Flat.{C}

@@ -2,11 +2,10 @@
 
 ghost use Rattle.std.specs.Prelude.{◌≡◌, ◌↔◌, IsTrue};
 ghost use Rattle.json_tree.specs.View.{members_view, view};
-ghost use Rattle.local_rules.specs.Members.{members_in};
+ghost use Rattle.json_tree.specs.Members.{members_in};
 ghost use Rattle.graph_judges.specs.fits.Machinery.Keys.{keys_in, HaveSameNames};
 
-use json_tree::{Member, Tree};
-use local_rules::members_in;
+use json_tree::{Member, Tree, members_in};
 use twin_value::Twin;
 
 /// Whether two objects have the same keys, in the same order.

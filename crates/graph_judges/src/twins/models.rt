@@ -9,8 +9,7 @@ ghost use Rattle.twin_value.specs.Twins.{model_text};
 
 use dt_base::OutOfMemory;
 use dt_base::names::{Dtmi, NameFault};
-use json_tree::Tree;
-use local_rules::{members_in, text_at, value_in};
+use json_tree::{Tree, members_in, text_at, value_in};
 use std::alloc::Global;
 
 /// The `$model` of a body's `$metadata`.

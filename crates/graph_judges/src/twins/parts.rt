@@ -27,8 +27,7 @@ use graph_asks::Ask;
 use graph_steps::bodies::{BodyFailure, kept_part, part_tree, patched};
 use graph_steps::held::{Lent, judged_part};
 use graph_steps::twins::Held;
-use json_tree::Tree;
-use local_rules::value_in;
+use json_tree::{Tree, value_in};
 use model_life::resolution::Resolutions;
 use twin_patch::Patch;
 

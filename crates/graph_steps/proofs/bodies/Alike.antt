@@ -3,7 +3,7 @@ use Rattle.std.proofs.Common.{◌≡◌, ◌↔◌, ℕ, ◌⊎◌, inl, inr, Li
 use Rattle.std.specs.Prelude.{if◌then◌else◌}
 use Rattle.std.specs.Option.{IsSomeAnd, option_and_then}
 use Rattle.json_tree.specs.Values.{Json, null, truth, number, text, array, object}
-use Rattle.local_rules.specs.Members.{members_in}
+use Rattle.json_tree.specs.Members.{members_in}
 use Rattle.dt_base.specs.names.Grammar.{Identifier, NameText}
 use Rattle.dtdl_terms.specs.Terms.{SchemaTerm, KindTerm, telemetry, property, command, relationship, component, ContentTerm, ContentTerms}
 use Rattle.dtdl_terms.specs.TermViews.{schema_term, kind_term}

@@ -7,7 +7,7 @@ use Rattle.json_decimal.specs.Number.{Number}
 use Rattle.json_tree.specs.Values.{Json, null, truth, number, text, array, object, Members, no_members, member}
 use Rattle.json_tree.specs.Places.{IsPart, member_at, IsSomewhere}
 use Rattle.json_tree.specs.declared.places.Place.{Place}
-use Rattle.local_rules.specs.Members.{members_in, value_at, text_in}
+use Rattle.json_tree.specs.Members.{members_in, value_at, text_in}
 use Rattle.dt_base.specs.names.Grammar.{NameText}
 use Rattle.dtdl_terms.specs.declared.resolved.Resolved.{Resolved}
 use Rattle.twin_value.specs.Roles.{Role}

@@ -4,7 +4,7 @@ use Rattle.std.specs.Prelude.{not, IsTrue}
 use Rattle.std.proofs.lemmas.Slice.Eq.{bytes_eq-Decides}
 use Rattle.json_decimal.specs.Number.{Number}
 use Rattle.json_tree.specs.Values.{Json, object, Members, LacksKey, HasDistinctKeys, MembersHaveDistinctKeys}
-use Rattle.local_rules.specs.Members.{members_in}
+use Rattle.json_tree.specs.Members.{members_in}
 use Rattle.dt_base.specs.names.Grammar.{Identifier}
 use Rattle.dtdl_terms.specs.declared.resolved.Resolved.{Resolved}
 use Rattle.twin_patch.specs.Objects.{sorted_value, sorted_members}

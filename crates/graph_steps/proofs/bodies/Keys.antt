@@ -6,7 +6,7 @@ use Rattle.std.specs.declared.cmp.Ordering.{Ordering}
 use Rattle.std.specs.declared.cmp.Ordering.TheVariants.{Less, Equal, Greater}
 use Rattle.json_decimal.specs.Number.{Number}
 use Rattle.json_tree.specs.Values.{Json, null, truth, number, text, array, object, Elements, no_elements, element, Members, no_members, member, LacksKey, HasDistinctKeys, ElementsHaveDistinctKeys, MembersHaveDistinctKeys}
-use Rattle.local_rules.specs.Members.{members_in, value_at}
+use Rattle.json_tree.specs.Members.{members_in, value_at}
 use Rattle.model_life.proofs.resolution.ByKey.{alike}
 use Rattle.twin_patch.specs.Objects.{with_member, sorted_value, sorted_elements, sorted_members}
 use Rattle.twin_patch.specs.Machinery.Orders.{compared_keys, IsBeforeAll, IsInOrder, ElementsAreInOrder, AreInOrder}

@@ -7,7 +7,7 @@ use Rattle.json_tree.specs.Values.{Json, null, truth, number, text, array, objec
 use Rattle.json_tree.specs.Places.{element_at, member_at, IsPart}
 use Rattle.json_tree.specs.Pointers.{HasToken, AreReferenceTokens, IsPointerOf, pointer_text}
 use Rattle.json_tree.proofs.Parts.{one_part}
-use Rattle.local_rules.specs.Members.{text_in, value_at, value_in, members_in}
+use Rattle.json_tree.specs.Members.{text_in, value_at, value_in, members_in}
 use Rattle.dtdl_terms.specs.declared.resolved.Resolved.{Resolved}
 use Rattle.twin_value.specs.Codes.{code_number}
 use Rattle.twin_value.specs.Roles.{Role}

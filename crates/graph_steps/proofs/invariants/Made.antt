@@ -7,7 +7,7 @@ use Rattle.std.proofs.lemmas.Option.{same_Some, none-some}
 use Rattle.json_decimal.specs.Number.{Number}
 use Rattle.json_tree.specs.Values.{Json, text, object, Members, no_members, member}
 use Rattle.json_tree.specs.Places.{member_at}
-use Rattle.local_rules.specs.Members.{text_in, value_at, value_in, members_in}
+use Rattle.json_tree.specs.Members.{text_in, value_at, value_in, members_in}
 use Rattle.dt_base.specs.names.Grammar.{NameText, Identifier}
 use Rattle.dtdl_terms.specs.Terms.{ContentTerms}
 use Rattle.dtdl_terms.specs.declared.resolved.ResolvedContent.{ResolvedContent}

@@ -8,7 +8,7 @@ use Rattle.std.proofs.lemmas.Option.{same_Some, none-some}
 use Rattle.json_decimal.specs.Number.{Number}
 use Rattle.json_tree.specs.Values.{Json, Elements, no_elements, element, Members, no_members, member}
 use Rattle.json_tree.specs.Places.{element_at, member_at}
-use Rattle.local_rules.specs.Members.{value_at}
+use Rattle.json_tree.specs.Members.{value_at}
 use Rattle.ordered_table.proofs.Flat.{C, c_total}
 use Rattle.twin_patch.specs.Objects.{with_member, without_member, sorted_value, sorted_elements, sorted_members}
 use Rattle.graph_steps.proofs.invariants.Keyed.{one_text, tests, itself}

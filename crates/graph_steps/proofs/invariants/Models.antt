@@ -9,7 +9,7 @@ use Rattle.dtdl_terms.specs.declared.resolved.ResolvedContent.{ResolvedContent}
 use Rattle.twin_value.specs.Breaches.{HasNoBreach, IsTwinBreach, IsLinkBreach, link_called, twin_role_of}
 use Rattle.twin_value.specs.Roles.{body_member_role}
 use Rattle.twin_value.specs.Twins.{is_value_role, is_part_role}
-use Rattle.local_rules.specs.Members.{members_in}
+use Rattle.json_tree.specs.Members.{members_in}
 use Rattle.model_life.specs.Models.{Model}
 use Rattle.graph_steps.specs.Inherited.{contents, inherited, is_a}
 use Rattle.graph_steps.specs.States.{State, Twin, Link, set_of, interface_of, twin_at, twin_value, link_value, with_models}

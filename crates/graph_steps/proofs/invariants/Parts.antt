@@ -8,7 +8,7 @@ use Rattle.ordered_table.proofs.Flat.{C}
 use Rattle.dt_base.specs.names.Grammar.{dtmi_text}
 use Rattle.json_decimal.specs.Number.{Number}
 use Rattle.json_tree.specs.Values.{Json, text, object, Members, no_members, member}
-use Rattle.local_rules.specs.Members.{members_in, value_at}
+use Rattle.json_tree.specs.Members.{members_in, value_at}
 use Rattle.dtdl_terms.specs.declared.interface.Interface.{Interface}
 use Rattle.dtdl_terms.specs.declared.resolved.ResolvedContent.{ResolvedContent}
 use Rattle.twin_patch.specs.Objects.{sorted_value, with_member}

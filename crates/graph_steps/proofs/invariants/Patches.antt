@@ -7,7 +7,7 @@ use Rattle.std.proofs.lemmas.Slice.Eq.{bytes_eq-Decides}
 use Rattle.std.proofs.lemmas.Option.{same_Some, none-some}
 use Rattle.json_decimal.specs.Number.{Number}
 use Rattle.json_tree.specs.Values.{Json, null, truth, number, text, array, object, Members}
-use Rattle.local_rules.specs.Members.{value_at, value_in}
+use Rattle.json_tree.specs.Members.{value_at, value_in}
 use Rattle.twin_patch.specs.Objects.{value_under, with_member, without_member, sorted_value}
 use Rattle.twin_patch.specs.Operations.{Change, add, replace, remove, Operation}
 use Rattle.twin_patch.specs.Patched.{edited, changed_value, applied, applied_at, go_on, patched_from}

@@ -8,7 +8,7 @@ use Rattle.json_decimal.specs.Number.{Number}
 use Rattle.json_decimal.specs.Comparing.{IsWhole}
 use Rattle.json_tree.specs.Values.{Json, null, truth, number, text, array, object, Members}
 use Rattle.json_tree.specs.Places.{member_at}
-use Rattle.local_rules.specs.Members.{text_in, value_at, value_in}
+use Rattle.json_tree.specs.Members.{text_in, value_at, value_in}
 use Rattle.dt_base.specs.names.Grammar.{NameText}
 use Rattle.dtdl_terms.specs.Terms.{SchemaTerm, primitive, named, array_of, enumeration, map_of, object_of}
 use Rattle.dtdl_terms.specs.declared.primitive.Primitive.{Primitive}

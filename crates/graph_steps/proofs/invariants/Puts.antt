@@ -8,7 +8,7 @@ use Rattle.ordered_table.proofs.Flat.{C}
 use Rattle.dt_base.specs.names.Grammar.{Identifier, dtmi_text}
 use Rattle.json_decimal.specs.Number.{Number}
 use Rattle.json_tree.specs.Values.{Json, Members, no_members, member}
-use Rattle.local_rules.specs.Members.{members_in}
+use Rattle.json_tree.specs.Members.{members_in}
 use Rattle.dtdl_terms.specs.declared.interface.Interface.{Interface}
 use Rattle.dtdl_terms.specs.declared.limit.Limit.TheVariants as limits
 use Rattle.model_life.proofs.resolution.ByKey.{in_contained, in_found, at-spelling}

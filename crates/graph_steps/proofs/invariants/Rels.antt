@@ -6,7 +6,7 @@ use Rattle.std.specs.Option.{is_some, IsSomeAnd, option_and_then}
 use Rattle.std.proofs.lemmas.Option.{same_Some}
 use Rattle.dt_base.specs.names.Grammar.{Identifier, NameText, dtmi_text}
 use Rattle.json_tree.specs.Values.{Json, text, object}
-use Rattle.local_rules.specs.Members.{text_in, value_in, members_in}
+use Rattle.json_tree.specs.Members.{text_in, value_in, members_in}
 use Rattle.dtdl_terms.specs.TermViews.{kind_term}
 use Rattle.dtdl_terms.specs.declared.interface.Interface.{Interface}
 use Rattle.dtdl_terms.specs.declared.limit.Limit.TheVariants as limits

@@ -7,7 +7,7 @@ use Rattle.std.proofs.lemmas.Option.{same_Some, none-some}
 use Rattle.dt_base.specs.names.Grammar.{Identifier}
 use Rattle.json_decimal.specs.Number.{Number}
 use Rattle.json_tree.specs.Values.{Members, no_members, member}
-use Rattle.local_rules.specs.Members.{members_in}
+use Rattle.json_tree.specs.Members.{members_in}
 use Rattle.dtdl_terms.specs.TermViews.{kind_term}
 use Rattle.dtdl_terms.specs.declared.interface.Interface.{Interface}
 use Rattle.dtdl_terms.specs.declared.resolved.ResolvedContent.{ResolvedContent}

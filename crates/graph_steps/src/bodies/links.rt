@@ -20,6 +20,15 @@ use rel_graph::Edge;
 use std::alloc::Global;
 use twin_value::{Relationship, read_rel};
 
+/// Two texts.
+fn texts(alloc: Global, first: &str, second: &str) -> Result<(Text, Text), OutOfMemory>
+    ensures { IfOk result (λ t. t ≡ (first.now, second.now)) }
+{
+    let first = Text::from_str(alloc, first)?;
+    let second = Text::from_str(alloc, second)?;
+    Ok((first, second))
+}
+
 /// The same relationship with this name and target.
 fn leading(
     alloc: Global,
@@ -29,15 +38,18 @@ fn leading(
 ) -> Result<Relationship, OutOfMemory>
     ensures { IfOk result (λ l. l ≡ record { source = link.source; id = link.id; name = name.now; target = target.now; payload = link.payload }) }
 {
+    let Ok((name, target)) = texts(alloc, name, target) else {
+        drop(link);
+        return Err(OutOfMemory);
+    };
     let Edge {
         source,
         id,
-        name: _named,
-        target: _led,
+        name: named,
+        target: led,
         payload,
     } = link;
-    let name = Text::from_str(alloc, name)?;
-    let target = Text::from_str(alloc, target)?;
+    drop((named, led));
     Ok(Edge {
         source,
         id,

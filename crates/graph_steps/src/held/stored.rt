@@ -7,7 +7,7 @@ ghost use Rattle.json_tree.specs.View.{view};
 ghost use Rattle.graph_steps.specs.held.Held.{link_of};
 
 use crate::bodies::link_tree;
-use dt_base::OutOfMemory;
+use dt_base::{OutOfMemory, Text};
 use json_tree::Tree;
 use rel_graph::Edge;
 use std::alloc::Global;
@@ -21,15 +21,28 @@ pub struct Stored {
     pub bytes: u64,
 }
 
+/// Two texts in memory of their own.
+fn copies(alloc: Global, first: &Text, second: &Text) -> Result<(Text, Text), OutOfMemory>
+    ensures { IfOk result (λ c. c ≡ (first.now, second.now)) }
+{
+    let first = first.copy(alloc)?;
+    let second = second.copy(alloc)?;
+    Ok((first, second))
+}
+
 /// The relationship in memory of its own.
 fn whole_of(alloc: Global, link: &Edge<Stored>) -> Result<Relationship, OutOfMemory>
     ensures { IfOk result (λ whole. link_view whole ≡ link_of link.now) }
 {
-    let source = link.source.copy(alloc)?;
-    let id = link.id.copy(alloc)?;
-    let name = link.name.copy(alloc)?;
-    let target = link.target.copy(alloc)?;
-    let payload = link.payload.values.copy(alloc)?;
+    let (source, target) = copies(alloc, &link.source, &link.target)?;
+    let Ok((id, name)) = copies(alloc, &link.id, &link.name) else {
+        drop((source, target));
+        return Err(OutOfMemory);
+    };
+    let Ok(payload) = link.payload.values.copy(alloc) else {
+        drop((source, id, name, target));
+        return Err(OutOfMemory);
+    };
     Ok(Edge {
         source,
         id,
@@ -45,5 +58,7 @@ pub fn stored_tree(alloc: Global, link: &Edge<Stored>) -> Result<Tree, OutOfMemo
     ensures { IfOk result (λ tree. view tree ≡ link_value (link_of link.now)) }
 {
     let whole = whole_of(alloc, link)?;
-    link_tree(alloc, &whole)
+    let tree = link_tree(alloc, &whole);
+    drop(whole);
+    tree
 }

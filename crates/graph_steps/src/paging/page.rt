@@ -15,7 +15,10 @@ use std::alloc::Global;
 fn put(alloc: Global, members: &mut Vec<Member>, key: &str, value: Tree) -> Result<(), OutOfMemory>
     ensures { OnOk result (map member_view members.new.items ≡ map member_view members.old.items ++ (key.now, view value) ∷ []) }
 {
-    let key = Text::from_str(alloc, key)?;
+    let Ok(key) = Text::from_str(alloc, key) else {
+        drop(value);
+        return Err(OutOfMemory);
+    };
     members.push(Member { key, value })?;
     Ok(())
 }

@@ -1,6 +1,6 @@
 //! The twins of a graph.
 
-ghost use Rattle.std.specs.Prelude.{◌≡◌, ℕ, List, [], Some, cond, length, slice_get, IfOk, IfErr, OnErr, OnOk, MatchOption};
+ghost use Rattle.std.specs.Prelude.{◌≡◌, ◌+◌, ◌-◌, ◌^◌, ◌<◌, ℕ, List, [], Some, cond, length, slice_get, IfOk, IfErr, OnErr, OnOk, MatchOption};
 ghost use Rattle.std.specs.Option.{option_copied, option_map};
 ghost use Rattle.std.specs.Ordering.{nat_cmp, is_eq};
 ghost use Rattle.std.specs.Cmp.Lexicographic.{slice_cmp};
@@ -12,8 +12,8 @@ ghost use Rattle.graph_steps.specs.twins.Machinery.Rows.{holds_id};
 use crate::twins::held::{Held, PutEnd};
 use crate::twins::index::Index;
 use crate::twins::listing::OfModel;
-use dt_base::Text;
 use dt_base::names::Dtmi;
+use dt_base::{OutOfMemory, Text};
 use std::alloc::Global;
 use std::collections::BTreeMap;
 use std::collections::btree_map::{Entry, Range};
@@ -135,10 +135,7 @@ impl Twins {
         ensures back { IfErr result (λ end. end.back ≡ twin) }
         ensures err { OnErr result (self.new ≡ self.old) }
     {
-        if self.len == u64::MAX || bytes > u64::MAX - self.bytes {
-            return Err(PutEnd { back: twin });
-        }
-        let Ok(id) = twin.id.copy(self.alloc) else {
+        let Ok(id) = key_of(self.alloc, self.len, self.bytes, &twin, bytes) else {
             return Err(PutEnd { back: twin });
         };
         let Ok(entry) = self.twins.entry(id) else {
@@ -179,6 +176,19 @@ impl Twins {
         self.bytes = self.bytes.saturating_sub(bytes);
         Some(twin)
     }
+}
+
+/// A copy of a twin's id. Fails for want of memory, or where a twin of this size cannot be counted with so many twins of
+/// so many bytes.
+fn key_of(alloc: Global, len: u64, sum: u64, twin: &Twin, bytes: u64) -> Result<Text, OutOfMemory>
+    ensures id { IfOk result (λ id. id ≡ twin.now.id) }
+    ensures len { IfOk result (λ _. len < 2 ^ 64 - 1) }
+    ensures sum { IfOk result (λ _. sum + bytes < 2 ^ 64) }
+{
+    if len == u64::MAX || bytes > u64::MAX - sum {
+        return Err(OutOfMemory);
+    }
+    twin.id.copy(alloc)
 }
 
 /// Puts a twin in the place of the one with its id, and gives that one. `Err` is want of memory: it hands the twin back,

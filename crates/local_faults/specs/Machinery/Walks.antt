@@ -10,7 +10,7 @@ use Rattle.json_decimal.specs.Number.{Number}
 use Rattle.json_tree.specs.Values.{Json, text, Members}
 use Rattle.json_tree.specs.Places.{IsBefore, IsPart}
 use Rattle.local_rules.specs.Identifiers.{IsIdRole}
-use Rattle.local_rules.specs.Members.{text_in}
+use Rattle.json_tree.specs.Members.{text_in}
 use Rattle.local_rules.specs.Breaches.{BreaksAlone, BreaksById, BreaksBySchemas, ComesBefore, IsFirstOf}
 use Rattle.local_rules.specs.Machinery.Marks.{BreaksMark, HasMarkedRole, part_marked}
 use Rattle.local_rules.specs.declared.marks.MarkedRole.{MarkedRole}

@@ -3,7 +3,7 @@ use Rattle.std.specs.Prelude.{◌≡◌, ℕ, List, [], ◌∷◌, Bool, false, 
 use Rattle.std.specs.Option.{option_map, option_map_or}
 use Rattle.json_tree.specs.Values.{Json, null, truth, number, text, array, object}
 use Rattle.json_tree.specs.Places.{IsPart, member_at}
-use Rattle.local_rules.specs.Members.{list_of}
+use Rattle.json_tree.specs.Members.{list_of}
 use Rattle.local_rules.specs.Roles.{part_role}
 use Rattle.local_rules.specs.Repeats.{repeats_name, repeats_text, repeats_value}
 use Rattle.local_rules.specs.Languages.{is_language}

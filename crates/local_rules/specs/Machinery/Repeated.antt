@@ -8,7 +8,7 @@ use Rattle.json_decimal.specs.Number.{Number}
 use Rattle.json_tree.specs.Values.{Json, null, truth, number, text, array, object}
 use Rattle.text_buckets.specs.Buckets.{IsUsed}
 use Rattle.text_buckets.specs.declared.buckets.Buckets.{Buckets}
-use Rattle.local_rules.specs.Members.{text_in, value_in}
+use Rattle.json_tree.specs.Members.{text_in, value_in}
 use Rattle.local_rules.specs.Repeats.{holds_some, name_in, repeats, same_value}
 use Rattle.local_rules.specs.declared.role.Role.{Role}
 use Rattle.local_rules.specs.declared.role.Role.TheVariants as role

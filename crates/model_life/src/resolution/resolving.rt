@@ -2,15 +2,19 @@
 
 ghost use Rattle.std.specs.Prelude.{◌≡◌, ◌↔◌, ◌⊎◌, Some, Contains, map, IsSome, IfOk, OnOk};
 ghost use Rattle.std.specs.Option.{option_copied};
+ghost use Rattle.std.specs.Ordering.{nat_cmp};
+ghost use Rattle.std.specs.Cmp.Lexicographic.{slice_cmp};
 ghost use Rattle.std.specs.List.{AllByRecursion, AllZip};
+ghost use Rattle.std.specs.List.Sorted.{IsStrictlySortedBy};
 ghost use Rattle.dtdl_terms.specs.TermViews.{kind_term};
 ghost use Rattle.dtdl_terms.specs.Distinct.{HasDeclaration};
 ghost use Rattle.dtdl_terms.specs.Sets.{InOrder, interface_at};
 ghost use Rattle.dtdl_terms.specs.declared.interface.Interface.{Interface};
+ghost use Rattle.dtdl_terms.specs.declared.resolved.ResolvedContent.{ResolvedContent};
 ghost use Rattle.extend_resolve.specs.Chains.{IsAncestor};
 ghost use Rattle.extend_resolve.specs.Breaches.{BreaksNoRule};
 ghost use Rattle.model_life.specs.resolution.Resolving.{HasPart, IsResolved};
-ghost use Rattle.model_life.specs.resolution.Machinery.Families.{IsThere, IsFamily, GrowsFamily, HasShortChains, IsPartBy, IsPartOf, kind_id, part_for, schemas_of};
+ghost use Rattle.model_life.specs.resolution.Machinery.Families.{IsThere, IsFamily, GrowsFamily, HasShortChains, IsDeclaredIn, AreOne, IsPartBy, IsPartOf, kind_id, part_for, schemas_of};
 
 use crate::resolution::contents::contents_of;
 use crate::resolution::found::Found;
@@ -33,15 +37,53 @@ pub fn resolve(alloc: Global, set: &ModelSet, id: &Dtmi) -> Result<Resolved, Out
     let interface = set.get(id).unwrap();
     let mut found = ancestors_of(alloc, set, interface)?;
     let ancestors = found.list(alloc)?;
-    let contents = contents_of(alloc, ancestors.as_slice())?;
     let parts = parts(alloc, set, ancestors.as_slice())?;
     add_all_ancestors(set, parts.as_slice(), &mut found)?;
     let sources = found.list(alloc)?;
+    drop(found);
+    let resolved = resolved_of(
+        alloc,
+        set,
+        ancestors.as_slice(),
+        sources.as_slice(),
+        parts.as_slice(),
+    )?;
+    Ok(resolved)
+}
+
+/// What an interface has whose ancestors these are, with the schemas of the sources and the contents of the parts.
+fn resolved_of(
+    alloc: Global,
+    set: &ModelSet,
+    ancestors: &[&Interface],
+    sources: &[&Interface],
+    parts: &[&Interface],
+) -> Result<Resolved, OutOfMemory>
+    requires sound { BreaksNoRule set.now }
+    requires declared { AllByRecursion HasDeclaration set.now }
+    requires one { AreOne (IsDeclaredIn (map (λ i. i.now) ancestors.now)) }
+    requires there { (q : Interface) → Contains (map (λ i. i.now) parts.now) q → IsThere set.now q }
+    ensures each { IfOk result (λ r. (c : ResolvedContent) → Contains r.contents c ↔ IsDeclaredIn (map (λ i. i.now) ancestors.now) c) }
+    ensures sorted { IfOk result (λ r. IsStrictlySortedBy (slice_cmp nat_cmp) (map (λ c. c.content.name) r.contents)) }
+    ensures ancestors { IfOk result (λ r. r.ancestors ≡ map (λ i. i.now.id) ancestors.now) }
+    ensures named { IfOk result (λ r. r.named ≡ map (λ i. schemas_of i.now) sources.now) }
+    ensures parts { IfOk result (λ r. AllZip (IsPartOf set.now) (map (λ i. i.now) parts.now) r.parts) }
+{
+    let ids = copy_ids(alloc, ancestors)?;
+    let contents = contents_of(alloc, ancestors)?;
+    let Ok(named) = copy_named(alloc, sources) else {
+        drop((ids, contents));
+        return Err(OutOfMemory);
+    };
+    let Ok(parts) = copy_parts(alloc, set, parts) else {
+        drop((ids, contents, named));
+        return Err(OutOfMemory);
+    };
     Ok(Resolved {
         contents,
-        ancestors: copy_ids(alloc, ancestors.as_slice())?,
-        named: copy_named(alloc, sources.as_slice())?,
-        parts: copy_parts(alloc, set, parts.as_slice())?,
+        ancestors: ids,
+        named,
+        parts,
     })
 }
 

@@ -6,7 +6,7 @@ use Rattle.json_decimal.specs.Number.{Number}
 use Rattle.json_tree.specs.Values.{Json, truth, text, array, object, Elements, Members}
 use Rattle.json_tree.specs.Places.{element_at, member_at}
 use Rattle.dt_base.specs.names.Grammar.{Identifier}
-use Rattle.local_rules.specs.Members.{list_of, value_at}
+use Rattle.json_tree.specs.Members.{list_of, value_at}
 use Rattle.local_rules.specs.Roles.{HasRole, type_of}
 use Rattle.local_rules.specs.Types.{IsNameValue, MayHaveBeside, further}
 use Rattle.local_rules.specs.Quantities.{IsInteger32, IsStringValue, IsMultiplicity}

@@ -3,7 +3,7 @@ use Rattle.std.specs.Prelude.{ℕ, List, [], Option, Some, None, is_some, is_non
 use Rattle.std.specs.Option.{option_map, option_or}
 use Rattle.json_decimal.specs.Number.{Number}
 use Rattle.json_tree.specs.Values.{Json, null, truth, number, text, array, object, Members, no_members, member}
-use Rattle.local_rules.specs.Members.{text_in, value_at}
+use Rattle.json_tree.specs.Members.{text_in, value_at}
 use Rattle.twin_value.specs.declared.code.BodyCode.{BodyCode}
 use Rattle.twin_value.specs.declared.code.BodyCode.TheVariants as code
 use Rattle.query_bodies.specs.Breaches.{is_text_or_null}

@@ -5,7 +5,7 @@ use Rattle.std.proofs.lemmas.Slice.Eq.{bytes_eq-Decides}
 use Rattle.dt_base.specs.names.Grammar.{dtmi_text}
 use Rattle.json_decimal.specs.Number.{Number}
 use Rattle.json_tree.specs.Values.{Json, text, object, Members, no_members, member}
-use Rattle.local_rules.specs.Members.{members_in, value_at, value_in}
+use Rattle.json_tree.specs.Members.{members_in, value_at, value_in}
 use Rattle.twin_patch.specs.Objects.{sorted_value}
 use Rattle.twin_value.specs.Twins.{picked, joined_members, any_key, with_metadata}
 use Rattle.graph_steps.specs.States.{Twin, Link, part_value, twin_object, twin_value, link_object, link_value}

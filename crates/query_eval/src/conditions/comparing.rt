@@ -22,7 +22,7 @@ pub(crate) enum Plain<'a> {
 
 impl<'a> Plain<'a> {
     /// What comparisons see of a tree.
-    #[tactic(auto, using(local_rules::proofs::Views::views))]
+    #[tactic(auto, using(json_tree::proofs::Views::views))]
     pub(crate) fn of_tree(tree: &'a Tree) -> Plain<'a>
         ensures { plain_value result ≡ plainly (view tree.now) }
     {

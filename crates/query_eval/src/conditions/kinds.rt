@@ -9,7 +9,7 @@ use json_tree::Tree;
 use query_terms::Kind;
 
 /// Whether a value that is there is of a kind.
-#[tactic(auto, using(local_rules::proofs::Views::views))]
+#[tactic(auto, using(json_tree::proofs::Views::views))]
 fn tree_is(kind: Kind, tree: &Tree) -> bool
     ensures { result ≡ is_of_query_kind kind (Some (view tree.now)) }
 {

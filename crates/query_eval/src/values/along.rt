@@ -11,8 +11,7 @@ ghost use Rattle.query_eval.specs.values.Found.{found_value};
 use crate::values::found::Found;
 use dt_base::names::Dtmi;
 use dt_base::{List, OutOfMemory, Text};
-use json_tree::{Member, Tree};
-use local_rules::value_in;
+use json_tree::{Member, Tree, value_in};
 use std::alloc::Global;
 
 /// What a path leads to in a tree that the graph holds. Takes no memory.

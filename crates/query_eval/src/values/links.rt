@@ -2,7 +2,7 @@
 
 ghost use Rattle.std.specs.Prelude.{◌≡◌, IfOk};
 ghost use Rattle.std.specs.Option.{option_and_then, option_copied, option_map};
-ghost use Rattle.local_rules.specs.Members.{value_in};
+ghost use Rattle.json_tree.specs.Members.{value_in};
 ghost use Rattle.graph_steps.specs.bodies.Kept.{IsKeptLink};
 ghost use Rattle.graph_steps.specs.held.Held.{link_of};
 ghost use Rattle.graph_steps.specs.Conditions.{value_along};
@@ -14,7 +14,7 @@ use crate::values::along::{along_held, along_text};
 use crate::values::found::Found;
 use dt_base::{OutOfMemory, Text};
 use graph_steps::held::Stored;
-use local_rules::value_in;
+use json_tree::value_in;
 use rel_graph::Edge;
 use std::alloc::Global;
 

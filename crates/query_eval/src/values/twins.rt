@@ -3,7 +3,7 @@
 ghost use Rattle.std.specs.Prelude.{◌≡◌, IfOk};
 ghost use Rattle.std.specs.Option.{option_and_then, option_map};
 ghost use Rattle.json_tree.specs.View.{view};
-ghost use Rattle.local_rules.specs.Members.{value_in};
+ghost use Rattle.json_tree.specs.Members.{value_in};
 ghost use Rattle.graph_steps.specs.bodies.Kept.{twin_view, IsKeptTwin, IsKeptPart};
 ghost use Rattle.graph_steps.specs.Conditions.{value_along};
 ghost use Rattle.graph_steps.specs.States.{part_value, twin_value};
@@ -14,8 +14,7 @@ use crate::values::along::{along_empty, along_held, along_metadata, along_text};
 use crate::values::found::Found;
 use dt_base::{OutOfMemory, Text};
 use graph_steps::bodies::{kept_part, part_tree};
-use json_tree::Tree;
-use local_rules::value_in;
+use json_tree::{Tree, value_in};
 use std::alloc::Global;
 use twin_value::Twin;
 

@@ -3,7 +3,7 @@ use Rattle.std.specs.Prelude.{◌≡◌, ℕ, List, [], ◌∷◌}
 use Rattle.json_decimal.specs.Number.{Number}
 use Rattle.json_tree.specs.Values.{Members, no_members, member}
 use Rattle.json_tree.specs.View.{view}
-use Rattle.local_rules.specs.Members.{members_in}
+use Rattle.json_tree.specs.Members.{members_in}
 use Rattle.twin_value.specs.declared.twin.Twin.{Twin}
 
 abbrev pub keys_in : Members Number → List (List ℕ)

@@ -3,8 +3,8 @@ use Rattle.std.proofs.lemmas.Bool.Decides.{nat_tests}
 use Rattle.std.proofs.lemmas.List.{length-map}
 use Rattle.json_tree.specs.Values.{array}
 use Rattle.json_tree.specs.View.{view, elements_view}
-use Rattle.local_rules.specs.Members.{list_of}
-use Rattle.local_rules.proofs.Views.{view-List, list_of-elements_of}
+use Rattle.json_tree.specs.Members.{list_of}
+use Rattle.json_tree.proofs.Views.{view-List, list_of-elements_of}
 use Rattle.graph_routes.specs.Bodies.{IsTooMany}
 use Rattle.graph_routes.proofs.bodies.is_too_many.Goals as goal
 

@@ -3,7 +3,7 @@ use Rattle.std.specs.Option.{option_map, option_and_then}
 use Rattle.json_decimal.specs.Number.{Number}
 use Rattle.json_tree.specs.Values.{Members}
 use Rattle.json_tree.specs.View.{view}
-use Rattle.local_rules.specs.Members.{text_in, value_at}
+use Rattle.json_tree.specs.Members.{text_in, value_at}
 use Rattle.twin_value.specs.Breaches.{text_under}
 use Rattle.graph_routes.proofs.OuterBreaches.{no_target, bad_target}
 use Rattle.graph_routes.proofs.links.target_in.Goals as goal

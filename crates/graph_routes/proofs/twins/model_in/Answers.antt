@@ -5,7 +5,7 @@ use Rattle.json_decimal.specs.Number.{Number}
 use Rattle.json_tree.specs.Values.{Members}
 use Rattle.json_tree.specs.View.{view}
 use Rattle.json_tree.specs.declared.tree.Tree.{Tree}
-use Rattle.local_rules.specs.Members.{text_in, value_at, value_in}
+use Rattle.json_tree.specs.Members.{text_in, value_at, value_in}
 use Rattle.twin_value.specs.Breaches.{text_under}
 use Rattle.graph_routes.proofs.OuterBreaches.{no_metadata, no_model, bad_model}
 use Rattle.graph_routes.proofs.twins.model_in.Goals as goal

@@ -1,7 +1,7 @@
 use Rattle.std.proofs.Common.{ap, sym, ◌∙◌}
 use Rattle.json_tree.specs.Values.{array}
 use Rattle.json_tree.specs.View.{view, elements_view, members_view}
-use Rattle.local_rules.proofs.Views.{view-List, view-Members}
+use Rattle.json_tree.proofs.Views.{view-List, view-Members}
 use Rattle.local_faults.proofs.Documents.{in_object, in_array}
 use Rattle.local_faults.proofs.document.first_in_document.Goals as goal
 

@@ -5,7 +5,7 @@ use Rattle.std.specs.Borrow.{Bor}
 use Rattle.json_tree.specs.Values.{Json, object}
 use Rattle.json_tree.specs.View.{view, members_view}
 use Rattle.json_tree.specs.declared.tree.Tree.{Tree}
-use Rattle.local_rules.specs.Members.{value_in}
+use Rattle.json_tree.specs.Members.{value_in}
 use Rattle.local_rules.specs.Levels.{parts_by}
 use Rattle.local_rules.specs.declared.role.Element.{Element}
 use Rattle.local_faults.specs.Machinery.Measured.{ArePartsMeasured}

@@ -3,7 +3,7 @@ use Rattle.std.specs.Prelude.{codes}
 use Rattle.std.specs.Option.{option_map}
 use Rattle.json_tree.specs.Values.{array, object}
 use Rattle.json_tree.specs.View.{view, elements_view, members_view}
-use Rattle.local_rules.specs.Members.{value_in}
+use Rattle.json_tree.specs.Members.{value_in}
 use Rattle.local_faults.specs.Machinery.Measured.{MeasuresParts}
 use Rattle.local_faults.proofs.Sizes.{size, option_size}
 use Rattle.local_faults.proofs.measures.+measures.Given as goal

@@ -1,7 +1,7 @@
 use Rattle.std.proofs.Common.{ap, sym, ◌∙◌, refl, arith}
 use Rattle.json_tree.specs.Values.{array, object}
 use Rattle.json_tree.specs.View.{view, elements_view, members_view}
-use Rattle.local_rules.proofs.Views.{view-List, view-Members}
+use Rattle.json_tree.proofs.Views.{view-List, view-Members}
 use Rattle.local_faults.proofs.Walked.{walked_all}
 use Rattle.json_tree.proofs.Parts.{item_part, member_part}
 use Rattle.local_faults.proofs.Parts.{item_within, member_within, member_is_marked, entry_is_marked, no_text_array, no_text_object}

@@ -3,7 +3,7 @@ use Rattle.json_tree.specs.Values.{Json, text}
 use Rattle.json_tree.specs.View.{view}
 use Rattle.local_rules.specs.Machinery.Firsts.{IdBreaksAt, IsFirstAmong, id_rules}
 use Rattle.local_rules.specs.Identifiers.{of_interface}
-use Rattle.local_rules.proofs.Views.{view-Text}
+use Rattle.json_tree.proofs.Views.{view-Text}
 use Rattle.local_rules.proofs.identifiers.interface_id_rule.Goals as goal
 
 pub returns-in-Text : goal.returns-in-Text

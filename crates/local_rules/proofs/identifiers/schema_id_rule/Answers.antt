@@ -2,7 +2,7 @@ use Rattle.std.proofs.Common.{◌≡◌, sym, ap, ◌∙◌, subst}
 use Rattle.json_tree.specs.Values.{Json, text}
 use Rattle.json_tree.specs.View.{view}
 use Rattle.local_rules.specs.Machinery.Firsts.{IdBreaksAt, IsFirstAmong, id_rules, schema_id_use}
-use Rattle.local_rules.proofs.Views.{view-Text}
+use Rattle.json_tree.proofs.Views.{view-Text}
 use Rattle.local_rules.proofs.identifiers.schema_id_rule.Goals as goal
 
 pub returns-in-Text : goal.returns-in-Text

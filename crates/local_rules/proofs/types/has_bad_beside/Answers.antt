@@ -5,7 +5,7 @@ use Rattle.local_rules.specs.Roles.{type_in}
 use Rattle.local_rules.specs.Types.{BadSemanticType, MayHaveBeside, further}
 use Rattle.local_rules.specs.declared.role.Role.TheVariants as role
 use Rattle.local_rules.proofs.Beside.{bad_semantic}
-use Rattle.local_rules.proofs.Views.{list_of-elements_of, view-List}
+use Rattle.json_tree.proofs.Views.{list_of-elements_of, view-List}
 use Rattle.local_rules.proofs.types.has_bad_beside.Goals as goal
 
 pub returns-in-List : goal.returns-in-List

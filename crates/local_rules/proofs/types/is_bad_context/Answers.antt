@@ -3,7 +3,7 @@ use Rattle.json_tree.specs.Values.{Json, text, array, element, no_elements}
 use Rattle.json_tree.specs.View.{view, elements_view}
 use Rattle.json_tree.specs.declared.tree.Tree.{Tree}
 use Rattle.local_rules.specs.Types.{dtdl_context}
-use Rattle.local_rules.proofs.Views.{view-List}
+use Rattle.json_tree.proofs.Views.{view-List}
 use Rattle.local_rules.proofs.types.is_bad_context.Goals as goal
 
 -- a list that reads as one value has one entry

@@ -1,6 +1,6 @@
 use Rattle.std.proofs.Common.{◌≡◌, ◌∙◌, ap, true, false}
 use Rattle.json_tree.specs.View.{view}
-use Rattle.local_rules.proofs.Views.{view-List}
+use Rattle.json_tree.proofs.Views.{view-List}
 use Rattle.model_batches.proofs.Whole.{batch_found}
 use Rattle.model_batches.proofs.batches.interfaces_of_batch.Goals as goal
 

@@ -1,7 +1,7 @@
 use Rattle.std.proofs.Common.{◌∙◌, ap, subst}
 use Rattle.std.proofs.lemmas.Result.{on_ok_weaker}
 use Rattle.json_tree.specs.View.{view, members_view}
-use Rattle.local_rules.specs.Members.{members_in}
+use Rattle.json_tree.specs.Members.{members_in}
 use Rattle.local_rules.specs.Roles.{type_of}
 use Rattle.local_rules.specs.declared.role.Position.TheVariants as position
 use Rattle.model_read.specs.Machinery.Shapes.{IsValidContent}

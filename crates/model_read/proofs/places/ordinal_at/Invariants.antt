@@ -1,6 +1,6 @@
 use Rattle.std.proofs.Common.{◌≡◌, drop}
 use Rattle.json_tree.specs.View.{members_view}
-use Rattle.local_rules.specs.Members.{value_at}
+use Rattle.json_tree.specs.Members.{value_at}
 use Rattle.model_read.specs.Uploads.{IsNew}
 use Rattle.model_read.proofs.places.ordinal_at.Given as goal
 

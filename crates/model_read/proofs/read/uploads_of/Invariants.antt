@@ -1,7 +1,7 @@
 use Rattle.std.proofs.Common.{take}
 use Rattle.std.specs.List.{AllZip, enumerate_from}
 use Rattle.json_tree.specs.View.{view, elements_view}
-use Rattle.local_rules.specs.Members.{list_of}
+use Rattle.json_tree.specs.Members.{list_of}
 use Rattle.model_read.specs.Uploads.{IsUploadedAt}
 use Rattle.model_read.proofs.read.uploads_of.Given as goal
 

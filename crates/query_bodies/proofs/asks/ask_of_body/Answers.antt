@@ -4,7 +4,7 @@ use Rattle.json_decimal.specs.Number.{Number}
 use Rattle.json_tree.specs.Values.{Members}
 use Rattle.json_tree.specs.View.{view}
 use Rattle.json_read.proofs.Pointed.{if_ok}
-use Rattle.local_rules.specs.Members.{text_in, value_at}
+use Rattle.json_tree.specs.Members.{text_in, value_at}
 use Rattle.twin_value.specs.Breaches.{HasNoBreach, text_under}
 use Rattle.query_bodies.specs.Breaches.{IsQueryBreach}
 use Rattle.query_bodies.specs.Outcomes.{IsMadeOfBody, IsMadeOfText}

@@ -2,7 +2,7 @@
 use Rattle.std.specs.Prelude.{ℕ, List, Option, Some, None, bytes_eq, codes, if◌then◌else◌}
 use Rattle.std.specs.Option.{option_map}
 use Rattle.json_tree.specs.Values.{Json}
-use Rattle.local_rules.specs.Members.{value_in}
+use Rattle.json_tree.specs.Members.{value_in}
 use Rattle.graph_steps.specs.States.{Twin, Link, part_value}
 
 abbrev pub otherwise : Option Json → Option Json → Option Json

@@ -2,7 +2,7 @@ use Rattle.std.proofs.Common.{◌≡◌, ◌+◌, length, arith}
 use Rattle.json_tree.specs.Printing.{quoted}
 use Rattle.json_tree.specs.View.{view}
 use Rattle.json_length.specs.Lengths.{members_length}
-use Rattle.local_rules.specs.Members.{members_in}
+use Rattle.json_tree.specs.Members.{members_in}
 use Rattle.twin_value.proofs.TwinLengths.{ended, followed, part_length}
 use Rattle.twin_value.proofs.length.left_after_part.Goals as goal
 

@@ -2,7 +2,7 @@ use Rattle.std.proofs.Common.{◌≡◌, ◌+◌, codes, arith}
 use Rattle.json_tree.specs.Values.{text}
 use Rattle.json_tree.specs.View.{view}
 use Rattle.json_length.specs.Lengths.{member_length, members_length}
-use Rattle.local_rules.specs.Members.{members_in}
+use Rattle.json_tree.specs.Members.{members_in}
 use Rattle.twin_value.specs.Twins.{picked, any_key, with_metadata}
 use Rattle.twin_value.proofs.TwinLengths.{ended, followed, twin_length}
 use Rattle.twin_value.proofs.length.left_after_twin.Goals as goal

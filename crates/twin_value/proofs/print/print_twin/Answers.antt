@@ -3,7 +3,7 @@ use Rattle.json_decimal.specs.Number.{Number}
 use Rattle.json_tree.specs.Values.{Json, object, text, Members, no_members, member}
 use Rattle.json_tree.specs.View.{view, members_view}
 use Rattle.json_tree.specs.Sorting.{IsSortedOf}
-use Rattle.local_rules.specs.Members.{members_in}
+use Rattle.json_tree.specs.Members.{members_in}
 use Rattle.dt_base.specs.names.Grammar.{dtmi_text}
 use Rattle.twin_value.specs.Twins.{picked, joined_members, any_key, with_metadata}
 use Rattle.twin_value.proofs.Gathered.{none_at}

@@ -2,7 +2,7 @@ use Rattle.std.proofs.Common.{◌∙◌, Bor, sym, ap, subst}
 use Rattle.std.specs.Option.{option_map}
 use Rattle.json_tree.specs.View.{view}
 use Rattle.json_tree.specs.declared.tree.Tree.{Tree}
-use Rattle.local_rules.specs.Members.{value_in}
+use Rattle.json_tree.specs.Members.{value_in}
 use Rattle.graph_asks.specs.Answers.{body}
 use Rattle.graph_asks.specs.declared.ask.Ask.TheVariants as asks
 use Rattle.graph_steps.specs.bodies.Kept.{twin_view}

@@ -1,6 +1,6 @@
 use Rattle.std.proofs.Common.{◌∙◌, ℕ, List, sym, ap}
 use Rattle.json_tree.specs.View.{view}
-use Rattle.local_rules.specs.Members.{value_in}
+use Rattle.json_tree.specs.Members.{value_in}
 use Rattle.graph_steps.specs.bodies.Kept.{twin_view}
 use Rattle.query_eval.proofs.values.twins.along_content.Goals as goal
 

@@ -48,11 +48,11 @@ invariant_of-self-in-Occupied c =
     let h : Held = record { twin = c.args.twin; bytes = c.args.bytes } in
     let old = c.in_ok-old-in-Occupied.old in
     let there : held_under entries id ≡ Some old =
-    sym (ap (held_under entries) c.in-Ok.ensures) ∙ sym c.in-Ok-entry.ensures.value ∙ ap entry_value c.in-Occupied.is ∙ c.get_mut.ensures.value ∙ ap Some (sym c.in_ok-old-in-Occupied.ensures.old) in
+    sym (ap (held_under entries) c.in-Ok.ensures.id) ∙ sym c.in-Ok-entry.ensures.value ∙ ap entry_value c.in-Occupied.is ∙ c.get_mut.ensures.value ∙ ap Some (sym c.in_ok-old-in-Occupied.ensures.old) in
     let put =
     ap (λ e. (map_with_value e c.put_over.new.place).entries) (sym c.in-Occupied.is)
     ∙ c.in-Ok-entry.ensures.update.1 c.put_over.new.place
-    ∙ ap (λ k. insert_entry C entries k c.put_over.new.place) c.in-Ok.ensures
+    ∙ ap (λ k. insert_entry C entries k c.put_over.new.place) c.in-Ok.ensures.id
     ∙ ap (insert_entry C entries id) c.in_ok-old-in-Occupied.ensures.ok in
     subst (KeepsTwins _ c.put_over.new.index c.self.inside.len) (sym c.saturating_sub-self-inside.ensures)
     (kept-over entries c.self.inside.index c.self.inside.len c.self.inside.bytes c.self.invariant h _ (search rules) old there c.put_over.new.index c.in_ok-old-in-Occupied.ensures.index)
@@ -61,7 +61,7 @@ pub returns-in_ok-old-in-Occupied-clause-old : goal.returns-in_ok-old-in-Occupie
 returns-in_ok-old-in-Occupied-clause-old c =
     let entries = c.self.inside.twins.entries in
     let there : held_under entries c.args.twin.id ≡ Some c.in_ok-old-in-Occupied.old =
-    sym (ap (held_under entries) c.in-Ok.ensures) ∙ sym c.in-Ok-entry.ensures.value ∙ ap entry_value c.in-Occupied.is ∙ c.get_mut.ensures.value ∙ ap Some (sym c.in_ok-old-in-Occupied.ensures.old) in
+    sym (ap (held_under entries) c.in-Ok.ensures.id) ∙ sym c.in-Ok-entry.ensures.value ∙ ap entry_value c.in-Occupied.is ∙ c.get_mut.ensures.value ∙ ap Some (sym c.in_ok-old-in-Occupied.ensures.old) in
     ap (option_map (λ (x : Held). x.twin)) (sym there) ∙ under-twin_at entries c.args.self.now c.self.invariant.own c.self.view_is c.args.twin.id
 
 pub invariant_of-self-in_default-enter : goal.invariant_of-self-in_default-enter
@@ -93,12 +93,12 @@ invariant_of-self-in-Vacant c =
     let entries = c.self.inside.twins.entries in
     let h : Held = record { twin = c.args.twin; bytes = c.args.bytes } in
     let found : held_under entries c.in-Ok.id ≡ None = search rules in
-    let absent : held_under entries c.args.twin.id ≡ None = sym (ap (held_under entries) c.in-Ok.ensures) ∙ found in
+    let absent : held_under entries c.args.twin.id ≡ None = sym (ap (held_under entries) c.in-Ok.ensures.id) ∙ found in
     let put =
     ap (λ m. m.entries) c.insert_entry-there.ensures.1
     ∙ ap (λ e. (map_with_value e h).entries) (sym c.in-Vacant.is)
     ∙ c.in-Ok-entry.ensures.update.1 h
-    ∙ ap (λ k. insert_entry C entries k h) c.in-Ok.ensures in
+    ∙ ap (λ k. insert_entry C entries k h) c.in-Ok.ensures.id in
     let longer =
     ap (λ m. length m.entries) c.insert_entry-there.ensures.1
     ∙ ap (λ e. length (map_with_value e h).entries) (sym c.in-Vacant.is)
@@ -114,4 +114,4 @@ pub returns-in-Ok-enter-clause-old : goal.returns-in-Ok-enter-clause-old
 returns-in-Ok-enter-clause-old c =
     let entries = c.self.inside.twins.entries in
     let found : held_under entries c.in-Ok.id ≡ None = search rules in
-    ap (option_map (λ (x : Held). x.twin)) (sym (sym (ap (held_under entries) c.in-Ok.ensures) ∙ found)) ∙ under-twin_at entries c.args.self.now c.self.invariant.own c.self.view_is c.args.twin.id
+    ap (option_map (λ (x : Held). x.twin)) (sym (sym (ap (held_under entries) c.in-Ok.ensures.id) ∙ found)) ∙ under-twin_at entries c.args.self.now c.self.invariant.own c.self.view_is c.args.twin.id

@@ -1,7 +1,7 @@
 use Rattle.std.proofs.Common.{◌≡◌, drop}
 use Rattle.json_tree.specs.View.{members_view}
-use Rattle.local_rules.specs.Members.{value_at}
-use Rattle.local_rules.proofs.members.value_at.Given as goal
+use Rattle.json_tree.specs.Members.{value_at}
+use Rattle.json_tree.proofs.members.value_at.Given as goal
 
 -- no member so far has the key
 abbrev pub invariant-loop-member : goal.invariant-loop-member

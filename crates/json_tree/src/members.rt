@@ -3,9 +3,9 @@
 ghost use Rattle.std.specs.Prelude.{◌≡◌, bytes_eq, map, option_and_then};
 ghost use Rattle.std.specs.Option.{option_map};
 ghost use Rattle.json_tree.specs.View.{view, members_view};
-ghost use Rattle.local_rules.specs.Members.{entries_in, members_in, text_in, value_at, value_in};
+ghost use Rattle.json_tree.specs.Members.{entries_in, members_in, text_in, value_at, value_in};
 
-use json_tree::{Member, Tree};
+use crate::tree::{Member, Tree};
 
 /// The text that a value is.
 #[tactic(auto, using(crate::proofs::Views::views))]
@@ -40,9 +40,9 @@ pub fn entries_in(tree: &Tree) -> &[Tree]
     }
 }
 
-/// Whether two texts are the same. Their lengths tell most of them apart.
+/// Whether two texts are the same. Their lengths tell most of them apart. Takes no memory.
 #[tactic(auto, using(crate::proofs::Keyed::other_lengths))]
-pub(crate) fn is_same(one: &str, other: &str) -> bool
+pub fn is_same(one: &str, other: &str) -> bool
     ensures { result ≡ bytes_eq one.now other.now }
 {
     if one.len() != other.len() {

@@ -5,7 +5,7 @@ use Rattle.std.proofs.lemmas.Slice.Eq.{bytes_eq-Decides}
 use Rattle.json_decimal.specs.Number.{Number}
 use Rattle.json_tree.specs.Values.{Json, Members, no_members, member}
 use Rattle.json_tree.specs.Places.{member_at}
-use Rattle.local_rules.specs.Members.{value_at}
+use Rattle.json_tree.specs.Members.{value_at}
 
 -- texts of two lengths are two
 other : (a b : List ℕ) (same : Bool) → (same ≡ true → a ≡ b) → length a ≢ length b → same ≡ false

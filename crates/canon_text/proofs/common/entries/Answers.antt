@@ -1,0 +1,9 @@
+use Rattle.std.proofs.Common.{ap, ◌∙◌}
+use Rattle.json_tree.specs.Values.{text}
+use Rattle.canon_text.specs.Canonical.{entry_pair}
+use Rattle.canon_text.proofs.Steps.{named_more}
+use Rattle.canon_text.proofs.common.entries.Goals as goal
+
+pub loop-entry-preserved : goal.loop-entry-preserved
+loop-entry-preserved c =
+    named_more entry_pair c.args.entries.now c.loop-entry.entry-index c.entry-item.result _ _ _ _ c.loop-entry-test.true c.entry-item.is c.loop-entry.invariant c.in_ok-push_named.ensures c.as_str-in-loop-entry.ensures (c.in_ok-value.ensures ∙ ap text c.as_str.ensures)
