@@ -59,8 +59,15 @@ impl Maker {
             return Err(OutOfMemory);
         };
         match prepared {
-            Prepared::Own(_refusal) => Ok(()),
-            Prepared::Ask(ask) => self.take_ask(&ask),
+            Prepared::Own(refusal) => {
+                drop(refusal);
+                Ok(())
+            }
+            Prepared::Ask(ask) => {
+                let taken = self.take_ask(&ask);
+                drop(ask);
+                taken
+            }
         }
     }
 
@@ -69,7 +76,8 @@ impl Maker {
         requires { IsSoundAsk ask.now }
         ensures { OnOk result (IsAskedOnce (state_of self.old.machine) ask.now (state_of self.new.machine)) }
     {
-        self.machine.step(ask)?;
+        let reply = self.machine.step(ask)?;
+        drop(reply);
         Ok(())
     }
 

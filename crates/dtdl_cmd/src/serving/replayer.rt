@@ -47,11 +47,17 @@ impl Replayer {
             return Err(Trouble::NoEntry);
         };
         match response_of(self.alloc, &reply) {
-            Ok(response) => Ok(Answer {
-                response,
-                entered: true,
-            }),
-            Err(OutOfMemory) => Err(Trouble::EntryInHand),
+            Ok(response) => {
+                drop(reply);
+                Ok(Answer {
+                    response,
+                    entered: true,
+                })
+            }
+            Err(OutOfMemory) => {
+                drop(reply);
+                Err(Trouble::EntryInHand)
+            }
         }
     }
 }
@@ -96,8 +102,16 @@ impl Service for Replayer {
             return Err(Trouble::NoEntry);
         };
         match prepared {
-            Prepared::Own(refusal) => answer_of_refusal(self.alloc, &refusal),
-            Prepared::Ask(ask) => self.answer_of_graph(&ask),
+            Prepared::Own(refusal) => {
+                let answer = answer_of_refusal(self.alloc, &refusal);
+                drop(refusal);
+                answer
+            }
+            Prepared::Ask(ask) => {
+                let answer = self.answer_of_graph(&ask);
+                drop(ask);
+                answer
+            }
         }
     }
 }

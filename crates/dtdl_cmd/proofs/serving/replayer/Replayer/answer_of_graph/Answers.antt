@@ -15,5 +15,5 @@ pub returns-in-Ok-response_of-clause-writable : goal.returns-in-Ok-response_of-c
 returns-in-Ok-response_of-clause-writable c =
     c.in-Ok-response_of.ensures.writable (reply_lists (state_of c.args.self.now.machine) c.args.ask.now c.in-Ok.reply c.in-Ok.ensures.allowed)
 
-pub returns-clause-asked : goal.returns-clause-asked
-returns-clause-asked c = (c.in-Ok.reply, record { allowed = c.in-Ok.ensures.allowed; leads = c.in-Ok.ensures.follows })
+pub returns-in-Err-clause-asked : goal.returns-in-Err-clause-asked
+returns-in-Err-clause-asked c = (c.in-Ok.reply, record { allowed = c.in-Ok.ensures.allowed; leads = c.in-Ok.ensures.follows })
