@@ -84,49 +84,67 @@ fn ends_of(graph: &Graph, k: u64) -> [u64; 3] {
     [mixed(x), mixed(x.wrapping_add(1)), mixed(x.wrapping_add(2))]
 }
 
+/// Both of two values, where both were made.
+fn both<A, B>(a: Result<A, OutOfMemory>, b: Result<B, OutOfMemory>) -> Result<(A, B), OutOfMemory>
+where
+    A: Drop,
+    B: Drop,
+{
+    let Ok(a) = a else {
+        drop(b);
+        return Err(OutOfMemory);
+    };
+    let Ok(b) = b else {
+        drop(a);
+        return Err(OutOfMemory);
+    };
+    Ok((a, b))
+}
+
+/// The id of the edge of a number. Fails only for want of memory.
+fn id_of(alloc: Global, k: u64) -> Result<Text, OutOfMemory> {
+    Ok(Text::from_string(format!(in alloc; "rel-{k:07}")?))
+}
+
 /// The edge of a number: equal ones for equal numbers. Fails as `pick` does.
 pub fn edge_of(alloc: Global, graph: &Graph, k: u64) -> Result<Edge<u64>, OutOfMemory> {
-    let [source, name, target] = ends_of(graph, k);
+    let [from, called, to] = ends_of(graph, k);
+    let source_and_id = both(pick(alloc, &graph.twins, from), id_of(alloc, k));
+    let name_and_target = both(
+        pick(alloc, &graph.names, called),
+        pick(alloc, &graph.twins, to),
+    );
+    let ((source, id), (name, target)) = both(source_and_id, name_and_target)?;
+    let payload = mixed(k.wrapping_mul(4).wrapping_add(3));
     Ok(Edge {
-        source: pick(alloc, &graph.twins, source)?,
-        id: Text::from_string(format!(in alloc; "rel-{k:07}")?),
-        name: pick(alloc, &graph.names, name)?,
-        target: pick(alloc, &graph.twins, target)?,
-        payload: mixed(k.wrapping_mul(4).wrapping_add(3)),
+        source,
+        id,
+        name,
+        target,
+        payload,
     })
+}
+
+/// So many edges, in the order of their numbers. Fails as `pick` does.
+pub fn edges_of(alloc: Global, graph: &Graph, edges: u64) -> Result<Vec<Edge<u64>>, OutOfMemory> {
+    let mut made = Vec::new(alloc);
+    for k in 0..edges {
+        made.push(edge_of(alloc, graph, k)?)?;
+    }
+    Ok(made)
 }
 
 /// What an edge is looked up by. Fails only for want of memory.
 fn query_of(alloc: Global, edge: &Edge<u64>) -> Result<Query, OutOfMemory> {
-    let source = edge.source.copy(alloc)?;
-    let id = edge.id.copy(alloc)?;
+    let (source, id) = both(edge.source.copy(alloc), edge.id.copy(alloc))?;
     Ok(Query { source, id })
 }
 
-/// Appends the edge of a number, and what it is looked up by. Fails as `pick` does.
-fn add(
-    alloc: Global,
-    graph: &Graph,
-    k: u64,
-    made: &mut Vec<Edge<u64>>,
-    queries: &mut Vec<Query>,
-) -> Result<(), OutOfMemory> {
-    let edge = edge_of(alloc, graph, k)?;
-    queries.push(query_of(alloc, &edge)?)?;
-    made.push(edge)?;
-    Ok(())
-}
-
-/// So many edges, and what each is looked up by, in the order of their numbers. Fails as `pick` does.
-pub fn queries_of(
-    alloc: Global,
-    graph: &Graph,
-    edges: u64,
-) -> Result<(Vec<Edge<u64>>, Vec<Query>), OutOfMemory> {
-    let mut made = Vec::new(alloc);
+/// What each of the edges is looked up by. Fails only for want of memory.
+pub fn queries_of(alloc: Global, edges: &[Edge<u64>]) -> Result<Vec<Query>, OutOfMemory> {
     let mut queries = Vec::new(alloc);
-    for k in 0..edges {
-        add(alloc, graph, k, &mut made, &mut queries)?;
+    for edge in edges {
+        queries.push(query_of(alloc, edge)?)?;
     }
-    Ok((made, queries))
+    Ok(queries)
 }

@@ -10,7 +10,7 @@
 mod graph;
 
 use dt_base::OutOfMemory;
-use graph::{Graph, Query, edge_of, queries_of};
+use graph::{Graph, Query, edge_of, edges_of, queries_of};
 use rel_graph::{Edge, Rels};
 use std::alloc::Global;
 use std::env;
@@ -19,12 +19,31 @@ use std::time::{Clock, Instant};
 /// The number of edges with no argument.
 const FEW: u64 = 2_000;
 
+/// Puts an edge. Fails only for want of memory.
+fn put(rels: &mut Rels<u64>, edge: Edge<u64>) -> Result<(), OutOfMemory> {
+    let put = rels.put(edge);
+    let is_put = put.is_ok();
+    drop(put);
+    if is_put { Ok(()) } else { Err(OutOfMemory) }
+}
+
 /// Puts each edge, and answers how many there are then. Fails only for want of memory.
 fn put_all(rels: &mut Rels<u64>, edges: Vec<Edge<u64>>) -> Result<u64, OutOfMemory> {
     for edge in edges {
-        let Ok(_old) = rels.put(edge) else {
-            return Err(OutOfMemory);
-        };
+        put(rels, edge)?;
+    }
+    Ok(rels.len())
+}
+
+/// Puts so many edges, each made when it is put, and answers how many there are then. Fails as `edge_of` does.
+fn put_made(
+    alloc: Global,
+    rels: &mut Rels<u64>,
+    graph: &Graph,
+    edges: u64,
+) -> Result<u64, OutOfMemory> {
+    for k in 0..edges {
+        put(rels, edge_of(alloc, graph, k)?)?;
     }
     Ok(rels.len())
 }
@@ -77,9 +96,11 @@ fn count_all(rels: &Rels<u64>, graph: &Graph) -> u64 {
 fn remove_all(rels: &mut Rels<u64>, queries: &[Query]) -> u64 {
     let mut sum: u64 = 0;
     for query in queries {
-        if let Some(edge) = rels.remove(&query.source, &query.id) {
+        let removed = rels.remove(&query.source, &query.id);
+        if let Some(edge) = &removed {
             sum = sum.wrapping_add(edge.payload);
         }
+        drop(removed);
     }
     sum.wrapping_add(rels.len())
 }
@@ -116,7 +137,54 @@ fn run_reads(
     tell(rt, "count", count_all(rels, graph), start, timed)
 }
 
+/// Puts the edges, and prints how many there are.
+fn run_put(
+    rt: &(impl Print + Clock),
+    rels: &mut Rels<u64>,
+    edges: Vec<Edge<u64>>,
+    timed: bool,
+) -> anyhow::Result<Instant> {
+    let start = Instant::now(rt);
+    let sum = put_all(rels, edges)?;
+    tell(rt, "put", sum, start?, timed)
+}
+
 /// Runs the parts one after another, and prints each.
+fn run_parts(
+    rt: &(impl Print + Clock),
+    graph: &Graph,
+    rels: &mut Rels<u64>,
+    edges: Vec<Edge<u64>>,
+    queries: &[Query],
+    timed: bool,
+) -> anyhow::Result<()> {
+    let _next = run_put(rt, rels, edges, timed)?;
+    let start = run_reads(rt, rels, graph, queries, timed)?;
+    let sum = remove_all(rels, queries);
+    let _end = tell(rt, "remove", sum, start, timed)?;
+    Ok(())
+}
+
+/// Makes so many edges of a graph, and runs the parts with them.
+fn run_on(
+    rt: &(impl Print + Clock),
+    alloc: Global,
+    graph: &Graph,
+    edges: u64,
+    timed: bool,
+) -> anyhow::Result<()> {
+    let made = edges_of(alloc, graph, edges)?;
+    let Ok(queries) = queries_of(alloc, made.as_slice()) else {
+        drop(made);
+        anyhow::bail!("no memory");
+    };
+    let mut rels = Rels::new(alloc);
+    let ran = run_parts(rt, graph, &mut rels, made, queries.as_slice(), timed);
+    drop((queries, rels));
+    ran
+}
+
+/// Makes so many edges, and runs the parts with them.
 fn run(
     rt: &(impl Print + Clock),
     alloc: Global,
@@ -125,27 +193,18 @@ fn run(
     timed: bool,
 ) -> anyhow::Result<()> {
     let graph = Graph::new(alloc, edges, near)?;
-    let (made, queries) = queries_of(alloc, &graph, edges)?;
-    let mut rels = Rels::new(alloc);
-    let start = Instant::now(rt)?;
-    let sum = put_all(&mut rels, made)?;
-    let _next = tell(rt, "put", sum, start, timed)?;
-    let start = run_reads(rt, &rels, &graph, queries.as_slice(), timed)?;
-    let sum = remove_all(&mut rels, queries.as_slice());
-    let _end = tell(rt, "remove", sum, start, timed)?;
-    Ok(())
+    let ran = run_on(rt, alloc, &graph, edges, timed);
+    drop(graph);
+    ran
 }
 
 /// Puts the edges, each made when it is put, and prints how many there are.
 fn hold(rt: &impl Print, alloc: Global, edges: u64) -> anyhow::Result<()> {
     let graph = Graph::new(alloc, edges, false)?;
     let mut rels = Rels::new(alloc);
-    for k in 0..edges {
-        let Ok(_old) = rels.put(edge_of(alloc, &graph, k)?) else {
-            anyhow::bail!("no memory");
-        };
-    }
-    println!(rt; "held {}", rels.len())?;
+    let held = put_made(alloc, &mut rels, &graph, edges);
+    drop((rels, graph));
+    println!(rt; "held {}", held?)?;
     Ok(())
 }
 

@@ -11,7 +11,7 @@ ghost use Rattle.twin_patch.specs.Operations.{change_of, BringsDistinctKeys};
 ghost use Rattle.twin_patch.specs.declared.patch.Op.{Op};
 
 use anyhow::bail;
-use dt_base::{StdSource, read_all};
+use dt_base::{StdSource, Text, read_all};
 use json_read::read;
 use json_tree::{Tree, print};
 use std::alloc::Global;
@@ -32,12 +32,14 @@ fn tree_of(alloc: Global, bytes: &[u8]) -> anyhow::Result<Tree>
     Ok(tree)
 }
 
-/// The patch that a value is.
-fn patch_of(alloc: Global, tree: &Tree) -> anyhow::Result<Patch>
-    requires { HasDistinctKeys (view tree.now) }
+/// The patch of a twin that a text spells.
+fn patch_of(alloc: Global, bytes: &[u8]) -> anyhow::Result<Patch>
     ensures { IfOk result (λ patch. All (λ (op : Op). BringsDistinctKeys (change_of op.kind)) patch.ops) }
 {
-    match read_patch(alloc, tree, PatchOf::Twin) {
+    let tree = tree_of(alloc, bytes)?;
+    let patch = read_patch(alloc, &tree, PatchOf::Twin);
+    drop(tree);
+    match patch {
         Ok(patch) => Ok(patch),
         Err(_) => bail!("no patch"),
     }
@@ -57,8 +59,10 @@ fn least(
     let mut least = u128::MAX;
     for _ in 0..rounds {
         let start = Instant::now(rt)?;
-        let _patched = apply(alloc, tree, patch)?;
-        let took = start.elapsed(rt)?.as_nanos();
+        let patched = apply(alloc, tree, patch);
+        let took = start.elapsed(rt);
+        drop(patched?);
+        let took = took?.as_nanos();
         if took < least {
             least = took;
         }
@@ -66,25 +70,56 @@ fn least(
     Ok(least)
 }
 
-fn main(rt: HostRuntime) -> anyhow::Result<()> {
-    let alloc = rt.alloc();
-    let bytes = read_all(alloc, &mut StdSource::new(rt.stdin()), MOST_BYTES)?;
-    let Some(end) = bytes.as_slice().iter().position(|byte| *byte == b'\n') else {
-        bail!("no second line");
-    };
-    let (first, second) = bytes.as_slice().split_at(end);
-    let tree = tree_of(alloc, first)?;
-    let patch = tree_of(alloc, second)?;
-    let patch = patch_of(alloc, &patch)?;
-    match env::args(&rt)?.skip(1).next() {
+/// The text of a tree without white space.
+fn text_of(alloc: Global, tree: Tree) -> anyhow::Result<Text> {
+    let text = print(alloc, &tree);
+    drop(tree);
+    Ok(text?)
+}
+
+/// Applies the patch, and prints what the arguments ask for.
+fn run(rt: &HostRuntime, alloc: Global, tree: &Tree, patch: &Patch) -> anyhow::Result<()>
+    requires distinct { HasDistinctKeys (view tree.now) }
+    requires brought { All (λ (op : Op). BringsDistinctKeys (change_of op.kind)) patch.now.ops }
+{
+    match env::args(rt)?.skip(1).next() {
         Some(word) => {
             let rounds = word.as_str().parse::<u64>()?;
-            println!(rt; "{}", least(&rt, alloc, &tree, &patch, rounds)?)?;
+            println!(rt; "{}", least(rt, alloc, tree, patch, rounds)?)?;
         }
         None => {
-            let text = print(alloc, &apply(alloc, &tree, &patch)?)?;
+            let text = text_of(alloc, apply(alloc, tree, patch)?)?;
             println!(rt; "{}", text.as_str())?;
         }
     }
     Ok(())
+}
+
+/// Reads a patch and applies it.
+fn run_text(rt: &HostRuntime, alloc: Global, tree: &Tree, patch: &[u8]) -> anyhow::Result<()>
+    requires { HasDistinctKeys (view tree.now) }
+{
+    let patch = patch_of(alloc, patch)?;
+    let ran = run(rt, alloc, tree, &patch);
+    drop(patch);
+    ran
+}
+
+/// Reads the two lines and applies the patch.
+fn run_lines(rt: &HostRuntime, alloc: Global, bytes: &[u8]) -> anyhow::Result<()> {
+    let Some(end) = bytes.iter().position(|byte| *byte == b'\n') else {
+        bail!("no second line");
+    };
+    let (first, second) = bytes.split_at(end);
+    let tree = tree_of(alloc, first)?;
+    let ran = run_text(rt, alloc, &tree, second);
+    drop(tree);
+    ran
+}
+
+fn main(rt: HostRuntime) -> anyhow::Result<()> {
+    let bytes = read_all(rt.alloc(), &mut StdSource::new(rt.stdin()), MOST_BYTES)?;
+    let ran = run_lines(&rt, rt.alloc(), bytes.as_slice());
+    drop(bytes);
+    ran
 }

@@ -4,6 +4,7 @@ mod ends;
 mod links;
 mod misfits;
 mod names;
+mod refused;
 mod twins;
 
 pub use ends::least_ill;

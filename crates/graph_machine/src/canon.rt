@@ -41,7 +41,9 @@ fn set_text(alloc: Global, set: &ModelSet) -> Result<List<u8>, OutOfMemory>
     ensures { IfOk result (λ bytes. bytes ≡ set_text set.now) }
 {
     let tree = set_tree(alloc, set)?;
-    let mut text = print(alloc, &tree)?.into_string(alloc)?;
+    let printed = print(alloc, &tree);
+    drop(tree);
+    let mut text = printed?.into_string(alloc)?;
     text.push_str("\n")?;
     Ok(List::from_vec(text.into_bytes()))
 }

@@ -48,11 +48,17 @@ impl Machine {
         ensures err { OnErr result (self.new ≡ self.old) }
     {
         let bytes = edge.payload.bytes;
-        let Ok(replaced) = self.links.put(edge) else {
-            return Err(OutOfMemory);
-        };
-        let rest = self.link_bytes.saturating_sub(bytes_of(&replaced));
-        self.link_bytes = rest + bytes;
-        Ok(())
+        match self.links.put(edge) {
+            Ok(replaced) => {
+                let rest = self.link_bytes.saturating_sub(bytes_of(&replaced));
+                drop(replaced);
+                self.link_bytes = rest + bytes;
+                Ok(())
+            }
+            Err(edge) => {
+                drop(edge);
+                Err(OutOfMemory)
+            }
+        }
     }
 }

@@ -1,53 +1,67 @@
-//! A plain list of edges is the definition's program: it is run beside `Rels`, and each call answers alike.
+//! A plain table of edges is the definition's program: it is run beside `Rels`, and each call answers alike.
 
-use dt_base::Text;
+use dt_base::{OutOfMemory, Text};
 use rel_graph::{Edge, Listing, Rels};
-use std::alloc::{AllocError, Global};
+use std::alloc::Global;
 use std::test::Fail;
 
-/// How many steps are taken, and how many different sources, ids, names and targets there are.
+/// How many steps are taken.
 const STEPS: u64 = 3_000;
 
-const KINDS: u64 = 5;
+/// The sources, ids, names and targets in the order of their bytes, of which some begin others.
+const TEXTS: [&str; 5] = ["", "a", "aa", "b", "é"];
 
-/// Edges in the order of source and id.
-#[derive(Drop)]
-struct Plain {
-    edges: Vec<Edge<u64>>,
+/// What is told of an edge: which of the texts stand in it, and its payload.
+#[derive(Clone, Copy)]
+struct Row {
+    source: usize,
+    id: usize,
+    name: usize,
+    target: usize,
+    payload: u64,
 }
 
-impl Plain {
-    /// Where the edge with this source and id stands, or where it would.
-    fn place(&self, source: &Text, id: &Text) -> (usize, bool) {
-        let mut place = 0;
-        for edge in &self.edges {
-            if edge.source == *source && edge.id == *id {
-                return (place, true);
-            }
-            if edge.source > *source || edge.source == *source && edge.id > *id {
-                return (place, false);
-            }
-            place = place.saturating_add(1);
-        }
-        (place, false)
+impl Row {
+    /// Where the row stands in a table of all sources and ids in their order.
+    fn place(&self) -> usize {
+        self.source.wrapping_mul(TEXTS.len()).wrapping_add(self.id)
     }
 
-    fn remove(&mut self, source: &Text, id: &Text) -> Option<Edge<u64>> {
-        let (place, is_there) = self.place(source, id);
-        if is_there && place < self.edges.len() {
-            return Some(self.edges.remove(place));
-        }
-        None
+    /// Whether this is told of the edge, in each part.
+    fn is_of(&self, edge: &Edge<u64>) -> bool {
+        edge.source.as_str() == text(self.source)
+            && edge.id.as_str() == text(self.id)
+            && edge.name.as_str() == text(self.name)
+            && edge.target.as_str() == text(self.target)
+            && edge.payload == self.payload
     }
+}
 
-    fn put(&mut self, edge: Edge<u64>) -> Result<Option<Edge<u64>>, AllocError> {
-        let old = self.remove(&edge.source, &edge.id);
-        let (place, _) = self.place(&edge.source, &edge.id);
-        if place <= self.edges.len() {
-            self.edges.insert(place, edge)?;
-        }
-        Ok(old)
+/// One of the texts.
+fn text(k: usize) -> &'static str {
+    match TEXTS.get(k) {
+        Some(text) => text,
+        None => "",
     }
+}
+
+/// The row of each source and id in their order, or none.
+type Plain = [Option<Row>; 25];
+
+fn row_at(plain: &Plain, place: usize) -> Option<Row> {
+    match plain.get(place) {
+        Some(row) => *row,
+        None => None,
+    }
+}
+
+/// Puts a row or none at a place, and gives the one back that stood there.
+fn set(plain: &mut Plain, place: usize, row: Option<Row>) -> Option<Row> {
+    let old = row_at(plain, place);
+    if let Some(slot) = plain.get_mut(place) {
+        *slot = row;
+    }
+    old
 }
 
 /// A number that looks like chance, below a limit.
@@ -62,141 +76,181 @@ fn chance(state: &mut u64, limit: u64) -> u64 {
     }
 }
 
-/// One of few texts, of which some begin others.
-fn text(alloc: Global, state: &mut u64) -> Result<Text, Fail> {
-    let texts = ["", "a", "aa", "b", "é"];
-    let k = chance(state, KINDS);
-    for (i, text) in texts.iter().enumerate() {
-        if i as u64 == k {
-            return Ok(Text::from_str(alloc, text)?);
-        }
+fn draw(state: &mut u64) -> Row {
+    Row {
+        source: chance(state, 5) as usize,
+        id: chance(state, 5) as usize,
+        name: chance(state, 5) as usize,
+        target: chance(state, 5) as usize,
+        payload: chance(state, 1_000),
     }
-    Ok(Text::from_str(alloc, "b")?)
 }
 
-fn edge(alloc: Global, state: &mut u64) -> Result<Edge<u64>, Fail> {
+/// Both of two texts, where both were made.
+fn both(alloc: Global, first: usize, second: usize) -> Result<(Text, Text), OutOfMemory> {
+    let first = Text::from_str(alloc, text(first))?;
+    match Text::from_str(alloc, text(second)) {
+        Ok(second) => Ok((first, second)),
+        Err(_) => {
+            drop(first);
+            Err(OutOfMemory)
+        }
+    }
+}
+
+fn edge_of(alloc: Global, row: Row) -> Result<Edge<u64>, OutOfMemory> {
+    let key = both(alloc, row.source, row.id)?;
+    let Ok((name, target)) = both(alloc, row.name, row.target) else {
+        drop(key);
+        return Err(OutOfMemory);
+    };
+    let (source, id) = key;
     Ok(Edge {
-        source: text(alloc, state)?,
-        id: text(alloc, state)?,
-        name: text(alloc, state)?,
-        target: text(alloc, state)?,
-        payload: chance(state, 1_000),
+        source,
+        id,
+        name,
+        target,
+        payload: row.payload,
     })
 }
 
-/// Whether two edges are equal in each part.
-fn is_same(x: &Edge<u64>, y: &Edge<u64>) -> bool {
-    x.source == y.source
-        && x.id == y.id
-        && x.name == y.name
-        && x.target == y.target
-        && x.payload == y.payload
-}
-
-fn is_same_answer(x: &Option<Edge<u64>>, y: &Option<Edge<u64>>) -> bool {
-    match (x, y) {
-        (Some(x), Some(y)) => is_same(x, y),
+/// Whether both have the same edge, or both none.
+fn is_same(edge: Option<&Edge<u64>>, row: Option<Row>) -> bool {
+    match (edge, row) {
+        (Some(edge), Some(row)) => row.is_of(edge),
         (None, None) => true,
         _ => false,
     }
 }
 
-/// The next edge of a listing is this one.
-fn gives<K>(listing: &mut Listing<'_, K, u64>, edge: &Edge<u64>) -> bool {
-    match listing.next() {
-        Some(next) => is_same(next, edge),
-        None => false,
+/// Which edges a listing gives: those of a source or of a target, and of these the ones past a place.
+#[derive(Clone, Copy)]
+struct Listed {
+    source: Option<usize>,
+    target: Option<usize>,
+    past: Option<usize>,
+}
+
+impl Listed {
+    fn has(&self, row: &Row) -> bool {
+        let is_past = match self.past {
+            Some(place) => row.place() > place,
+            None => true,
+        };
+        is_past && is_wanted(self.source, row.source) && is_wanted(self.target, row.target)
     }
 }
 
-fn is_out_alike(rels: &Rels<u64>, plain: &Plain, source: &Text) -> bool {
-    let mut listing = rels.out(source);
-    for edge in &plain.edges {
-        if edge.source == *source && !gives(&mut listing, edge) {
-            return false;
+/// Whether a text is the one that is wanted, or any is.
+fn is_wanted(wanted: Option<usize>, text: usize) -> bool {
+    match wanted {
+        Some(wanted) => wanted == text,
+        None => true,
+    }
+}
+
+/// Whether the next edge of a listing is this one, or there is none.
+fn gives_next<K>(listing: &mut Listing<'_, K, u64>, row: Option<Row>) -> bool {
+    is_same(listing.next(), row)
+}
+
+/// Whether a listing gives the edges that it should, and no more.
+fn gives<K>(listing: &mut Listing<'_, K, u64>, plain: &Plain, listed: Listed) -> bool {
+    for row in plain {
+        if let Some(row) = row {
+            if listed.has(row) && !gives_next(listing, Some(*row)) {
+                return false;
+            }
         }
     }
-    listing.next().is_none()
+    gives_next(listing, None)
 }
 
-fn is_out_after_alike(rels: &Rels<u64>, plain: &Plain, source: &Text, id: &Text) -> bool {
-    let mut listing = rels.out_after(source, id);
-    for edge in &plain.edges {
-        if edge.source == *source && edge.id > *id && !gives(&mut listing, edge) {
-            return false;
+fn are_out_alike(rels: &Rels<u64>, plain: &Plain, some: &Edge<u64>, row: Row) -> bool {
+    let all = Listed {
+        source: Some(row.source),
+        target: None,
+        past: None,
+    };
+    let further = Listed {
+        past: Some(row.place()),
+        ..all
+    };
+    gives(&mut rels.out(&some.source), plain, all)
+        && gives(&mut rels.out_after(&some.source, &some.id), plain, further)
+}
+
+fn are_into_alike(
+    rels: &Rels<u64>,
+    plain: &Plain,
+    target: &Text,
+    key: &(Text, Text),
+    row: Row,
+) -> bool {
+    let all = Listed {
+        source: None,
+        target: Some(row.target),
+        past: None,
+    };
+    let further = Listed {
+        past: Some(row.place()),
+        ..all
+    };
+    gives(&mut Rels::into(rels, target), plain, all)
+        && gives(&mut rels.into_after(target, key), plain, further)
+}
+
+/// Whether both have as many edges, and as many of a source and name.
+fn are_counts_alike(rels: &Rels<u64>, plain: &Plain, some: &Edge<u64>, other: Row) -> bool {
+    let mut all: u64 = 0;
+    let mut named: u64 = 0;
+    for row in plain {
+        if let Some(row) = row {
+            all = all.saturating_add(1);
+            if row.source == other.source && row.name == other.name {
+                named = named.saturating_add(1);
+            }
         }
     }
-    listing.next().is_none()
+    rels.len() == all && rels.count(&some.source, &some.name) == named
 }
 
-fn is_into_alike(rels: &Rels<u64>, plain: &Plain, target: &Text) -> bool {
-    let mut listing = Rels::into(rels, target);
-    for edge in &plain.edges {
-        if edge.target == *target && !gives(&mut listing, edge) {
-            return false;
-        }
-    }
-    listing.next().is_none()
+/// Whether each answer about the texts of an edge is that of the table.
+fn is_alike(rels: &Rels<u64>, plain: &Plain, some: Edge<u64>, row: Row) -> bool {
+    let edge = rels.get(&some.source, &some.id);
+    let is_alike = is_same(edge, row_at(plain, row.place()))
+        && are_counts_alike(rels, plain, &some, row)
+        && are_out_alike(rels, plain, &some, row);
+    let Edge {
+        source,
+        id,
+        name,
+        target,
+        payload: _,
+    } = some;
+    let key = (source, id);
+    let are_into_alike = are_into_alike(rels, plain, &target, &key, row);
+    drop((key, (name, target)));
+    is_alike && are_into_alike
 }
 
-/// Whether an edge is past a source and an id.
-fn is_past(edge: &Edge<u64>, key: &(Text, Text)) -> bool {
-    edge.source > key.0 || edge.source == key.0 && edge.id > key.1
-}
-
-fn is_into_after_alike(rels: &Rels<u64>, plain: &Plain, target: &Text, key: &(Text, Text)) -> bool {
-    let mut listing = rels.into_after(target, key);
-    for edge in &plain.edges {
-        if edge.target == *target && is_past(edge, key) && !gives(&mut listing, edge) {
-            return false;
-        }
-    }
-    listing.next().is_none()
-}
-
-fn is_count_alike(rels: &Rels<u64>, plain: &Plain, source: &Text, name: &Text) -> bool {
-    let mut count: u64 = 0;
-    for edge in &plain.edges {
-        if edge.source == *source && edge.name == *name {
-            count = count.saturating_add(1);
-        }
-    }
-    rels.count(source, name) == count && rels.len() == plain.edges.len() as u64
-}
-
-fn is_get_alike(rels: &Rels<u64>, plain: &Plain, source: &Text, id: &Text) -> bool {
-    let (place, is_there) = plain.place(source, id);
-    match (rels.get(source, id), plain.edges.get(place)) {
-        (Some(x), Some(y)) => is_there && is_same(x, y),
-        (Some(_), None) => false,
-        (None, _) => !is_there,
-    }
-}
-
-/// Whether each answer about some texts is that of the list.
-fn is_alike(rels: &Rels<u64>, plain: &Plain, some: &Edge<u64>, key: &(Text, Text)) -> bool {
-    is_get_alike(rels, plain, &some.source, &some.id)
-        && is_count_alike(rels, plain, &some.source, &some.name)
-        && is_out_alike(rels, plain, &some.source)
-        && is_out_after_alike(rels, plain, &some.source, &some.id)
-        && is_into_alike(rels, plain, &some.target)
-        && is_into_after_alike(rels, plain, &some.target, key)
+/// Takes an edge out of both, and tells whether both gave the same edge back.
+fn remove_alike(rels: &mut Rels<u64>, plain: &mut Plain, edge: Edge<u64>, row: Row) -> bool {
+    let removed = rels.remove(&edge.source, &edge.id);
+    let is_alike = is_same(removed.as_ref(), set(plain, row.place(), None));
+    drop((edge, removed));
+    is_alike
 }
 
 /// Puts one edge into both, and tells whether both gave the same edge back.
-fn put_alike(
-    alloc: Global,
-    rels: &mut Rels<u64>,
-    plain: &mut Plain,
-    state: &mut u64,
-) -> Result<bool, Fail> {
-    let mut again = *state;
-    let one = edge(alloc, state)?;
-    let other = edge(alloc, &mut again)?;
-    match rels.put(one) {
-        Ok(old) => Ok(is_same_answer(&old, &plain.put(other)?)),
-        Err(_end) => Ok(false),
-    }
+fn put_alike(rels: &mut Rels<u64>, plain: &mut Plain, edge: Edge<u64>, row: Row) -> bool {
+    let put = rels.put(edge);
+    let is_alike = match &put {
+        Ok(old) => is_same(old.as_ref(), set(plain, row.place(), Some(row))),
+        Err(_) => false,
+    };
+    drop(put);
+    is_alike
 }
 
 /// Takes an edge out of both or puts one into both, and tells whether both answer alike.
@@ -205,28 +259,36 @@ fn step(
     rels: &mut Rels<u64>,
     plain: &mut Plain,
     state: &mut u64,
-) -> Result<bool, Fail> {
-    let some = edge(alloc, state)?;
+) -> Result<bool, OutOfMemory> {
+    let row = draw(state);
+    let edge = edge_of(alloc, row)?;
     let is_changed_alike = if chance(state, 3) == 0 {
-        let old = rels.remove(&some.source, &some.id);
-        is_same_answer(&old, &plain.remove(&some.source, &some.id))
+        remove_alike(rels, plain, edge, row)
     } else {
-        put_alike(alloc, rels, plain, state)?
+        put_alike(rels, plain, edge, row)
     };
-    let key = (text(alloc, state)?, text(alloc, state)?);
-    Ok(is_changed_alike && is_alike(rels, plain, &some, &key))
+    let row = draw(state);
+    let some = edge_of(alloc, row)?;
+    Ok(is_alike(rels, plain, some, row) && is_changed_alike)
+}
+
+/// How many steps both answer alike, one after another.
+fn steps(alloc: Global, rels: &mut Rels<u64>) -> Result<u64, OutOfMemory> {
+    let mut plain = [None; 25];
+    let mut state = 7;
+    for taken in 0..STEPS {
+        if !step(alloc, rels, &mut plain, &mut state)? {
+            return Ok(taken);
+        }
+    }
+    Ok(STEPS)
 }
 
 #[test]
-fn answers_as_a_plain_list_does(rt: HostRuntime) -> Result<(), Fail> {
-    let alloc = rt.alloc();
-    let mut rels = Rels::new(alloc);
-    let mut plain = Plain {
-        edges: Vec::new(alloc),
-    };
-    let mut state = 7;
-    for _ in 0..STEPS {
-        assert!(&rt; step(alloc, &mut rels, &mut plain, &mut state)?);
-    }
+fn answers_as_a_plain_table_does(rt: HostRuntime) -> Result<(), Fail> {
+    let mut rels = Rels::new(rt.alloc());
+    let steps = steps(rt.alloc(), &mut rels);
+    drop(rels);
+    assert!(rt; steps? == STEPS);
     Ok(())
 }

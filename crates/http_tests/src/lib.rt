@@ -6,3 +6,5 @@
 mod messages;
 #[cfg(test)]
 mod sessions;
+#[cfg(test)]
+mod sources;

@@ -4,10 +4,11 @@ ghost use Rattle.std.specs.Prelude.{◌≡◌, ℕ, List, [], ◌++◌, length, 
 ghost use Rattle.http_session.specs.Uniqueness.{OneSession};
 ghost use Rattle.http_tests.specs.Echoes.{echoed};
 
+use crate::sources::{both, list_of, source_of};
 use dt_base::{List, MemLink, MemSink, MemSource, OutOfMemory};
 use http_ends::{Request, Response};
 use http_session::{Answer, Rules, Service, SessionEnd, Trouble, one_session, serve, serve_link};
-use std::alloc::{AllocError, Global};
+use std::alloc::Global;
 use std::test::Fail;
 
 /// Answers each `GET` and `HEAD` with its path, and leaves the path's length as an entry. Another method is answered by
@@ -100,173 +101,162 @@ fn has_one_session()
     one_session::<EchoRules>()
 }
 
-fn list_of<T: Copy>(alloc: Global, items: &[T]) -> Result<List<T>, AllocError> {
-    Ok(List::from_vec(Vec::from_slice(alloc, items)?))
-}
+/// What a session is expected to come to: its end, what is written, and the entries of the service.
+type Expected = (SessionEnd, &'static str, &'static [usize]);
 
-/// What became of a session.
-#[derive(Drop)]
-struct Outcome {
-    end: SessionEnd,
-    text: Vec<u8>,
-    entries: List<usize>,
-}
-
-impl Outcome {
-    /// Whether the session ended so, with this written and these entries.
-    fn is(&self, end: SessionEnd, text: &[u8], entries: &[usize]) -> bool {
-        self.end == end && self.text.as_slice() == text && self.entries.as_slice() == entries
-    }
-
-    /// Whether the session ended so, with so many bytes written and so many entries.
-    fn has(&self, end: SessionEnd, size: usize, entries: usize) -> bool {
-        self.end == end && self.text.len() == size && self.entries.len() == entries
-    }
-}
-
-/// A source of these bytes in pieces of this size, of whose reads these fail.
-fn source_of(
-    alloc: Global,
-    bytes: &[u8],
-    piece: u64,
-    reads: &[u64],
-) -> Result<MemSource, AllocError> {
-    let mut pieces = Vec::new(alloc);
-    pieces.resize(bytes.len(), piece)?;
-    let pieces = List::from_vec(pieces);
-    let bytes = list_of(alloc, bytes)?;
-    let reads = list_of(alloc, reads)?;
-    Ok(MemSource::new(bytes, reads, pieces))
-}
-
-/// What a service and a sink hold when a session has ended.
-fn ended(alloc: Global, end: SessionEnd, taken: &[u8], echo: Echo) -> Result<Outcome, AllocError> {
-    let Echo { alloc: _, entries } = echo;
-    let text = Vec::from_slice(alloc, taken)?;
-    Ok(Outcome { end, text, entries })
-}
-
-/// Serves these bytes, which come in pieces of this size. `reads` and `writes` list the calls that are to fail.
-fn served(
-    alloc: Global,
-    bytes: &[u8],
-    piece: u64,
-    reads: &[u64],
-    room: u64,
-    writes: &[u64],
-) -> Result<Outcome, AllocError> {
-    let mut source = source_of(alloc, bytes, piece, reads)?;
-    let mut sink = MemSink::new(alloc, room, list_of(alloc, writes)?);
-    let mut echo = Echo {
+fn new_echo(alloc: Global) -> Echo {
+    Echo {
         alloc,
         entries: List::new(alloc),
-    };
-    let end = serve(alloc, &mut echo, &mut source, &mut sink);
-    ended(alloc, end, sink.taken(), echo)
+    }
 }
 
-/// A link with these bytes to read, whose reads give at most as many as the pieces say and of whose calls these fail.
+/// Whether a session came to what was expected. The service is let go.
+fn came_to(end: SessionEnd, text: &[u8], echo: Echo, expected: Expected) -> bool {
+    let (wanted, written, entries) = expected;
+    let is_so = end == wanted && text == written.as_bytes() && echo.entries.as_slice() == entries;
+    drop(echo);
+    is_so
+}
+
+/// Whether the session of a source and a sink comes to what is expected.
+fn is_served(alloc: Global, source: MemSource, sink: MemSink, expected: Expected) -> bool {
+    let (mut source, mut sink, mut echo) = (source, sink, new_echo(alloc));
+    let end = serve(alloc, &mut echo, &mut source, &mut sink);
+    let is_so = came_to(end, sink.taken(), echo, expected);
+    drop((source, sink));
+    is_so
+}
+
+/// Whether these bytes, which come in pieces of this size, lead to what is expected, where one read and one write fail and the
+/// sink has this room.
+fn serves(
+    alloc: Global,
+    bytes: &[u8],
+    reads: (u64, u64),
+    writes: (u64, u64),
+    expected: Expected,
+) -> Result<bool, OutOfMemory> {
+    let (piece, failing_read) = reads;
+    let (room, failing_write) = writes;
+    let (source, failing) = both(
+        source_of(alloc, bytes, failing_read, piece, piece),
+        list_of(alloc, &[failing_write]),
+    )?;
+    let sink = MemSink::new(alloc, room, failing);
+    Ok(is_served(alloc, source, sink, expected))
+}
+
+/// A link with these bytes to read, whose reads give at most as many as the pieces say and of whose calls one fails.
 fn link_of(
     alloc: Global,
     bytes: &[u8],
-    failing: &[u64],
+    failing: u64,
     pieces: &[u64],
 ) -> Result<MemLink, OutOfMemory> {
-    let bytes = list_of(alloc, bytes)?;
-    let failing = list_of(alloc, failing)?;
-    let pieces = list_of(alloc, pieces)?;
+    let lists = both(list_of(alloc, bytes), list_of(alloc, &[failing]));
+    let ((bytes, failing), pieces) = both(lists, list_of(alloc, pieces))?;
     MemLink::new(alloc, bytes, 10_000, failing, pieces)
 }
 
-/// Serves these bytes over a link.
-fn served_over_link(
+/// Whether these bytes lead to what is expected over a link.
+fn serves_over_link(
     alloc: Global,
     bytes: &[u8],
-    failing: &[u64],
+    failing: u64,
     pieces: &[u64],
-) -> Result<Outcome, Fail> {
+    expected: Expected,
+) -> Result<bool, OutOfMemory> {
     let mut link = link_of(alloc, bytes, failing, pieces)?;
-    let mut echo = Echo {
-        alloc,
-        entries: List::new(alloc),
-    };
+    let mut echo = new_echo(alloc);
     let end = serve_link(alloc, &mut echo, &mut link);
-    Ok(ended(alloc, end, link.taken(), echo)?)
+    let is_so = came_to(end, link.taken(), echo, expected);
+    drop(link);
+    Ok(is_so)
 }
 
 const OPEN_A: &str =
     "HTTP/1.1 200 OK\r\nContent-Length: 2\r\nContent-Type: application/json\r\n\r\n/a";
 
-const SESSIONS: [(&[u8], SessionEnd, &str, &[usize]); 14] = [
-    (b"", SessionEnd::Closed, "", &[]),
-    (b"GET /a HTTP/1.1\r\n\r\n", SessionEnd::Closed, OPEN_A, &[2]),
+const SESSIONS: [(&[u8], Expected); 14] = [
+    (b"", (SessionEnd::Closed, "", &[])),
+    (
+        b"GET /a HTTP/1.1\r\n\r\n",
+        (SessionEnd::Closed, OPEN_A, &[2]),
+    ),
     (
         b"GET /a HTTP/1.1\r\n\r\nGET /bc?d HTTP/1.1\r\nConnection: close\r\n\r\nGET /d HTTP/1.1\r\n\r\n",
-        SessionEnd::Closed,
-        "HTTP/1.1 200 OK\r\nContent-Length: 2\r\nContent-Type: application/json\r\n\r\n/aHTTP/1.1 200 OK\r\nContent-Length: 3\r\nContent-Type: application/json\r\nConnection: close\r\n\r\n/bc",
-        &[2, 3],
+        (
+            SessionEnd::Closed,
+            "HTTP/1.1 200 OK\r\nContent-Length: 2\r\nContent-Type: application/json\r\n\r\n/aHTTP/1.1 200 OK\r\nContent-Length: 3\r\nContent-Type: application/json\r\nConnection: close\r\n\r\n/bc",
+            &[2, 3],
+        ),
     ),
     (
         b"HEAD /a HTTP/1.1\r\n\r\nPUT /b HTTP/1.1\r\nContent-Length: 2\r\n\r\n{}HEAD /b HTTP/1.0\r\n\r\n",
-        SessionEnd::Closed,
-        "HTTP/1.1 200 OK\r\nContent-Length: 2\r\nContent-Type: application/json\r\n\r\nHTTP/1.1 404 Not Found\r\nContent-Length: 0\r\nContent-Type: application/json\r\n\r\nHTTP/1.1 200 OK\r\nContent-Length: 2\r\nContent-Type: application/json\r\nConnection: close\r\n\r\n",
-        &[2, 2],
+        (
+            SessionEnd::Closed,
+            "HTTP/1.1 200 OK\r\nContent-Length: 2\r\nContent-Type: application/json\r\n\r\nHTTP/1.1 404 Not Found\r\nContent-Length: 0\r\nContent-Type: application/json\r\n\r\nHTTP/1.1 200 OK\r\nContent-Length: 2\r\nContent-Type: application/json\r\nConnection: close\r\n\r\n",
+            &[2, 2],
+        ),
     ),
     (
         b"GET /a HTTP/1.1\r\n\r\nPUT /b HTTP/1.1\r\nContent-Length: 3\r\n\r\n{}",
-        SessionEnd::Refused,
-        "HTTP/1.1 200 OK\r\nContent-Length: 2\r\nContent-Type: application/json\r\n\r\n/aHTTP/1.1 400 Bad Request\r\nContent-Length: 27\r\nContent-Type: application/json\r\nConnection: close\r\n\r\n{\"error\":{\"code\":\"CutOff\"}}",
-        &[2],
+        (
+            SessionEnd::Refused,
+            "HTTP/1.1 200 OK\r\nContent-Length: 2\r\nContent-Type: application/json\r\n\r\n/aHTTP/1.1 400 Bad Request\r\nContent-Length: 27\r\nContent-Type: application/json\r\nConnection: close\r\n\r\n{\"error\":{\"code\":\"CutOff\"}}",
+            &[2],
+        ),
     ),
     (
         b"GET /a HTTP/1.1\r\n\r\n\r\n",
-        SessionEnd::Refused,
-        "HTTP/1.1 200 OK\r\nContent-Length: 2\r\nContent-Type: application/json\r\n\r\n/aHTTP/1.1 400 Bad Request\r\nContent-Length: 28\r\nContent-Type: application/json\r\nConnection: close\r\n\r\n{\"error\":{\"code\":\"BadHead\"}}",
-        &[2],
+        (
+            SessionEnd::Refused,
+            "HTTP/1.1 200 OK\r\nContent-Length: 2\r\nContent-Type: application/json\r\n\r\n/aHTTP/1.1 400 Bad Request\r\nContent-Length: 28\r\nContent-Type: application/json\r\nConnection: close\r\n\r\n{\"error\":{\"code\":\"BadHead\"}}",
+            &[2],
+        ),
     ),
     (
         b"HEAD /a HTTP/1.1\r\nContent-Length: 4194305\r\n\r\n",
-        SessionEnd::Refused,
-        "HTTP/1.1 413 Content Too Large\r\nContent-Length: 48\r\nContent-Type: application/json\r\nConnection: close\r\n\r\n{\"error\":{\"code\":\"BodyTooLong\",\"limit\":4194304}}",
-        &[],
+        (
+            SessionEnd::Refused,
+            "HTTP/1.1 413 Content Too Large\r\nContent-Length: 48\r\nContent-Type: application/json\r\nConnection: close\r\n\r\n{\"error\":{\"code\":\"BodyTooLong\",\"limit\":4194304}}",
+            &[],
+        ),
     ),
     (
         b"PUT /a HTTP/1.1\r\nTransfer-Encoding: chunked\r\n\r\n0\r\n\r\n",
-        SessionEnd::Refused,
-        "HTTP/1.1 501 Not Implemented\r\nContent-Length: 35\r\nContent-Type: application/json\r\nConnection: close\r\n\r\n{\"error\":{\"code\":\"TransferCoding\"}}",
-        &[],
+        (
+            SessionEnd::Refused,
+            "HTTP/1.1 501 Not Implemented\r\nContent-Length: 35\r\nContent-Type: application/json\r\nConnection: close\r\n\r\n{\"error\":{\"code\":\"TransferCoding\"}}",
+            &[],
+        ),
     ),
     (
         b"GET /before HTTP/1.1\r\n\r\nGET /a HTTP/1.1\r\n\r\n",
-        SessionEnd::OutOfMemory,
-        "HTTP/1.1 503 Service Unavailable\r\nContent-Length: 32\r\nContent-Type: application/json\r\nConnection: close\r\n\r\n{\"error\":{\"code\":\"OutOfMemory\"}}",
-        &[],
+        (
+            SessionEnd::OutOfMemory,
+            "HTTP/1.1 503 Service Unavailable\r\nContent-Length: 32\r\nContent-Type: application/json\r\nConnection: close\r\n\r\n{\"error\":{\"code\":\"OutOfMemory\"}}",
+            &[],
+        ),
     ),
     (
         b"GET /a HTTP/1.1\r\n\r\nGET /after HTTP/1.1\r\n\r\n",
-        SessionEnd::OutOfMemory,
-        OPEN_A,
-        &[2, 6],
+        (SessionEnd::OutOfMemory, OPEN_A, &[2, 6]),
     ),
     (
         b"GET /a HTTP/1.0\r\n\r\n\r\n\r\n",
-        SessionEnd::Closed,
-        CLOSING_A,
-        &[2],
+        (SessionEnd::Closed, CLOSING_A, &[2]),
     ),
     (
         b"GET / HTTP/9.9\r\n\r\n",
-        SessionEnd::Refused,
-        BAD_HEAD,
-        &[],
+        (SessionEnd::Refused, BAD_HEAD, &[]),
     ),
     (
         b"\r\n\r\nGET /a HTTP/1.1\n\n",
-        SessionEnd::Closed,
-        OPEN_A,
-        &[2],
+        (SessionEnd::Closed, OPEN_A, &[2]),
     ),
-    (b"G", SessionEnd::Refused, BAD_HEAD, &[]),
+    (b"G", (SessionEnd::Refused, BAD_HEAD, &[])),
 ];
 
 const CLOSING_A: &str =
@@ -275,87 +265,149 @@ const CLOSING_A: &str =
 const BAD_HEAD: &str =
     "HTTP/1.1 400 Bad Request\r\nContent-Length: 28\r\nContent-Type: application/json\r\nConnection: close\r\n\r\n{\"error\":{\"code\":\"BadHead\"}}";
 
-#[test]
-fn serves_in_any_pieces(rt: HostRuntime) -> Result<(), Fail> {
-    for (bytes, end, text, entries) in SESSIONS {
-        for piece in [1, 2, 3, 7, 1000] {
-            let session = served(rt.alloc(), bytes, piece, &[], 10_000, &[])?;
-            assert!(rt;
-                session.is(end, text.as_bytes(), entries),
-                "{text} in pieces of {piece}"
-            );
+const TWO_A: &[u8] = b"GET /a HTTP/1.1\r\n\r\nGET /a HTTP/1.1\r\n\r\n";
+
+const TWO_OPEN: &str =
+    "HTTP/1.1 200 OK\r\nContent-Length: 2\r\nContent-Type: application/json\r\n\r\n/aHTTP/1.1 200 OK\r\nContent-Length: 2\r\nContent-Type: application/json\r\n\r\n/a";
+
+/// What is read in pieces of which size, which read fails, the room of the sink, and which write fails. The first of two requests has
+/// 19 bytes, and each reply is one write.
+const FAULTS: [(&[u8], (u64, u64), (u64, u64), Expected); 11] = [
+    (TWO_A, (1, 1), (10_000, 0), (SessionEnd::ReadFault, "", &[])),
+    (
+        TWO_A,
+        (1, 19),
+        (10_000, 0),
+        (SessionEnd::ReadFault, "", &[]),
+    ),
+    (
+        TWO_A,
+        (1, 20),
+        (10_000, 0),
+        (SessionEnd::ReadFault, OPEN_A, &[2]),
+    ),
+    (
+        TWO_A,
+        (1, 38),
+        (10_000, 0),
+        (SessionEnd::ReadFault, OPEN_A, &[2]),
+    ),
+    (
+        TWO_A,
+        (1, 39),
+        (10_000, 0),
+        (SessionEnd::ReadFault, TWO_OPEN, &[2, 2]),
+    ),
+    (
+        TWO_A,
+        (1000, 0),
+        (10_000, 1),
+        (SessionEnd::WriteFault, "", &[2]),
+    ),
+    (
+        TWO_A,
+        (1000, 0),
+        (10_000, 2),
+        (SessionEnd::WriteFault, OPEN_A, &[2, 2]),
+    ),
+    (
+        TWO_A,
+        (1000, 0),
+        (10_000, 3),
+        (SessionEnd::Closed, TWO_OPEN, &[2, 2]),
+    ),
+    (
+        TWO_A,
+        (1000, 0),
+        (10, 0),
+        (SessionEnd::WriteFault, "HTTP/1.1 2", &[2]),
+    ),
+    (
+        b"G",
+        (1000, 0),
+        (10, 0),
+        (SessionEnd::WriteFault, "HTTP/1.1 4", &[]),
+    ),
+    (
+        b"GET /before HTTP/1.1\r\n\r\n",
+        (1000, 0),
+        (10, 0),
+        (SessionEnd::OutOfMemory, "HTTP/1.1 5", &[]),
+    ),
+];
+
+/// The position of the first session in pieces of this size that comes to something else, or none.
+fn first_wrong(
+    alloc: Global,
+    sessions: &[(&[u8], Expected)],
+    piece: u64,
+) -> Result<Option<usize>, OutOfMemory> {
+    for (at, (bytes, expected)) in sessions.iter().enumerate() {
+        if !serves(alloc, bytes, (piece, 0), (10_000, 0), *expected)? {
+            return Ok(Some(at));
         }
     }
-    Ok(())
+    Ok(None)
 }
 
 #[test]
-fn ends_at_each_fault(rt: HostRuntime) -> Result<(), Fail> {
-    let two = b"GET /a HTTP/1.1\r\n\r\nGET /a HTTP/1.1\r\n\r\n";
-    // One byte a read: the first request has 19.
-    for (read, replies) in [(1, 0), (19, 0), (20, 1), (38, 1), (39, 2)] {
-        let session = served(rt.alloc(), two, 1, &[read], 10_000, &[])?;
-        assert!(rt;
-            session.has(SessionEnd::ReadFault, replies * OPEN_A.len(), replies),
-            "at read {read}"
-        );
+fn serves_in_any_pieces(rt: HostRuntime) -> Result<(), Fail> {
+    for piece in [1, 2, 3, 7, 1000] {
+        assert_eq!(rt; first_wrong(rt.alloc(), &SESSIONS, piece)?, None, "{piece}");
     }
-    // One write a reply.
-    for (write, replies) in [(1, 0), (2, 1)] {
-        let session = served(rt.alloc(), two, 1000, &[], 10_000, &[write])?;
-        assert!(rt;
-            session.has(SessionEnd::WriteFault, replies * OPEN_A.len(), replies + 1),
-            "at write {write}"
-        );
-    }
-    let session = served(rt.alloc(), two, 1000, &[], 10_000, &[3])?;
-    assert_eq!(rt; session.end, SessionEnd::Closed);
     Ok(())
 }
 
-#[test]
-fn writes_what_there_is_room_for(rt: HostRuntime) -> Result<(), Fail> {
-    for (bytes, end, text, entries) in [
-        (
-            b"GET /a HTTP/1.1\r\n\r\n".as_slice(),
-            SessionEnd::WriteFault,
-            b"HTTP/1.1 2".as_slice(),
-            [2].as_slice(),
-        ),
-        (
-            b"G".as_slice(),
-            SessionEnd::WriteFault,
-            b"HTTP/1.1 4".as_slice(),
-            [].as_slice(),
-        ),
-        (
-            b"GET /before HTTP/1.1\r\n\r\n".as_slice(),
-            SessionEnd::OutOfMemory,
-            b"HTTP/1.1 5".as_slice(),
-            [].as_slice(),
-        ),
-    ] {
-        let session = served(rt.alloc(), bytes, 1000, &[], 10, &[])?;
-        assert!(rt; session.is(end, text, entries));
+/// The position of the first session with a fault that comes to something else, or none.
+fn first_wrong_fault(
+    alloc: Global,
+    faults: &[(&[u8], (u64, u64), (u64, u64), Expected)],
+) -> Result<Option<usize>, OutOfMemory> {
+    for (at, (bytes, reads, writes, expected)) in faults.iter().enumerate() {
+        if !serves(alloc, bytes, *reads, *writes, *expected)? {
+            return Ok(Some(at));
+        }
     }
+    Ok(None)
+}
+
+#[test]
+fn ends_at_each_fault_and_where_there_is_no_room(rt: HostRuntime) -> Result<(), Fail> {
+    assert_eq!(rt; first_wrong_fault(rt.alloc(), &FAULTS)?, None);
     Ok(())
+}
+
+/// The position of the first session over a link that comes to something else, or none.
+fn first_wrong_over_link(
+    alloc: Global,
+    sessions: &[(&[u8], Expected)],
+) -> Result<Option<usize>, OutOfMemory> {
+    for (at, (bytes, expected)) in sessions.iter().enumerate() {
+        if !serves_over_link(alloc, bytes, 0, &[5, 1, 40], *expected)? {
+            return Ok(Some(at));
+        }
+    }
+    Ok(None)
 }
 
 #[test]
 fn serves_a_link(rt: HostRuntime) -> Result<(), Fail> {
-    for (bytes, end, text, entries) in SESSIONS {
-        let session = served_over_link(rt.alloc(), bytes, &[], &[5, 1, 40])?;
-        assert!(rt; session.is(end, text.as_bytes(), entries), "{text}");
-    }
-    // A failed call is the link's, be it a read or a write.
-    for (call, end) in [
-        (1, SessionEnd::ReadFault),
-        (2, SessionEnd::WriteFault),
-        (3, SessionEnd::ReadFault),
-    ] {
+    assert_eq!(rt; first_wrong_over_link(rt.alloc(), &SESSIONS)?, None);
+    Ok(())
+}
+
+/// A request over a link of whose calls one fails, be it a read or a write.
+const LINK_FAULTS: [(u64, Expected); 3] = [
+    (1, (SessionEnd::ReadFault, "", &[])),
+    (2, (SessionEnd::WriteFault, "", &[2])),
+    (3, (SessionEnd::ReadFault, OPEN_A, &[2])),
+];
+
+#[test]
+fn ends_at_each_fault_of_a_link(rt: HostRuntime) -> Result<(), Fail> {
+    for (failing, expected) in LINK_FAULTS {
         let bytes = b"GET /a HTTP/1.1\r\n\r\n";
-        let session = served_over_link(rt.alloc(), bytes, &[call], &[])?;
-        assert_eq!(rt; session.end, end);
+        assert!(rt; serves_over_link(rt.alloc(), bytes, failing, &[], expected)?);
     }
     Ok(())
 }

@@ -9,8 +9,8 @@ use Rattle.json_tree.specs.Places.{member_at}
 use Rattle.json_read.specs.Faults.{RepeatsKey}
 use Rattle.json_tree.specs.View.{members_view}
 use Rattle.json_read.specs.Machinery.Ways.{has_key, repeat_at}
-use Rattle.text_buckets.specs.Buckets.{bucket_of, IsUsed, HasPut}
-use Rattle.text_buckets.specs.declared.buckets.Buckets.{Buckets}
+use Rattle.json_tree.specs.Buckets.{bucket_of, IsUsed, HasPut}
+use Rattle.json_tree.specs.declared.buckets.Buckets.{Buckets}
 
 neither : (a b : Bool) → (a || b) ≡ false → (a ≡ false) × (b ≡ false)
 neither true b e = absurd cc

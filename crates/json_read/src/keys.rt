@@ -7,10 +7,9 @@ ghost use Rattle.json_tree.specs.View.{view, elements_view, members_view};
 ghost use Rattle.json_read.specs.Machinery.Ways.{IsFirstDuplicate, has_key, repeat_at};
 
 use dt_base::OutOfMemory;
-use json_tree::{Member, Tree};
+use json_tree::{Buckets, Member, Tree};
 use std::alloc::Global;
 use std::collections::BTreeSet;
-use text_buckets::Buckets;
 
 /// Up to so many members, a key whose bucket is used is compared with each one before it, which takes no memory.
 const FEW_MEMBERS: usize = 32;

@@ -7,5 +7,6 @@ pub mod Pointers
 pub mod Grammar
 pub mod Printing
 pub mod Sorting
+pub mod Buckets
 -- What proofs alone rest on: no public contract speaks of it.
 pub mod Machinery

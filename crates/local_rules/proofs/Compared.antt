@@ -12,7 +12,7 @@ use Rattle.std.proofs.lemmas.Bool.{or_cases}
 use Rattle.json_tree.specs.Values.{Json, text}
 use Rattle.json_tree.specs.View.{view}
 use Rattle.json_tree.specs.declared.tree.Tree.{Tree}
-use Rattle.text_buckets.specs.declared.buckets.Buckets.{Buckets}
+use Rattle.json_tree.specs.declared.buckets.Buckets.{Buckets}
 use Rattle.local_rules.specs.Repeats.{holds_some, is_among, same_value}
 use Rattle.local_rules.specs.Machinery.Repeated.{AreInBuckets, HasBucket, HasSeen, compared, is_seen, repeats_by, value_by}
 use Rattle.local_rules.specs.declared.repeated.ComparisonKey.{ComparisonKey}

@@ -11,10 +11,9 @@ ghost use Rattle.local_rules.specs.Repeats.{holds_some, is_among, name_in, same_
 
 use dt_base::OutOfMemory;
 use json_decimal::Decimal;
-use json_tree::{Tree, members_in, text_at, text_in, value_in};
+use json_tree::{Buckets, Tree, members_in, text_at, text_in, value_in};
 use std::alloc::Global;
 use std::collections::BTreeSet;
-use text_buckets::Buckets;
 
 /// A number by its digits, in an order of no meaning.
 #[derive(Clone, Copy, PartialEq, Eq, PartialOrd, Ord)]

@@ -54,7 +54,10 @@ fn enter(
     ensures err { OnErr result (set.new ≡ set.old) }
     ensures others { (q : Identifier) → is_eq (id_cmp q interface.id) ≡ false → record_at q records.new ≡ record_at q records.old }
 {
-    add_record(records, alloc, &interface)?;
+    let Ok(()) = add_record(records, alloc, &interface) else {
+        drop(interface);
+        return Err(OutOfMemory);
+    };
     set.insert(interface)?;
     Ok(())
 }
@@ -88,7 +91,8 @@ fn leave_all(set: &mut ModelSet, records: &mut Records, ids: &[Dtmi])
     ensures records { (q : Identifier) → record_at q records.new ≡ cond (is_one_of ids.now q) None (record_at q records.old) }
 {
     'ids: for id in ids {
-        let _interface = set.remove(id);
+        let interface = set.remove(id);
+        drop(interface);
         records.remove(id);
     }
 }

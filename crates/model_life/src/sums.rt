@@ -61,7 +61,9 @@ fn line_bytes(
     ensures { IfOk result (λ bytes. bytes ≡ capped (line_of set.now interface.now)) }
 {
     let ancestors = ancestors(alloc, set, interface)?;
-    Ok(text_bytes(records, ancestors.as_slice()))
+    let bytes = text_bytes(records, ancestors.as_slice());
+    drop(ancestors);
+    Ok(bytes)
 }
 
 /// The same of several interfaces together.

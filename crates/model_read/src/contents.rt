@@ -36,7 +36,10 @@ fn push_property_of(
 {
     let members = members_of(tree);
     let name = name_at(alloc, members, "name")?;
-    let common = common_of(alloc, members)?;
+    let Ok(common) = common_of(alloc, members) else {
+        drop(name);
+        return Err(OutOfMemory);
+    };
     push_property(alloc, properties, name, common, Position::Property, members)
 }
 
@@ -63,9 +66,15 @@ fn push_relationship(
     requires { RelationshipShape (members_view members.now) }
     ensures { OnOk result (GainsKind position.Content (Some element.Relationship) (members_view members.now) name common contents.old.items contents.new.items) }
 {
-    let target = optional_id(alloc, members, "target")?;
+    let Ok(target) = optional_id(alloc, members, "target") else {
+        drop((name, common));
+        return Err(OutOfMemory);
+    };
     let entries = entries_at(members, "properties");
-    let properties = properties_of(alloc, entries)?;
+    let Ok(properties) = properties_of(alloc, entries) else {
+        drop((name, common, target));
+        return Err(OutOfMemory);
+    };
     let max = max_at(members);
     let writable = is_writable(members);
     let kind = ContentKind::Relationship {
@@ -110,7 +119,10 @@ fn push_content(alloc: Global, contents: &mut Vec<Content>, tree: &Tree) -> Resu
 {
     let members = members_of(tree);
     let name = name_at(alloc, members, "name")?;
-    let common = common_of(alloc, members)?;
+    let Ok(common) = common_of(alloc, members) else {
+        drop(name);
+        return Err(OutOfMemory);
+    };
     push_kind(alloc, contents, name, common, members)
 }
 

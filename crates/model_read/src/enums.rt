@@ -48,8 +48,14 @@ fn enum_entry_in(alloc: Global, members: &[Member]) -> Result<EnumEntry, OutOfMe
     ensures { IfOk result (λ e. DeclaresEnumEntry (members_view members.now) e) }
 {
     let value = enum_value_of(alloc, wanted(members, "enumValue"))?;
-    let name = name_at(alloc, members, "name")?;
-    let common = common_of(alloc, members)?;
+    let Ok(name) = name_at(alloc, members, "name") else {
+        drop(value);
+        return Err(OutOfMemory);
+    };
+    let Ok(common) = common_of(alloc, members) else {
+        drop((name, value));
+        return Err(OutOfMemory);
+    };
     Ok(EnumEntry {
         name,
         common,

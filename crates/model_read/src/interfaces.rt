@@ -10,7 +10,7 @@ ghost use Rattle.model_read.specs.Machinery.Shapes.{CanBeId, EachIs, InterfaceSh
 
 use crate::contents::contents_at;
 use crate::localized::localized_at;
-use crate::parts::{entries_at, entries_of};
+use crate::parts::{entries_at, entries_of, list_of_one};
 use crate::schemas::schema_of;
 use crate::texts::{id_at, id_of, optional_text};
 use dt_base::names::Dtmi;
@@ -46,9 +46,7 @@ fn one_parent(alloc: Global, tree: &Tree) -> Result<List<Dtmi>, OutOfMemory>
     ensures { IfOk result (λ ids. HasParents (Some (view tree.now)) ids) }
 {
     let id = id_of(alloc, tree)?;
-    let mut ids = List::new(alloc);
-    ids.push(id)?;
-    Ok(ids)
+    list_of_one(alloc, id)
 }
 
 /// The parents that a value of `extends` names.
@@ -100,12 +98,30 @@ pub fn interface_in(alloc: Global, members: &[Member]) -> Result<Interface, OutO
     ensures { IfOk result (λ i. DeclaresInterface (members_view members.now) i) }
 {
     let id = id_at(alloc, members, "@id")?;
-    let comment = optional_text(alloc, members, "comment")?;
-    let description = localized_at(alloc, members, "description")?;
-    let display_name = localized_at(alloc, members, "displayName")?;
-    let parents = parents_at(alloc, members)?;
-    let contents = contents_at(alloc, members)?;
-    let schemas = schemas_at(alloc, members)?;
+    let Ok(comment) = optional_text(alloc, members, "comment") else {
+        drop(id);
+        return Err(OutOfMemory);
+    };
+    let Ok(description) = localized_at(alloc, members, "description") else {
+        drop((id, comment));
+        return Err(OutOfMemory);
+    };
+    let Ok(display_name) = localized_at(alloc, members, "displayName") else {
+        drop((id, comment, description));
+        return Err(OutOfMemory);
+    };
+    let Ok(parents) = parents_at(alloc, members) else {
+        drop((id, comment, description, display_name));
+        return Err(OutOfMemory);
+    };
+    let Ok(contents) = contents_at(alloc, members) else {
+        drop((id, comment, description, display_name, parents));
+        return Err(OutOfMemory);
+    };
+    let Ok(schemas) = schemas_at(alloc, members) else {
+        drop((id, comment, description, display_name, parents, contents));
+        return Err(OutOfMemory);
+    };
     Ok(Interface {
         id,
         comment,

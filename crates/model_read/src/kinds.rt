@@ -10,9 +10,9 @@ ghost use Rattle.local_rules.specs.declared.role.Element.TheVariants as element;
 ghost use Rattle.local_rules.specs.declared.role.Position.TheVariants as position;
 ghost use Rattle.dtdl_terms.specs.TermViews.{payload_term};
 ghost use Rattle.std.specs.Option.{option_map};
-ghost use Rattle.model_read.specs.Declarations.{HasMax, HasOptionalPayload, DeclaresWritable};
+ghost use Rattle.model_read.specs.Declarations.{HasMax, HasOptionalPayload, HasOptionalString, HasSemantic, DeclaresWritable};
 ghost use Rattle.model_read.specs.Machinery.Gains.{GainsKind};
-ghost use Rattle.model_read.specs.Machinery.Shapes.{CanBeMultiplicity, CommandShape, ComponentShape, IsValidPayload, IsTruth, MayHave, PropertyShape, TelemetryShape};
+ghost use Rattle.model_read.specs.Machinery.Shapes.{CanBeMultiplicity, CanBeName, CanBeTypes, CommandShape, ComponentShape, IsValidPayload, IsTruth, MayHave, PropertyShape, TelemetryShape};
 
 use crate::schemas::{payload_at, schema_at};
 use crate::semantics::semantic_at;
@@ -101,6 +101,25 @@ fn optional_payload(
     }
 }
 
+/// The semantic type and the unit of an object at a position, where it has them.
+fn measure_at(
+    alloc: Global,
+    position: Position,
+    members: &[Member],
+) -> Result<(Option<Name>, Option<Name>), OutOfMemory>
+    requires semantic { MayHave (CanBeTypes position) (codes "@type") (members_view members.now) }
+    requires unit { MayHave CanBeName (codes "unit") (members_view members.now) }
+    ensures semantic { IfOk result (λ m. HasSemantic position (members_view members.now) m.0) }
+    ensures unit { IfOk result (λ m. HasOptionalString (codes "unit") (members_view members.now) m.1) }
+{
+    let semantic = semantic_at(alloc, position, members)?;
+    let Ok(unit) = optional_name(alloc, members, "unit") else {
+        drop(semantic);
+        return Err(OutOfMemory);
+    };
+    Ok((semantic, unit))
+}
+
 /// Adds the telemetry that members declare to contents; its name and what every element has were read before.
 pub fn push_telemetry(
     alloc: Global,
@@ -112,9 +131,14 @@ pub fn push_telemetry(
     requires { TelemetryShape position.Content (members_view members.now) }
     ensures { OnOk result (GainsKind position.Content (Some element.Telemetry) (members_view members.now) name common contents.old.items contents.new.items) }
 {
-    let semantic = semantic_at(alloc, Position::Content, members)?;
-    let unit = optional_name(alloc, members, "unit")?;
-    let schema = schema_at(alloc, members, "schema")?;
+    let Ok((semantic, unit)) = measure_at(alloc, Position::Content, members) else {
+        drop((name, common));
+        return Err(OutOfMemory);
+    };
+    let Ok(schema) = schema_at(alloc, members, "schema") else {
+        drop((name, common, semantic, unit));
+        return Err(OutOfMemory);
+    };
     let kind = ContentKind::Telemetry {
         schema,
         semantic,
@@ -136,10 +160,15 @@ pub fn push_property(
     requires { PropertyShape position (members_view members.now) }
     ensures { OnOk result (GainsKind position (Some element.Property) (members_view members.now) name common contents.old.items contents.new.items) }
 {
-    let semantic = semantic_at(alloc, position, members)?;
-    let unit = optional_name(alloc, members, "unit")?;
+    let Ok((semantic, unit)) = measure_at(alloc, position, members) else {
+        drop((name, common));
+        return Err(OutOfMemory);
+    };
     let writable = is_writable(members);
-    let schema = schema_at(alloc, members, "schema")?;
+    let Ok(schema) = schema_at(alloc, members, "schema") else {
+        drop((name, common, semantic, unit));
+        return Err(OutOfMemory);
+    };
     let kind = ContentKind::Property {
         schema,
         semantic,
@@ -161,8 +190,14 @@ pub fn push_command(
     requires { CommandShape (members_view members.now) }
     ensures { OnOk result (GainsKind position.Content (Some element.Command) (members_view members.now) name common contents.old.items contents.new.items) }
 {
-    let request = optional_payload(alloc, members, "request")?;
-    let response = optional_payload(alloc, members, "response")?;
+    let Ok(request) = optional_payload(alloc, members, "request") else {
+        drop((name, common));
+        return Err(OutOfMemory);
+    };
+    let Ok(response) = optional_payload(alloc, members, "response") else {
+        drop((name, common, request));
+        return Err(OutOfMemory);
+    };
     let kind = ContentKind::Command { request, response };
     contents.push(Content { name, common, kind })?;
     Ok(())
@@ -179,7 +214,10 @@ pub fn push_component(
     requires { ComponentShape (members_view members.now) }
     ensures { OnOk result (GainsKind position.Content (Some element.Component) (members_view members.now) name common contents.old.items contents.new.items) }
 {
-    let of = id_at(alloc, members, "schema")?;
+    let Ok(of) = id_at(alloc, members, "schema") else {
+        drop((name, common));
+        return Err(OutOfMemory);
+    };
     let kind = ContentKind::Component { of };
     contents.push(Content { name, common, kind })?;
     Ok(())

@@ -8,6 +8,7 @@ ghost use Rattle.local_rules.specs.Quantities.{IsStringValue};
 ghost use Rattle.model_read.specs.Declarations.{HasLocalized, IsLocalizedBy, IsTextOfLanguage};
 ghost use Rattle.model_read.specs.Machinery.Shapes.{HaveStrings, IsWords, MayHave};
 
+use crate::parts::list_of_one;
 use crate::texts::text_of;
 use dt_base::{List, OutOfMemory, Text};
 use dtdl_terms::{Entry, Localized};
@@ -40,12 +41,9 @@ fn entries_of(alloc: Global, members: &[Member]) -> Result<List<Entry>, OutOfMem
 fn english(alloc: Global, text: &Text) -> Result<List<Entry>, OutOfMemory>
     ensures { IfOk result (λ es. es ≡ record { language = codes "en"; text = text.now } ∷ []) }
 {
-    let mut entries = List::new(alloc);
-    entries.push(Entry {
-        language: Text::from_str(alloc, "en")?,
-        text: text.copy(alloc)?,
-    })?;
-    Ok(entries)
+    let language = Text::from_str(alloc, "en")?;
+    let text = text.copy(alloc)?;
+    list_of_one(alloc, Entry { language, text })
 }
 
 /// The localized text that a value is.

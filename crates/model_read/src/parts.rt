@@ -1,13 +1,15 @@
 //! The parts of values.
 
-ghost use Rattle.std.specs.Prelude.{◌≡◌, ◌≢◌, Some, None};
+ghost use Rattle.std.specs.Prelude.{◌≡◌, ◌≢◌, ◌∷◌, [], Some, None, IfOk};
 ghost use Rattle.json_tree.specs.Values.{array, object};
 ghost use Rattle.json_tree.specs.View.{view, members_view, elements_view};
 ghost use Rattle.json_tree.specs.Members.{value_at};
 ghost use Rattle.model_read.specs.Declarations.{AreEntriesOf};
 ghost use Rattle.model_read.specs.Machinery.Shapes.{IsArray, IsObject, MayHave};
 
+use dt_base::{List, OutOfMemory};
 use json_tree::{Member, Tree, value_at};
+use std::alloc::Global;
 
 /// The members of an object.
 #[tactic(auto, using(json_tree::proofs::Views::views))]
@@ -57,4 +59,13 @@ pub fn entries_at<'a>(members: &'a [Member], key: &str) -> &'a [Tree]
         Some(value) => entries_of(value),
         None => &[],
     }
+}
+
+/// A list of one item.
+pub fn list_of_one<T: Drop>(alloc: Global, item: T) -> Result<List<T>, OutOfMemory>
+    ensures { IfOk result (λ items. items ≡ item ∷ []) }
+{
+    let mut items = List::new(alloc);
+    items.push(item)?;
+    Ok(items)
 }

@@ -14,7 +14,7 @@ ghost use Rattle.model_read.specs.Machinery.Shapes.{EachIs, InterfaceShape, IsVa
 
 use crate::end::LocalEnd;
 use crate::interfaces::interface_in;
-use crate::parts::members_of;
+use crate::parts::{list_of_one, members_of};
 use crate::places::{has_text, ordinal_at, wanted_ordinal};
 use dt_base::{List, OutOfMemory};
 use dtdl_terms::Uploaded;
@@ -35,8 +35,8 @@ fn uploaded_in(
     requires placed { (part : Json) × StandsAt (view whole.now) place.now.steps part }
     ensures { IfOk result (λ u. IsUploaded (view whole.now) place.now.steps index document (object (members_view members.now)) u) }
 {
-    let interface = interface_in(alloc, members)?;
     let base = pointer_of(alloc, whole, place)?;
+    let interface = interface_in(alloc, members)?;
     let id_at = wanted_ordinal(members, "@id");
     Ok(Uploaded {
         interface,
@@ -64,8 +64,9 @@ fn one_upload(
     let place = Place {
         steps: List::new(alloc),
     };
-    let mut uploads = List::new(alloc);
-    uploads.push(uploaded_in(alloc, tree, &place, 0, document, members)?)?;
+    let upload = uploaded_in(alloc, tree, &place, 0, document, members);
+    drop(place);
+    let uploads = list_of_one(alloc, upload?)?;
     Ok(uploads)
 }
 
@@ -73,8 +74,7 @@ fn one_upload(
 fn place_of(alloc: Global, at: u64) -> Result<Place, OutOfMemory>
     ensures { IfOk result (λ p. p.steps ≡ at ∷ []) }
 {
-    let mut steps = List::new(alloc);
-    steps.push(at)?;
+    let steps = list_of_one(alloc, at)?;
     Ok(Place { steps })
 }
 
@@ -92,7 +92,9 @@ fn uploaded_at(
 {
     let members = members_of(entry);
     let place = place_of(alloc, at)?;
-    uploaded_in(alloc, whole, &place, at, document, members)
+    let upload = uploaded_in(alloc, whole, &place, at, document, members);
+    drop(place);
+    upload
 }
 
 /// The interfaces that the entries of a document declare.

@@ -11,7 +11,7 @@ ghost use Rattle.local_rules.specs.declared.role.Position.TheVariants as positio
 ghost use Rattle.model_read.specs.Declarations.{IsSchema, IsPayload, ArePayloads, HasSchema, HasPayload};
 ghost use Rattle.model_read.specs.Machinery.Shapes.{ArrayShape, CanBeId, EachIs, EnumerationShape, HasMember, IsValidPayload, IsValidSchema, MapShape, ObjectShape, SchemaShape};
 
-use crate::common::common_of;
+use crate::common::{boxed_common_of, common_of};
 use crate::enums::{enum_entries_of, is_of_text};
 use crate::parts::{entries_of, members_of, wanted};
 use crate::texts::{id_in, name_at};
@@ -39,9 +39,13 @@ fn enumeration_in(alloc: Global, members: &[Member]) -> Result<Schema, OutOfMemo
     requires shaped { EnumerationShape (members_view members.now) }
     ensures { IfOk result (λ s. IsSchema (schema_term s) (object (members_view members.now))) }
 {
-    let common = Boxed::new(alloc, common_of(alloc, members)?)?;
+    let common = boxed_common_of(alloc, members)?;
     let of_text = is_of_text(members);
-    let values = enum_entries_of(alloc, entries_of(wanted(members, "enumValues")))?;
+    let values = wanted(members, "enumValues");
+    let Ok(values) = enum_entries_of(alloc, entries_of(values)) else {
+        drop(common);
+        return Err(OutOfMemory);
+    };
     Ok(Schema::Enumeration {
         common,
         of_text,
@@ -83,9 +87,15 @@ fn array_in(alloc: Global, members: &[Member]) -> Result<Schema, OutOfMemory>
     requires shaped { ArrayShape (members_view members.now) }
     ensures { IfOk result (λ s. IsSchema (schema_term s) (object (members_view members.now))) }
 {
-    let common = Boxed::new(alloc, common_of(alloc, members)?)?;
-    let element = schema_at(alloc, members, "elementSchema")?;
-    let element = Boxed::new(alloc, element)?;
+    let common = boxed_common_of(alloc, members)?;
+    let Ok(element) = schema_at(alloc, members, "elementSchema") else {
+        drop(common);
+        return Err(OutOfMemory);
+    };
+    let Ok(element) = Boxed::new(alloc, element) else {
+        drop(common);
+        return Err(OutOfMemory);
+    };
     Ok(Schema::Array { common, element })
 }
 
@@ -95,9 +105,15 @@ fn map_in(alloc: Global, members: &[Member]) -> Result<Schema, OutOfMemory>
     requires shaped { MapShape (members_view members.now) }
     ensures { IfOk result (λ s. IsSchema (schema_term s) (object (members_view members.now))) }
 {
-    let common = Boxed::new(alloc, common_of(alloc, members)?)?;
-    let key = payload_at(alloc, members, "mapKey")?;
-    let value = payload_at(alloc, members, "mapValue")?;
+    let common = boxed_common_of(alloc, members)?;
+    let Ok(key) = payload_at(alloc, members, "mapKey") else {
+        drop(common);
+        return Err(OutOfMemory);
+    };
+    let Ok(value) = payload_at(alloc, members, "mapValue") else {
+        drop((common, key));
+        return Err(OutOfMemory);
+    };
     Ok(Schema::Map { common, key, value })
 }
 
@@ -107,9 +123,12 @@ fn object_in(alloc: Global, members: &[Member]) -> Result<Schema, OutOfMemory>
     requires shaped { ObjectShape (members_view members.now) }
     ensures { IfOk result (λ s. IsSchema (schema_term s) (object (members_view members.now))) }
 {
-    let common = Boxed::new(alloc, common_of(alloc, members)?)?;
+    let common = boxed_common_of(alloc, members)?;
     let fields = wanted(members, "fields");
-    let fields = payloads_of(alloc, entries_of(fields))?;
+    let Ok(fields) = payloads_of(alloc, entries_of(fields)) else {
+        drop(common);
+        return Err(OutOfMemory);
+    };
     Ok(Schema::Object { common, fields })
 }
 
@@ -146,8 +165,14 @@ fn payload_of(alloc: Global, tree: &Tree) -> Result<Payload, OutOfMemory>
 {
     let members = members_of(tree);
     let name = name_at(alloc, members, "name")?;
-    let common = common_of(alloc, members)?;
-    let schema = schema_at(alloc, members, "schema")?;
+    let Ok(common) = common_of(alloc, members) else {
+        drop(name);
+        return Err(OutOfMemory);
+    };
+    let Ok(schema) = schema_at(alloc, members, "schema") else {
+        drop((name, common));
+        return Err(OutOfMemory);
+    };
     Ok(Payload {
         name,
         common,

@@ -1,6 +1,7 @@
 //! Documents that are read batch by batch: each interface comes with its place in the whole document, and of a document with a
 //! fault there are none.
 
+use dtdl_terms::Uploaded;
 use model_batches::faultless_interfaces;
 use std::alloc::Global;
 use std::test::Fail;
@@ -24,37 +25,55 @@ fn list_with(alloc: Global, count: usize, end: &str) -> Result<String, Fail> {
     Ok(text)
 }
 
+/// The identifier of each interface, its pointer, its index and the number of its document, a line each.
+fn places_of(alloc: Global, uploads: &[Uploaded]) -> Result<String, Fail> {
+    let mut places = String::new(alloc);
+    for upload in uploads {
+        let id = upload.interface.id.as_str();
+        let base = upload.base.as_str();
+        let line = format!(in alloc; "{id} \"{base}\" {} {}\n", upload.index, upload.document)?;
+        places.push_str(line.as_str())?;
+    }
+    Ok(places)
+}
+
+/// The same of what is read of a document with this number; `none` where it is read otherwise.
+fn read_places(alloc: Global, text: &str, document: u32) -> Result<String, Fail> {
+    let Some(uploads) = faultless_interfaces(alloc, text.as_bytes(), document)? else {
+        return Ok(String::from_str(alloc, "none")?);
+    };
+    let places = places_of(alloc, uploads.as_slice());
+    drop(uploads);
+    places
+}
+
+/// What is wanted of a list of so many.
+fn places_in_list(alloc: Global, count: usize, document: u32) -> Result<String, Fail> {
+    let mut places = String::new(alloc);
+    for at in 0..count {
+        let line = format!(in alloc; "dtmi:n{at};1 \"/{at}\" {at} {document}\n")?;
+        places.push_str(line.as_str())?;
+    }
+    Ok(places)
+}
+
 #[test]
 fn reads_each_interface_at_its_place(rt: HostRuntime) -> Result<(), Fail> {
     let alloc = rt.alloc();
     for count in [1, 30, 200] {
         let text = list_with(alloc, count, " ]\n")?;
-        let Some(uploads) = faultless_interfaces(alloc, text.as_bytes(), 7)? else {
-            panic!(rt; "none of {count}")
-        };
-        assert_eq!(rt; uploads.len(), count);
-        for (at, upload) in uploads.as_slice().iter().enumerate() {
-            let id = format!(in alloc; "dtmi:n{at};1")?;
-            let base = format!(in alloc; "/{at}")?;
-            assert_eq!(rt; upload.interface.id.as_str(), id.as_str());
-            assert_eq!(rt; upload.base.as_str(), base.as_str());
-            assert_eq!(rt; upload.index, at as u64);
-            assert_eq!(rt; upload.document, 7);
-        }
+        let got = read_places(alloc, text.as_str(), 7)?;
+        let want = places_in_list(alloc, count, 7)?;
+        assert_eq!(rt; got.as_str(), want.as_str());
     }
     Ok(())
 }
 
 #[test]
 fn reads_an_interface_that_is_no_list(rt: HostRuntime) -> Result<(), Fail> {
-    let alloc = rt.alloc();
-    let text = format!(in alloc; " {START}{REST}\n")?;
-    let Some(uploads) = faultless_interfaces(alloc, text.as_bytes(), 2)? else {
-        panic!(rt; "none of {text}")
-    };
-    assert_eq!(rt; uploads.len(), 1);
-    assert_eq!(rt; uploads.as_slice()[0].base.as_str(), "");
-    assert_eq!(rt; uploads.as_slice()[0].document, 2);
+    let text = format!(in rt.alloc(); " {START}{REST}\n")?;
+    let got = read_places(rt.alloc(), text.as_str(), 2)?;
+    assert_eq!(rt; got.as_str(), "dtmi:n;1 \"\" 0 2\n");
     Ok(())
 }
 
@@ -74,11 +93,10 @@ const FAULTS: [&str; 10] = [
 
 #[test]
 fn gives_none_of_a_list_with_a_fault(rt: HostRuntime) -> Result<(), Fail> {
-    let alloc = rt.alloc();
     for end in FAULTS {
-        let text = list_with(alloc, 100, end)?;
-        let found = faultless_interfaces(alloc, text.as_bytes(), 1)?;
-        assert!(rt; found.is_none(), "{end}");
+        let text = list_with(rt.alloc(), 100, end)?;
+        let got = read_places(rt.alloc(), text.as_str(), 1)?;
+        assert_eq!(rt; got.as_str(), "none", "{end}");
     }
     Ok(())
 }

@@ -9,7 +9,6 @@ ghost use Rattle.twin_patch.specs.declared.patch.Op.{Op};
 use json_read::read;
 use json_tree::{Tree, print};
 use std::alloc::Global;
-use std::process::Abort;
 use std::test::Fail;
 use twin_patch::{ApplyEnd, Patch, PatchCode, PatchEnd, PatchOf, apply, read_patch};
 
@@ -21,15 +20,26 @@ fn tree_of(alloc: Global, text: &str) -> Result<Tree, Fail>
     Ok(tree)
 }
 
-/// What a patch of a twin makes of a tree, as it is printed: the patched tree, or a code and an index.
-fn outcome(alloc: Global, tree: &str, patch: &str, of: PatchOf) -> Result<String, Fail> {
-    let tree = tree_of(alloc, tree)?;
-    let patch = tree_of(alloc, patch)?;
-    match read_patch(alloc, &patch, of) {
-        Ok(patch) => applied(alloc, &tree, &patch),
-        Err(PatchEnd::Fault { index, code }) => Ok(format!(in alloc; "{} {index}", code.text())?),
-        Err(PatchEnd::OutOfMemory) => Ok(String::from_str(alloc, "out of memory")?),
-    }
+/// The patch that a text spells, or why it is none.
+fn patch_of(alloc: Global, text: &str, of: PatchOf) -> Result<Result<Patch, PatchEnd>, Fail>
+    ensures { IfOk result (λ read. IfOk read (λ patch. All (λ (op : Op). BringsDistinctKeys (change_of op.kind)) patch.ops)) }
+{
+    let tree = tree_of(alloc, text)?;
+    let read = read_patch(alloc, &tree, of);
+    drop(tree);
+    Ok(read)
+}
+
+/// The text of a code and of an index.
+fn fault_text(alloc: Global, code: PatchCode, index: u64) -> Result<String, Fail> {
+    Ok(format!(in alloc; "{} {index}", code.text())?)
+}
+
+/// The text of a tree.
+fn tree_text(alloc: Global, tree: Tree) -> Result<String, Fail> {
+    let text = print(alloc, &tree);
+    drop(tree);
+    Ok(text?.into_string(alloc)?)
 }
 
 /// What a copy of a patch makes of a tree.
@@ -37,15 +47,37 @@ fn applied(alloc: Global, tree: &Tree, patch: &Patch) -> Result<String, Fail>
     requires distinct { HasDistinctKeys (view tree.now) }
     requires brought { All (λ (op : Op). BringsDistinctKeys (change_of op.kind)) patch.now.ops }
 {
-    let patch = patch.copy(alloc)?;
-    match apply(alloc, tree, &patch) {
-        Ok(tree) => Ok(print(alloc, &tree)?.into_string(alloc)?),
-        Err(ApplyEnd::NoTarget { index }) => Ok(format!(in alloc;
-            "{} {index}",
-            PatchCode::NoTarget.text()
-        )?),
+    let copy = patch.copy(alloc)?;
+    let end = apply(alloc, tree, &copy);
+    drop(copy);
+    match end {
+        Ok(tree) => tree_text(alloc, tree),
+        Err(ApplyEnd::NoTarget { index }) => fault_text(alloc, PatchCode::NoTarget, index),
         Err(ApplyEnd::OutOfMemory) => Ok(String::from_str(alloc, "out of memory")?),
     }
+}
+
+/// What a patch makes of a tree, as it is printed: the patched tree, or a code and an index.
+fn outcome(alloc: Global, tree: &Tree, patch: &str, of: PatchOf) -> Result<String, Fail>
+    requires { HasDistinctKeys (view tree.now) }
+{
+    match patch_of(alloc, patch, of)? {
+        Ok(patch) => {
+            let applied = applied(alloc, tree, &patch);
+            drop(patch);
+            applied
+        }
+        Err(PatchEnd::Fault { index, code }) => fault_text(alloc, code, index),
+        Err(PatchEnd::OutOfMemory) => Ok(String::from_str(alloc, "out of memory")?),
+    }
+}
+
+/// Whether a patch makes this of a tree.
+fn makes(alloc: Global, tree: &str, patch: &str, of: PatchOf, line: &str) -> Result<bool, Fail> {
+    let tree = tree_of(alloc, tree)?;
+    let outcome = outcome(alloc, &tree, patch, of);
+    drop(tree);
+    Ok(outcome?.as_str() == line)
 }
 
 /// The examples of RFC 6902, appendix A. Lists are no targets here.
@@ -406,56 +438,63 @@ const OUTCOMES: [(&str, PatchOf, &str); 14] = [
     ),
 ];
 
-fn applies(rt: &impl Abort, alloc: Global, rows: &[(&str, &str, &str)]) -> Result<(), Fail> {
+/// The first patch of a twin that makes something else of its tree, or none.
+fn first_wrong<'a>(alloc: Global, rows: &[(&str, &'a str, &str)]) -> Result<Option<&'a str>, Fail> {
     for (tree, patch, line) in rows {
-        assert_eq!(rt;
-            outcome(alloc, tree, patch, PatchOf::Twin)?.as_str(),
-            *line,
-            "{patch}"
-        );
+        if !makes(alloc, tree, patch, PatchOf::Twin, line)? {
+            return Ok(Some(patch));
+        }
     }
-    Ok(())
+    Ok(None)
 }
 
-/// What the patches make of one tree.
-fn judges(rt: &impl Abort, alloc: Global, rows: &[(&str, PatchOf, &str)]) -> Result<(), Fail> {
+/// The first patch that makes something else of one tree, or none.
+fn first_misjudged<'a>(
+    alloc: Global,
+    rows: &[(&'a str, PatchOf, &str)],
+) -> Result<Option<&'a str>, Fail> {
+    let tree = r#"{"b":{"d":1,"c":2},"a":{"~/":0}}"#;
     for (patch, of, line) in rows {
-        assert_eq!(rt;
-            outcome(alloc, r#"{"b":{"d":1,"c":2},"a":{"~/":0}}"#, patch, *of)?.as_str(),
-            *line,
-            "{patch}"
-        );
+        if !makes(alloc, tree, patch, *of, line)? {
+            return Ok(Some(patch));
+        }
     }
-    Ok(())
+    Ok(None)
 }
 
 #[test]
 fn applies_as_the_public_vectors_say(rt: HostRuntime) -> Result<(), Fail> {
-    applies(&rt, rt.alloc(), &EXAMPLES)?;
-    applies(&rt, rt.alloc(), &VECTORS)?;
-    applies(&rt, rt.alloc(), &FURTHER)
+    for rows in [EXAMPLES.as_slice(), VECTORS.as_slice(), FURTHER.as_slice()] {
+        assert_eq!(rt; first_wrong(rt.alloc(), rows)?, None);
+    }
+    Ok(())
 }
 
 #[test]
 fn names_the_least_fault(rt: HostRuntime) -> Result<(), Fail> {
-    judges(&rt, rt.alloc(), &FAULTS)?;
-    judges(&rt, rt.alloc(), &OUTCOMES)
+    for rows in [FAULTS.as_slice(), OUTCOMES.as_slice()] {
+        assert_eq!(rt; first_misjudged(rt.alloc(), rows)?, None);
+    }
+    Ok(())
+}
+
+/// Whether a patch with a path of so many parts is one.
+fn is_patch(alloc: Global, parts: usize) -> Result<bool, Fail> {
+    let mut text = String::from_str(alloc, r#"[{"op":"remove","path":""#)?;
+    for _ in 0..parts {
+        text.push_str("/a")?;
+    }
+    text.push_str(r#""}]"#)?;
+    let patch = patch_of(alloc, text.as_str(), PatchOf::Twin)?;
+    let is_patch = patch.is_ok();
+    drop((text, patch));
+    Ok(is_patch)
 }
 
 #[test]
 fn bounds_the_parts_of_a_path(rt: HostRuntime) -> Result<(), Fail> {
     for (parts, fits) in [(64, true), (65, false)] {
-        let mut text = String::from_str(rt.alloc(), r#"[{"op":"remove","path":""#)?;
-        for _ in 0..parts {
-            text.push_str("/a")?;
-        }
-        text.push_str(r#""}]"#)?;
-        let patch = read(rt.alloc(), text.as_bytes())?;
-        assert_eq!(rt;
-            read_patch(rt.alloc(), &patch, PatchOf::Twin).is_ok(),
-            fits,
-            "{parts}"
-        );
+        assert!(rt; is_patch(rt.alloc(), parts)? == fits, "{parts}");
     }
     Ok(())
 }

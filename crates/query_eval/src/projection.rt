@@ -32,8 +32,12 @@ fn put_item(
         return Ok(());
     };
     let value = found.into_tree(alloc)?;
-    let name = item.out.copy(alloc)?;
-    let _old = values.insert(name, value)?;
+    let Ok(name) = item.out.copy(alloc) else {
+        drop(value);
+        return Err(OutOfMemory);
+    };
+    let old = values.insert(name, value)?;
+    drop(old);
     Ok(())
 }
 
@@ -57,7 +61,10 @@ fn item_values(
 fn object_of(alloc: Global, values: BTreeMap<Text, Tree>) -> Result<Tree, OutOfMemory>
     ensures { IfOk result (λ tree. tree_view tree ≡ object (values_view values.entries)) }
 {
-    let mut members = Vec::with_capacity(alloc, values.len())?;
+    let Ok(mut members) = Vec::with_capacity(alloc, values.len()) else {
+        drop(values);
+        return Err(OutOfMemory);
+    };
     'values: for (key, value) in values {
         members.push(Member { key, value })?;
     }

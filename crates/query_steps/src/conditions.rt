@@ -8,6 +8,7 @@ ghost use Rattle.query_grammar.specs.declared.state.Goal.TheVariants as goals;
 ghost use Rattle.query_grammar.specs.Machinery.Steps.{closed, closed_step, is_mark, when, negating, inside, with_room, path_begun, factor_step, literal_step, takes_literal, operand_step, behind_factor_step, behind_left_step, behind_step, operand_path, path_step, field_step};
 
 use crate::building::{closed, left_chain, term_of, with_either};
+use crate::leaving::{let_go, let_terms_go};
 use crate::noting::path_noted;
 use crate::tests_of_tokens::{is_dot, is_mark, when};
 use dt_base::{List, OutOfMemory, Text};
@@ -35,12 +36,12 @@ fn behind_not(notes: Notes, around: Around) -> Result<Option<State>, OutOfMemory
 {
     let mut around = around;
     if around.room == 0 {
-        drop((notes, around));
+        let_go(notes, around);
         return Ok(None);
     }
     around.room -= 1;
     let Ok(()) = count_not(&mut around.chain) else {
-        drop((notes, around));
+        let_go(notes, around);
         return Err(OutOfMemory);
     };
     Ok(Some(State::Factor(notes, around)))
@@ -51,7 +52,7 @@ fn behind_open(notes: Notes, around: Around) -> Result<Option<State>, OutOfMemor
     ensures { IfOk result (λ s. s ≡ with_room around.room (λ room. states.Factor notes (inside around room))) }
 {
     if around.room == 0 {
-        drop((notes, around));
+        let_go(notes, around);
         return Ok(None);
     }
     let Around {
@@ -114,13 +115,21 @@ pub(crate) fn factor(
     ensures { IfOk result (λ s. s ≡ factor_step notes around at token) }
 {
     match token {
-        Token::Name(Word::Not, _) => behind_not(notes, around),
-        Token::Mark(Mark::Open) => behind_open(notes, around),
-        Token::Name(Word::Is(kind), _) => {
+        Token::Name(Word::Not, name) => {
+            drop(name);
+            behind_not(notes, around)
+        }
+        Token::Mark(Mark::Open) => {
+            drop(token);
+            behind_open(notes, around)
+        }
+        Token::Name(Word::Is(kind), name) => {
+            drop(name);
             let room = around.room;
             Ok(with_room(room, State::FunctionOpen(notes, around, Goal::Is(kind))))
         }
-        Token::Name(Word::Part(kind), _) => {
+        Token::Name(Word::Part(kind), name) => {
+            drop(name);
             let room = around.room;
             Ok(with_room(room, State::FunctionOpen(notes, around, Goal::First(kind))))
         }
@@ -132,12 +141,22 @@ pub(crate) fn factor(
             ))
         }
         Token::Name(Word::Alias, name) => path_begun(alloc, notes, around, Goal::Left, at, name),
-        Token::Name(Word::True, _) => Ok(Some(left_literal(notes, around, Literal::Truth(true)))),
-        Token::Name(Word::False, _) => Ok(Some(left_literal(notes, around, Literal::Truth(false)))),
+        Token::Name(Word::True, name) => {
+            drop(name);
+            Ok(Some(left_literal(notes, around, Literal::Truth(true))))
+        }
+        Token::Name(Word::False, name) => {
+            drop(name);
+            Ok(Some(left_literal(notes, around, Literal::Truth(false))))
+        }
         Token::Number(number) => Ok(Some(left_literal(notes, around, Literal::Number(number)))),
-        Token::Text(text, _) => Ok(Some(left_literal(notes, around, Literal::Word(text)))),
+        Token::Text(text, model) => {
+            drop(model);
+            Ok(Some(left_literal(notes, around, Literal::Word(text))))
+        }
         other => {
-            drop((notes, around, other));
+            let_go(notes, around);
+            drop(other);
             Ok(None)
         }
     }
@@ -180,12 +199,22 @@ pub(crate) fn operand(
 {
     match token {
         Token::Name(Word::Alias, name) => path_begun(alloc, notes, around, goal, at, name),
-        Token::Name(Word::True, _) => Ok(literal(notes, around, goal, Literal::Truth(true))),
-        Token::Name(Word::False, _) => Ok(literal(notes, around, goal, Literal::Truth(false))),
+        Token::Name(Word::True, name) => {
+            drop(name);
+            Ok(literal(notes, around, goal, Literal::Truth(true)))
+        }
+        Token::Name(Word::False, name) => {
+            drop(name);
+            Ok(literal(notes, around, goal, Literal::Truth(false)))
+        }
         Token::Number(number) => Ok(literal(notes, around, goal, Literal::Number(number))),
-        Token::Text(text, _) => Ok(literal(notes, around, goal, Literal::Word(text))),
+        Token::Text(text, model) => {
+            drop(model);
+            Ok(literal(notes, around, goal, Literal::Word(text)))
+        }
         other => {
-            drop((notes, around, goal, other));
+            let_go(notes, around);
+            drop((goal, other));
             Ok(None)
         }
     }
@@ -250,7 +279,8 @@ pub(crate) fn behind_factor(
             left_chain(alloc, notes, head, chains, whole)
         }
         _ => {
-            drop((notes, head, before, built, chains));
+            let_terms_go(before, built);
+            drop((notes, head, chains));
             Ok(None)
         }
     }
@@ -266,7 +296,8 @@ fn behind_left(notes: Notes, around: Around, operand: Operand, token: &Token) ->
         Token::Name(Word::In, _) => Some(State::ListOpen(notes, around, operand, true)),
         Token::Name(Word::Nin, _) => Some(State::ListOpen(notes, around, operand, false)),
         _ => {
-            drop((notes, around, operand));
+            let_go(notes, around);
+            drop(operand);
             None
         }
     }
@@ -307,7 +338,10 @@ fn path_of(alloc: Global, operand: Operand) -> List<Text>
 {
     match operand {
         Operand::Path(path) => path,
-        Operand::Value(_) => List::new(alloc),
+        Operand::Value(literal) => {
+            drop(literal);
+            List::new(alloc)
+        }
     }
 }
 
@@ -322,16 +356,21 @@ pub(crate) fn behind(
     ensures { IfOk result (λ s. s ≡ behind_step notes around goal operand token.now) }
 {
     match goal {
-        Goal::Left => Ok(behind_left(notes, around, operand, token)),
+        Goal::Left => {
+            drop(goal);
+            Ok(behind_left(notes, around, operand, token))
+        }
         Goal::Right(left, compare) => {
             let cond = Cond::Compare(left, compare, operand);
             behind_closed(alloc, notes, around, Built { cond }, token)
         }
         Goal::Is(kind) => {
+            drop(goal);
             let cond = Cond::Is(kind, path_of(alloc, operand));
             behind_close(alloc, notes, around, Built { cond }, token)
         }
         Goal::First(kind) => {
+            drop(goal);
             let passes = is_mark(Mark::Comma, token);
             Ok(when(
                 passes,
@@ -358,7 +397,8 @@ pub(crate) fn behind_close(
     if is_mark(Mark::Close, token) {
         closed(alloc, notes, around, factor)
     } else {
-        drop((notes, around, factor));
+        let_go(notes, around);
+        drop(factor);
         Ok(None)
     }
 }
@@ -391,7 +431,8 @@ fn path_longer(
 {
     let mut path = path;
     let Ok(()) = path.push(name) else {
-        drop((notes, around, goal, path));
+        let_go(notes, around);
+        drop((goal, path));
         return Err(OutOfMemory);
     };
     Ok(Some(State::Path(notes, around, goal, path)))
@@ -409,7 +450,8 @@ pub(crate) fn field(
     match token {
         Token::Name(_, name) => path_longer(notes, around, goal, path, name),
         other => {
-            drop((notes, around, goal, path, other));
+            let_go(notes, around);
+            drop((goal, path, other));
             Ok(None)
         }
     }

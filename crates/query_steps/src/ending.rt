@@ -7,6 +7,7 @@ ghost use Rattle.query_grammar.specs.declared.state.State.TheVariants as states;
 ghost use Rattle.query_grammar.specs.Machinery.Steps.{asked_of, end, end_of_chain, end_closed, end_behind, with_join, head_of};
 
 use crate::building::{term_of, with_either};
+use crate::leaving::{let_go, let_terms_go};
 use crate::sourcing::{head_of, joined};
 use dt_base::{OutOfMemory, Text};
 use query_grammar::{Around, Built, Chain, Chains, Goal, Head, Notes, State};
@@ -50,11 +51,16 @@ fn end_of_chain(
     let mut chains = chains;
     match chains.pop() {
         Some(chain) => {
-            drop((notes, head, before, built, chains, chain));
+            let_terms_go(before, built);
+            drop((notes, head, chains, chain));
             Ok(None)
         }
         None => {
-            let whole = with_either(alloc, before, built)?;
+            let Ok(whole) = with_either(alloc, before, built) else {
+                drop((notes, head, chains));
+                return Err(OutOfMemory);
+            };
+            drop(chains);
             Ok(Some((query_of(head, Some(whole)), notes)))
         }
     }
@@ -104,7 +110,8 @@ fn end_behind(
             end_closed(alloc, notes, around, Built { cond })
         }
         other => {
-            drop((notes, around, other, operand));
+            let_go(notes, around);
+            drop((other, operand));
             Ok(None)
         }
     }
@@ -120,7 +127,10 @@ fn end_of_join(
 ) -> Result<Option<(Query, Notes)>, OutOfMemory>
     ensures { IfOk result (λ o. option_map (λ p. (asked p.0, p.1)) o ≡ end (states.JoinAlias notes head target source name)) }
 {
-    let head = joined(head, target, source, name, None)?;
+    let Ok(head) = joined(head, target, source, name, None) else {
+        drop(notes);
+        return Err(OutOfMemory);
+    };
     Ok(Some((query_of(head, None), notes)))
 }
 

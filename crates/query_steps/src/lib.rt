@@ -1,12 +1,13 @@
 //! A reader of queries that takes one token at a time: the state behind a token, and the query behind the last.
 //!
-//! A proof pays for each part of each value that is let go at a way out. So where much is held, one `drop` lets all of it
-//! go, and `let .. else` stands in the place of `?`.
+//! A proof pays for each part of each value that is let go at a way out. So where much is held, one `drop` or a function of
+//! `leaving` lets all of it go, and `let .. else` stands in the place of `?`.
 #![tactic(auto)]
 
 mod building;
 mod conditions;
 mod ending;
+mod leaving;
 mod noting;
 mod selecting;
 mod sourcing;

@@ -18,8 +18,14 @@ pub(crate) fn alias_noted(
 ) -> Result<(Notes, Text), OutOfMemory>
     ensures { IfOk result (λ r. (r.0 ≡ noting_alias notes (at, name)) × (r.1 ≡ name)) }
 {
-    let alias = name.copy(alloc)?;
-    let notes = notes.with_alias(PlacedName { at, name })?;
+    let Ok(alias) = name.copy(alloc) else {
+        drop((notes, name));
+        return Err(OutOfMemory);
+    };
+    let Ok(notes) = notes.with_alias(PlacedName { at, name }) else {
+        drop(alias);
+        return Err(OutOfMemory);
+    };
     Ok((notes, alias))
 }
 
@@ -33,8 +39,14 @@ pub(crate) fn use_noted(
 ) -> Result<(Notes, Text), OutOfMemory>
     ensures { IfOk result (λ r. (r.0 ≡ noting_use notes (at, name) referent) × (r.1 ≡ name)) }
 {
-    let used = name.copy(alloc)?;
-    let notes = notes.with_use(PlacedName { at, name }, referent)?;
+    let Ok(used) = name.copy(alloc) else {
+        drop((notes, name));
+        return Err(OutOfMemory);
+    };
+    let Ok(notes) = notes.with_use(PlacedName { at, name }, referent) else {
+        drop(used);
+        return Err(OutOfMemory);
+    };
     Ok((notes, used))
 }
 
@@ -43,7 +55,10 @@ fn path_of_one(alloc: Global, name: Text) -> Result<List<Text>, OutOfMemory>
     ensures { IfOk result (λ path. path ≡ name ∷ []) }
 {
     let mut path = List::new(alloc);
-    path.push(name)?;
+    let Ok(()) = path.push(name) else {
+        drop(path);
+        return Err(OutOfMemory);
+    };
     Ok(path)
 }
 
@@ -70,7 +85,10 @@ pub(crate) fn path_noted(
     ensures { IfOk result (λ r. (r.0 ≡ noting_use notes (at, name) referents.Path) × (r.1 ≡ name ∷ [])) }
 {
     let (notes, name) = use_noted(alloc, notes, at, name, Referent::Path)?;
-    let path = path_of_one(alloc, name)?;
+    let Ok(path) = path_of_one(alloc, name) else {
+        drop(notes);
+        return Err(OutOfMemory);
+    };
     Ok((notes, path))
 }
 
@@ -83,8 +101,14 @@ pub(crate) fn item_path_noted(
 ) -> Result<(Notes, List<Text>, PlacedName), OutOfMemory>
     ensures { IfOk result (λ r. (r.0 ≡ noting_use notes (at, name) referents.Path) × (r.1 ≡ name ∷ []) × (r.2 ≡ (at, name))) }
 {
-    let last = name.copy(alloc)?;
-    let (notes, path) = path_noted(alloc, notes, at, name)?;
+    let Ok(last) = name.copy(alloc) else {
+        drop((notes, name));
+        return Err(OutOfMemory);
+    };
+    let Ok((notes, path)) = path_noted(alloc, notes, at, name) else {
+        drop(last);
+        return Err(OutOfMemory);
+    };
     Ok((notes, path, PlacedName { at, name: last }))
 }
 
@@ -97,9 +121,11 @@ fn add_item(
 ) -> Result<(), OutOfMemory>
     ensures { OnOk result (items.new ≡ items.old ++ (record { path = path; out = name.now }) ∷ []) }
 {
-    let out = name.copy(alloc)?;
-    items.push(Item { path, out })?;
-    Ok(())
+    let Ok(out) = name.copy(alloc) else {
+        drop(path);
+        return Err(OutOfMemory);
+    };
+    items.push(Item { path, out })
 }
 
 /// The notes with the name of one item more, and the items with it.
@@ -113,7 +139,13 @@ pub(crate) fn item_noted(
     ensures { IfOk result (λ r. (r.0 ≡ noting_output notes placed) × (r.1 ≡ items ++ (record { path = path; out = placed.1 }) ∷ [])) }
 {
     let mut items = items;
-    add_item(alloc, &mut items, path, &placed.name)?;
-    let notes = notes.with_output(placed)?;
+    let Ok(()) = add_item(alloc, &mut items, path, &placed.name) else {
+        drop((notes, items, placed));
+        return Err(OutOfMemory);
+    };
+    let Ok(notes) = notes.with_output(placed) else {
+        drop(items);
+        return Err(OutOfMemory);
+    };
     Ok((notes, items))
 }

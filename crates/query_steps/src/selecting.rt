@@ -38,7 +38,10 @@ fn item_begun(
 ) -> Result<Option<State>, OutOfMemory>
     ensures { IfOk result (λ s. s ≡ Some (item_begun notes top items at name)) }
 {
-    let (notes, path, last) = item_path_noted(alloc, notes, at, name)?;
+    let Ok((notes, path, last)) = item_path_noted(alloc, notes, at, name) else {
+        drop(items);
+        return Err(OutOfMemory);
+    };
     Ok(Some(State::ItemPath(notes, top, items, path, last)))
 }
 
@@ -46,15 +49,22 @@ pub(crate) fn select(alloc: Global, at: u32, token: Token) -> Result<Option<Stat
     ensures { IfOk result (λ s. s ≡ select_step at token) }
 {
     match token {
-        Token::Name(Word::Count, _) => Ok(Some(State::CountOpen)),
-        Token::Name(Word::Top, _) => Ok(Some(State::TopOpen)),
+        Token::Name(Word::Count, name) => {
+            drop(name);
+            Ok(Some(State::CountOpen))
+        }
+        Token::Name(Word::Top, name) => {
+            drop(name);
+            Ok(Some(State::TopOpen))
+        }
         Token::Name(Word::Alias, name) => {
             item_begun(alloc, Notes::new(alloc), None, List::new(alloc), at, name)
         }
-        Token::Mark(Mark::Star) => Ok(Some(State::BehindSelect(
-            Notes::new(alloc),
-            Projection::Star { top: None },
-        ))),
+        Token::Mark(Mark::Star) => {
+            drop(token);
+            let rows = Projection::Star { top: None };
+            Ok(Some(State::BehindSelect(Notes::new(alloc), rows)))
+        }
         other => {
             drop(other);
             Ok(None)
@@ -107,10 +117,11 @@ pub(crate) fn behind_top(
     ensures { IfOk result (λ s. s ≡ behind_top_step size at token) }
 {
     match token {
-        Token::Name(Word::From, _) => Ok(Some(State::Source(
-            Notes::new(alloc),
-            Projection::Star { top: Some(size) },
-        ))),
+        Token::Name(Word::From, name) => {
+            drop(name);
+            let rows = Projection::Star { top: Some(size) };
+            Ok(Some(State::Source(Notes::new(alloc), rows)))
+        }
         Token::Name(Word::Alias, name) => {
             item_begun(
                 alloc,
@@ -121,10 +132,11 @@ pub(crate) fn behind_top(
                 name,
             )
         }
-        Token::Mark(Mark::Star) => Ok(Some(State::BehindSelect(
-            Notes::new(alloc),
-            Projection::Star { top: Some(size) },
-        ))),
+        Token::Mark(Mark::Star) => {
+            drop(token);
+            let rows = Projection::Star { top: Some(size) };
+            Ok(Some(State::BehindSelect(Notes::new(alloc), rows)))
+        }
         other => {
             drop(other);
             Ok(None)
@@ -188,9 +200,11 @@ pub(crate) fn item_path(
     ensures { IfOk result (λ s. s ≡ item_path_step notes top items path last token.now) }
 {
     if is_dot(token) {
+        drop(last);
         return Ok(Some(State::ItemField(notes, top, items, path)));
     }
     if is_as(token) {
+        drop(last);
         return Ok(Some(State::ItemAs(notes, top, items, path)));
     }
     let (notes, items) = item_noted(alloc, notes, items, path, last)?;
@@ -208,7 +222,10 @@ fn item_path_longer(
 ) -> Result<Option<State>, OutOfMemory>
     ensures { IfOk result (λ s. s ≡ Some (states.ItemPath notes top items (path ++ last.1 ∷ []) last)) }
 {
-    let path = with_name(alloc, path, &last.name)?;
+    let Ok(path) = with_name(alloc, path, &last.name) else {
+        drop((notes, items, last));
+        return Err(OutOfMemory);
+    };
     Ok(Some(State::ItemPath(notes, top, items, path, last)))
 }
 

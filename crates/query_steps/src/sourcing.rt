@@ -93,7 +93,8 @@ pub(crate) fn relationships_alias(
 {
     match token {
         Token::Name(Word::Alias, name) => relationships_named(alloc, notes, select, at, name),
-        Token::Name(Word::Where, _) => {
+        Token::Name(Word::Where, name) => {
+            drop(name);
             let head = head_of(alloc, select, true, None);
             Ok(Some(condition_begun(alloc, notes, head)))
         }
@@ -150,11 +151,13 @@ pub(crate) fn twins_alias(
 {
     match token {
         Token::Name(Word::Alias, name) => twins_named(alloc, notes, select, at, name),
-        Token::Name(Word::Join, _) => {
+        Token::Name(Word::Join, name) => {
+            drop(name);
             let head = head_of(alloc, select, false, None);
             Ok(Some(State::JoinTarget(notes, head)))
         }
-        Token::Name(Word::Where, _) => {
+        Token::Name(Word::Where, name) => {
+            drop(name);
             let head = head_of(alloc, select, false, None);
             Ok(Some(condition_begun(alloc, notes, head)))
         }
@@ -281,24 +284,18 @@ pub(crate) fn joined(
 ) -> Result<Head, OutOfMemory>
     ensures { IfOk result (λ h. h ≡ with_join head target from name rel) }
 {
-    let Head {
-        select,
-        relationships,
-        alias,
-        mut joins,
-    } = head;
-    joins.push(Join {
+    let mut head = head;
+    let join = Join {
         target,
         from,
         name,
         rel,
-    })?;
-    Ok(Head {
-        select,
-        relationships,
-        alias,
-        joins,
-    })
+    };
+    let Ok(()) = head.joins.push(join) else {
+        drop(head);
+        return Err(OutOfMemory);
+    };
+    Ok(head)
 }
 
 /// The state behind the alias of the relationships of a join.
@@ -376,8 +373,12 @@ pub(crate) fn join_alias(
         Token::Name(Word::Alias, name) => {
             join_named(alloc, notes, head, target, source, relationship, at, name)
         }
-        Token::Name(Word::Join, _) => join_again(notes, head, target, source, relationship),
-        Token::Name(Word::Where, _) => {
+        Token::Name(Word::Join, name) => {
+            drop(name);
+            join_again(notes, head, target, source, relationship)
+        }
+        Token::Name(Word::Where, name) => {
+            drop(name);
             join_where(alloc, notes, head, target, source, relationship)
         }
         other => {

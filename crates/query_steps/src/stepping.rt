@@ -34,7 +34,11 @@ fn in_selection(
     ensures { IfOk result (λ s. s ≡ step state at token) }
 {
     match state {
-        State::Start => Ok(start(&token)),
+        State::Start => {
+            let next = start(&token);
+            drop(token);
+            Ok(next)
+        }
         State::Select => select(alloc, at, token),
         State::CountOpen => Ok(when_mark(Mark::Open, token, State::CountClose)),
         State::CountClose => {
@@ -42,7 +46,11 @@ fn in_selection(
             Ok(when_mark(Mark::Close, token, next))
         }
         State::TopOpen => Ok(when_mark(Mark::Open, token, State::TopNumber)),
-        State::TopNumber => Ok(top_number(&token)),
+        State::TopNumber => {
+            let next = top_number(&token);
+            drop(token);
+            Ok(next)
+        }
         State::TopClose(size) => Ok(when_mark(Mark::Close, token, State::BehindTop(size))),
         State::BehindTop(size) => behind_top(alloc, size, at, token),
         State::BehindSelect(notes, select) => {
@@ -66,7 +74,9 @@ fn in_items(
     match state {
         State::ItemStart(notes, top, items) => item_start(alloc, notes, top, items, at, token),
         State::ItemPath(notes, top, items, path, last) => {
-            item_path(alloc, notes, top, items, path, last, &token)
+            let next = item_path(alloc, notes, top, items, path, last, &token);
+            drop(token);
+            next
         }
         State::ItemField(notes, top, items, path) => {
             item_field(alloc, notes, top, items, path, at, token)
@@ -74,7 +84,11 @@ fn in_items(
         State::ItemAs(notes, top, items, path) => item_as(
             alloc, notes, top, items, path, at, token,
         ),
-        State::BehindItem(notes, top, items) => Ok(behind_item(notes, top, items, &token)),
+        State::BehindItem(notes, top, items) => {
+            let next = behind_item(notes, top, items, &token);
+            drop(token);
+            Ok(next)
+        }
         _ => unreachable!(),
     }
 }
@@ -91,15 +105,25 @@ fn in_source(
     ensures { IfOk result (λ s. s ≡ step state at token) }
 {
     match state {
-        State::Source(notes, select) => Ok(source(notes, select, &token)),
+        State::Source(notes, select) => {
+            let next = source(notes, select, &token);
+            drop(token);
+            Ok(next)
+        }
         State::RelationshipsAlias(notes, select) => {
             relationships_alias(alloc, notes, select, at, token)
         }
         State::BehindRelationships(notes, head) => {
-            Ok(behind_relationships(alloc, notes, head, &token))
+            let next = behind_relationships(alloc, notes, head, &token);
+            drop(token);
+            Ok(next)
         }
         State::TwinsAlias(notes, select) => twins_alias(alloc, notes, select, at, token),
-        State::BehindTwins(notes, head) => Ok(behind_twins(alloc, notes, head, &token)),
+        State::BehindTwins(notes, head) => {
+            let next = behind_twins(alloc, notes, head, &token);
+            drop(token);
+            Ok(next)
+        }
         _ => unreachable!(),
     }
 }
@@ -147,7 +171,11 @@ fn in_path(alloc: Global, state: State, at: u32, token: Token) -> Result<Option<
     ensures { IfOk result (λ s. s ≡ step state at token) }
 {
     match state {
-        State::Path(notes, around, goal, names) => path(alloc, notes, around, goal, names, &token),
+        State::Path(notes, around, goal, names) => {
+            let next = path(alloc, notes, around, goal, names, &token);
+            drop(token);
+            next
+        }
         State::Field(notes, around, goal, names) => field(notes, around, goal, names, token),
         _ => unreachable!(),
     }
@@ -168,7 +196,9 @@ fn in_operands(
         State::Factor(notes, around) => factor(alloc, notes, around, at, token),
         State::Operand(notes, around, goal) => operand(alloc, notes, around, goal, at, token),
         State::Behind(notes, around, goal, operand) => {
-            behind(alloc, notes, around, goal, operand, &token)
+            let next = behind(alloc, notes, around, goal, operand, &token);
+            drop(token);
+            next
         }
         _ => unreachable!(),
     }
@@ -197,10 +227,14 @@ fn in_lists(
             list_item(notes, around, operand, within, literals, token)
         }
         State::BehindListItem(notes, around, operand, within, literals) => {
-            behind_list_item(alloc, notes, around, operand, within, literals, &token)
+            let next = behind_list_item(alloc, notes, around, operand, within, literals, &token);
+            drop(token);
+            next
         }
         State::BehindFactor(notes, head, before, built, chains, room) => {
-            behind_factor(alloc, notes, head, before, built, chains, room, &token)
+            let next = behind_factor(alloc, notes, head, before, built, chains, room, &token);
+            drop(token);
+            next
         }
         _ => unreachable!(),
     }
@@ -233,16 +267,24 @@ fn in_model_test(
         }
         State::ModelText(notes, around, twin) => Ok(model_text(notes, around, twin, token)),
         State::BehindModel(notes, around, twin, model) => {
-            behind_model(alloc, notes, around, twin, model, &token)
+            let next = behind_model(alloc, notes, around, twin, model, &token);
+            drop(token);
+            next
         }
-        State::Exact(notes, around, twin, model) => Ok(exact(notes, around, twin, model, &token)),
+        State::Exact(notes, around, twin, model) => {
+            let next = exact(notes, around, twin, model, &token);
+            drop(token);
+            Ok(next)
+        }
         State::ModelClose(notes, around, twin, model) => {
             let cond = Cond::OfModel {
                 twin,
                 model,
                 exact: true,
             };
-            behind_close(alloc, notes, around, Built { cond }, &token)
+            let next = behind_close(alloc, notes, around, Built { cond }, &token);
+            drop(token);
+            next
         }
         _ => unreachable!(),
     }

@@ -6,6 +6,7 @@ ghost use Rattle.query_grammar.specs.declared.state.State.TheVariants as states;
 ghost use Rattle.query_grammar.specs.Machinery.Steps.{noting_use, one_literal_more, list_item_step, behind_list_item_step, model_start_step, model_text_step, behind_model_step, exact_step};
 
 use crate::building::{closed, membership};
+use crate::leaving::let_go;
 use crate::noting::use_noted;
 use crate::tests_of_tokens::when;
 use dt_base::names::Dtmi;
@@ -28,7 +29,8 @@ fn one_literal_more(
 {
     let mut literals = literals;
     let Ok(()) = literals.push(literal) else {
-        drop((notes, around, operand, literals));
+        let_go(notes, around);
+        drop((operand, literals));
         return Err(OutOfMemory);
     };
     Ok(Some(State::BehindListItem(notes, around, operand, within, literals)))
@@ -45,7 +47,8 @@ pub(crate) fn list_item(
     ensures { IfOk result (λ s. s ≡ list_item_step notes around operand within literals token) }
 {
     match token {
-        Token::Name(Word::True, _) => {
+        Token::Name(Word::True, name) => {
+            drop(name);
             one_literal_more(
                 notes,
                 around,
@@ -55,7 +58,8 @@ pub(crate) fn list_item(
                 Literal::Truth(true),
             )
         }
-        Token::Name(Word::False, _) => {
+        Token::Name(Word::False, name) => {
+            drop(name);
             one_literal_more(
                 notes,
                 around,
@@ -75,7 +79,8 @@ pub(crate) fn list_item(
                 Literal::Number(number),
             )
         }
-        Token::Text(text, _) => {
+        Token::Text(text, model) => {
+            drop(model);
             one_literal_more(
                 notes,
                 around,
@@ -86,7 +91,8 @@ pub(crate) fn list_item(
             )
         }
         other => {
-            drop((notes, around, operand, literals, other));
+            let_go(notes, around);
+            drop((operand, literals, other));
             Ok(None)
         }
     }
@@ -111,7 +117,8 @@ pub(crate) fn behind_list_item(
             closed(alloc, notes, around, membership(within, operand, literals))
         }
         _ => {
-            drop((notes, around, operand, literals));
+            let_go(notes, around);
+            drop((operand, literals));
             Ok(None)
         }
     }
@@ -161,16 +168,24 @@ pub(crate) fn model_start(
     ensures { IfOk result (λ s. s ≡ model_start_step notes around spot at token) }
 {
     match token {
-        Token::Name(Word::Alias, name) => model_named(alloc, notes, around, at, name),
-        Token::Text(_, model) => match model {
-            Some(model) => model_bare(notes, around, spot, model),
-            None => {
-                drop((notes, around, spot));
-                Ok(None)
+        Token::Name(Word::Alias, name) => {
+            drop(spot);
+            model_named(alloc, notes, around, at, name)
+        }
+        Token::Text(text, model) => {
+            drop(text);
+            match model {
+                Some(model) => model_bare(notes, around, spot, model),
+                None => {
+                    let_go(notes, around);
+                    drop(spot);
+                    Ok(None)
+                }
             }
-        },
+        }
         other => {
-            drop((notes, around, spot, other));
+            let_go(notes, around);
+            drop((spot, other));
             Ok(None)
         }
     }
@@ -185,15 +200,20 @@ pub(crate) fn model_text(
     ensures { result ≡ model_text_step notes around twin token }
 {
     match token {
-        Token::Text(_, model) => match model {
-            Some(model) => Some(State::BehindModel(notes, around, twin, model)),
-            None => {
-                drop((notes, around, twin));
-                None
+        Token::Text(text, model) => {
+            drop(text);
+            match model {
+                Some(model) => Some(State::BehindModel(notes, around, twin, model)),
+                None => {
+                    let_go(notes, around);
+                    drop(twin);
+                    None
+                }
             }
-        },
+        }
         other => {
-            drop((notes, around, twin, other));
+            let_go(notes, around);
+            drop((twin, other));
             None
         }
     }
@@ -220,7 +240,8 @@ pub(crate) fn behind_model(
             closed(alloc, notes, around, Built { cond })
         }
         _ => {
-            drop((notes, around, twin, model));
+            let_go(notes, around);
+            drop((twin, model));
             Ok(None)
         }
     }
@@ -241,7 +262,8 @@ pub(crate) fn exact(
             when(passes, State::ModelClose(notes, around, twin, model))
         }
         _ => {
-            drop((notes, around, twin, model));
+            let_go(notes, around);
+            drop((twin, model));
             None
         }
     }

@@ -101,12 +101,16 @@ pub(crate) fn when(passes: bool, state: State) -> Option<State>
 pub(crate) fn when_mark(mark: Mark, token: Token, state: State) -> Option<State>
     ensures { result ≡ when (is_mark mark token) state }
 {
-    when(is_mark(mark, &token), state)
+    let passes = is_mark(mark, &token);
+    drop(token);
+    when(passes, state)
 }
 
 /// The state, where the token is this word.
 pub(crate) fn when_word(word: Word, token: Token, state: State) -> Option<State>
     ensures { result ≡ when (is_word word token) state }
 {
-    when(is_word(word, &token), state)
+    let passes = is_word(word, &token);
+    drop(token);
+    when(passes, state)
 }

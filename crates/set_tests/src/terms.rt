@@ -33,15 +33,19 @@ fn put(set: &mut ModelSet, interface: Interface) -> Result<(), Fail> {
     Ok(())
 }
 
-#[test]
-fn keeps_a_set(rt: HostRuntime) -> Result<(), Fail> {
-    let alloc = rt.alloc();
+/// A set of three interfaces.
+fn set_of_three(alloc: Global) -> Result<ModelSet, Fail> {
     let mut set = ModelSet::new(alloc);
     for id in ["dtmi:b;9", "dtmi:a;1", "dtmi:b;10"] {
         let mut next = interface(alloc)?;
         next.id = Dtmi::read(alloc, id)?;
         put(&mut set, next)?;
     }
+    Ok(set)
+}
+
+/// The identifiers in a set, in its order, each with a space behind it.
+fn ids_in(alloc: Global, set: &ModelSet) -> Result<String, Fail> {
     let mut seen = String::new(alloc);
     let mut at = set.after(None);
     for _ in 0..3 {
@@ -50,13 +54,37 @@ fn keeps_a_set(rt: HostRuntime) -> Result<(), Fail> {
         seen.push(' ')?;
         at = set.after(Some(&interface.id));
     }
-    assert_eq!(rt; seen.as_str(), "dtmi:a;1 dtmi:b;10 dtmi:b;9 ");
+    Ok(seen)
+}
+
+/// The version of an interface that a set of three lets go, where the others stay.
+fn removed_from(set: &mut ModelSet, id: &Dtmi) -> Option<u32> {
+    let removed = set.remove(id);
+    let version = removed.as_ref().map(|interface| interface.id.version());
+    drop(removed);
+    if set.get(id).is_some() || set.len() != 2 {
+        return None;
+    }
+    version
+}
+
+/// The identifiers in a set of three, and the version of the one that it then lets go.
+fn kept(alloc: Global) -> Result<String, Fail> {
     let id = Dtmi::read(alloc, "dtmi:b;10")?;
+    let mut set = set_of_three(alloc)?;
+    let seen = ids_in(alloc, &set);
+    let version = removed_from(&mut set, &id);
+    drop((set, id));
+    let version = version.unwrap_or(0);
+    Ok(format!(in alloc; "{}{version}", seen?.as_str())?)
+}
+
+#[test]
+fn keeps_a_set(rt: HostRuntime) -> Result<(), Fail> {
     assert_eq!(rt;
-        set.remove(&id).map(|interface| interface.id.version()),
-        Some(10)
+        kept(rt.alloc())?.as_str(),
+        "dtmi:a;1 dtmi:b;10 dtmi:b;9 10"
     );
-    assert!(rt; set.get(&id).is_none() && set.len() == 2);
     Ok(())
 }
 

@@ -1,5 +1,6 @@
 -- Keys that begin with no `$` are none of the words that do.
-use Rattle.std.proofs.Common.{◌≡◌, ℕ, List, [], ◌∷◌, ◌&&◌, Bool, false, codes, bytes_eq, refl, ap}
+use Rattle.std.proofs.Common.{◌≡◌, ℕ, List, [], ◌∷◌, ◌&&◌, Bool, false, codes, bytes_eq, true, refl, sym, ap, ◌∙◌}
+use Rattle.std.specs.Prelude.{if◌then◌else◌}
 use Rattle.twin_value.specs.Machinery.Dollar.{begins_with_dollar}
 
 no_word : (key word : List ℕ) → begins_with_dollar key ≡ false → bytes_eq key (36 ∷ word) ≡ false
@@ -28,3 +29,10 @@ pub no_source : (key : List ℕ) → begins_with_dollar key ≡ false → bytes_
 no_source key e = no_word key (codes "sourceId") e
 
 pub ruleset unmarked = (no_metadata, no_twin_id, no_etag, no_target, no_name, no_link_id, no_source)
+
+-- ---- what words stand for, one after another
+pub by_word : {X : Type 0} (b : Bool) (x y : X) → b ≡ true → x ≡ (if b then x else y)
+by_word b x y e = ap (λ (c : Bool). if c then x else y) (sym e)
+
+pub by_later : {X : Type 0} (b : Bool) (w x y : X) → b ≡ false → w ≡ y → w ≡ (if b then x else y)
+by_later b w x y e h = h ∙ ap (λ (c : Bool). if c then x else y) (sym e)

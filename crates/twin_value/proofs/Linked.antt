@@ -1,5 +1,5 @@
 -- Schemas of interfaces, properties of relationships and members, by their names.
-use Rattle.std.proofs.Common.{◌≡◌, ℕ, zero, suc, ◌<◌, ◌≤◌, List, [], ◌∷◌, length, get_or, drop, map, Bool, true, false, Option, Some, None, cond, unwrap_or, refl, sym, ap, ◌∙◌, arith, bytes_eq}
+use Rattle.std.proofs.Common.{◌≡◌, ℕ, zero, suc, ◌+◌, add-one, ◌<◌, ◌≤◌, List, [], ◌∷◌, length, get_or, drop, map, Bool, true, false, not, Option, Some, None, cond, unwrap_or, refl, sym, ap, ◌∙◌, arith, bytes_eq}
 use Rattle.std.specs.Prelude.{if◌then◌else◌}
 use Rattle.std.specs.Borrow.{Bor}
 use Rattle.std.specs.List.{find, AllByRecursion}
@@ -66,7 +66,35 @@ property_role_lost l from f q ps o e h is =
     ap (λ (x : Option (Bor Identifier)). link_property_role l (option_map (λ (y : Bor Identifier). y.now) x) (property_called q (contents_term ps))) e
     ∙ ap (link_property_role l (Some f.now)) (property_found q ps ∙ ap (option_map content_term) (sym h ∙ ap (option_map (λ (c : Bor Content). c.now)) is))
 
+-- ---- the first that passes, from a position on
+pub find_next : {X : Type 0} (p : X → Bool) (xs : List X) (i : ℕ) (x : X) → i < length xs → x ≡ get_or xs i x → p x ≡ false → find p (drop i xs) ≡ find p (drop (suc i) xs)
+find_next p [] i x within is other = absurd (omega (arith, within))
+find_next {X} p (y ∷ ys) zero x within is other = ap (λ (b : Bool). cond b (Some y) (find p ys)) (ap p (sym is) ∙ other)
+find_next p (y ∷ ys) (suc i) x within is other = find_next p ys i x (omega (arith, within)) is other
+
+pub find_here : {X : Type 0} (p : X → Bool) (xs : List X) (i : ℕ) (x : X) → i < length xs → x ≡ get_or xs i x → p x ≡ true → find p (drop i xs) ≡ Some x
+find_here p [] i x within is same = absurd (omega (arith, within))
+find_here {X} p (y ∷ ys) zero x within is same = ap (λ (b : Bool). cond b (Some y) (find p ys)) (ap p (sym is) ∙ same) ∙ ap Some (sym is)
+find_here p (y ∷ ys) (suc i) x within is same = find_here p ys i x (omega (arith, within)) is same
+
+pub find_past : {X : Type 0} (p : X → Bool) (xs : List X) (i : ℕ) → length xs ≤ i → find p (drop i xs) ≡ None
+find_past p [] zero past = refl
+find_past p [] (suc i) past = refl
+find_past p (y ∷ ys) zero past = absurd (omega (arith, past))
+find_past p (y ∷ ys) (suc i) past = find_past p ys i (omega (arith, past))
+
+pub find_on : {X : Type 0} (p : X → Bool) (xs : List X) (i : ℕ) (x : X) → i < length xs → x ≡ get_or xs i x → p x ≡ false → find p (drop (i + 1) xs) ≡ find p (drop i xs)
+find_on p xs i x within is other = ap (λ (n : ℕ). find p (drop n xs)) (add-one i) ∙ sym (find_next p xs i x within is other)
+
 -- ---- positions of members
+pub untrue : (b : Bool) → not b ≡ true → b ≡ false
+untrue true e = cc
+untrue false e = refl
+
+pub unfalse : (b : Bool) → not b ≡ false → b ≡ true
+unfalse true e = refl
+unfalse false e = cc
+
 pub position_next : (key : List ℕ) (ms : List Member) (i : ℕ) (m : Member) → i < length ms → m ≡ get_or ms i m → bytes_eq m.key key ≡ false
     → key_position key (members_view (drop i ms)) ≡ suc (key_position key (members_view (drop (suc i) ms)))
 position_next key [] i m within is other = absurd (omega (arith, within))

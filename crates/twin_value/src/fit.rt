@@ -46,8 +46,9 @@ pub fn fit_value(
         (λ b. IsFirstBodyBreach (IsValueBreach named.now schema.now (view tree.now)) b.0.steps b.1)) }
 {
     let index = Index::of(alloc, named)?;
-    let found = first_in(tree, alloc, value_of(&index, schema))?;
-    match found {
+    let found = first_in(tree, alloc, value_of(&index, schema));
+    drop(index);
+    match found? {
         Some(found) => Ok(Some(breach_of(found))),
         None => Ok(None),
     }

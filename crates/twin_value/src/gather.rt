@@ -45,7 +45,10 @@ pub fn push_made(
 ) -> Result<(), OutOfMemory>
     ensures { OnOk result ((v : Json) → IsSortedOf v (view value) → PutsBehind members.old.items members.new.items (member key.now v no_members)) }
 {
-    let key = Text::from_str(alloc, key)?;
+    let Ok(key) = Text::from_str(alloc, key) else {
+        drop(value);
+        return Err(OutOfMemory);
+    };
     members.push(Member { key, value })?;
     Ok(())
 }
@@ -159,7 +162,10 @@ pub fn values_of(alloc: Global, from: &[Member], keys: &Keys) -> Result<Tree, Ou
     let mut members = Vec::with_capacity(alloc, from.len())?;
     for member in from {
         let passes = is_value(keys.role(member.key.as_str()));
-        push_if(&mut members, alloc, passes, member)?;
+        let Ok(()) = push_if(&mut members, alloc, passes, member) else {
+            drop(members);
+            return Err(OutOfMemory);
+        };
     }
     Ok(ordered(members))
 }
@@ -172,9 +178,31 @@ pub fn bare_part(alloc: Global, part: &Tree) -> Result<Tree, OutOfMemory>
     let mut members = Vec::with_capacity(alloc, from.len())?;
     for member in from {
         let passes = member.key.as_str() != "$metadata";
-        push_if(&mut members, alloc, passes, member)?;
+        let Ok(()) = push_if(&mut members, alloc, passes, member) else {
+            drop(members);
+            return Err(OutOfMemory);
+        };
     }
     Ok(ordered(members))
+}
+
+/// Puts the members that are properties behind some, and those that are components, without their `$metadata`, behind others.
+fn push_each(
+    values: &mut Vec<Member>,
+    parts: &mut Vec<Member>,
+    alloc: Global,
+    from: &[Member],
+    keys: &Keys,
+) -> Result<(), OutOfMemory>
+    ensures values { OnOk result (PutsBehind values.old.items values.new.items (picked (λ key. is_value_role (keys_role keys.now key)) same_value (members_view from.now))) }
+    ensures parts { OnOk result (PutsBehind parts.old.items parts.new.items (picked (λ key. is_part_role (keys_role keys.now key)) without_metadata (members_view from.now))) }
+{
+    for member in from {
+        let role = keys.role(member.key.as_str());
+        push_if(values, alloc, is_value(role), member)?;
+        push_part_if(parts, alloc, is_part(role), member)?;
+    }
+    Ok(())
 }
 
 /// The members that are properties, and those that are components, each of these without its `$metadata`; both sorted.
@@ -188,10 +216,9 @@ pub fn values_and_parts(
 {
     let mut values = Vec::with_capacity(alloc, from.len())?;
     let mut parts = Vec::new(alloc);
-    for member in from {
-        let role = keys.role(member.key.as_str());
-        push_if(&mut values, alloc, is_value(role), member)?;
-        push_part_if(&mut parts, alloc, is_part(role), member)?;
-    }
+    let Ok(()) = push_each(&mut values, &mut parts, alloc, from, keys) else {
+        drop((values, parts));
+        return Err(OutOfMemory);
+    };
     Ok((ordered(values), ordered(parts)))
 }

@@ -1,6 +1,6 @@
 //! Items by their names, each looked up in logarithmic time, or one by one where they are few.
 
-ghost use Rattle.std.specs.Prelude.{◌≡◌, ◌<◌, ℕ, List, length, IfOk, OnOk};
+ghost use Rattle.std.specs.Prelude.{◌≡◌, ◌<◌, ℕ, List, Some, length, bytes_eq, if◌then◌else◌, IfOk, OnOk};
 ghost use Rattle.std.specs.Option.{option_map, option_or};
 ghost use Rattle.std.specs.List.{find};
 ghost use Rattle.std.specs.Ordering.{nat_cmp};
@@ -76,6 +76,20 @@ fn add_item<'a, T: Keyed>(
         Some(name) => add_name(places, name, item),
         None => Ok(()),
     }
+}
+
+/// Gives a name a value, in the place of the one that it may have.
+pub fn put<'a, V: Drop>(
+    values: &mut BTreeMap<&'a str, V>,
+    name: &'a str,
+    value: V,
+) -> Result<(), OutOfMemory>
+    ensures { OnOk result ((q : List ℕ) → get_by (λ k. slice_cmp nat_cmp q k.now) values.new
+        ≡ (if bytes_eq name.now q then Some value else get_by (λ k. slice_cmp nat_cmp q k.now) values.old)) }
+{
+    let before = values.insert(name, value)?;
+    drop(before);
+    Ok(())
 }
 
 /// Adds a name, unless it is there.

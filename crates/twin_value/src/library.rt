@@ -13,7 +13,7 @@ ghost use Rattle.twin_value.specs.Roles.{schemas_from, contents_in};
 ghost use Rattle.twin_value.specs.Named.{part_of};
 ghost use Rattle.twin_value.specs.Machinery.Indexes.{AreSchemas, LeadsToSchemas, is_there};
 
-use crate::index::{Index, Keyed};
+use crate::index::{Index, Keyed, put};
 use dt_base::OutOfMemory;
 use dt_base::names::Dtmi;
 use dtdl_terms::{NamedIn, PartOf, Resolved, ResolvedContent, Schema};
@@ -41,7 +41,10 @@ fn schemas_of<'a>(
 {
     let mut schemas = BTreeMap::new(alloc);
     for one in named {
-        add_schemas(&mut schemas, alloc, one)?;
+        let Ok(()) = add_schemas(&mut schemas, alloc, one) else {
+            drop(schemas);
+            return Err(OutOfMemory);
+        };
     }
     Ok(schemas)
 }
@@ -60,8 +63,7 @@ fn add_schemas<'a>(
         return Ok(());
     }
     let index = Index::of(alloc, one.schemas.as_slice())?;
-    schemas.insert(of, index)?;
-    Ok(())
+    put(schemas, of, index)
 }
 
 /// Whether an interface declares schemas.
@@ -142,8 +144,14 @@ impl<'a> Library<'a> {
         ensures { IfOk result (λ library. library ≡ record { named = named.now; parts = parts.now }) }
     {
         let schemas = schemas_if_any(alloc, named)?;
-        let parts = Index::of(alloc, parts)?;
-        let none = Index::of(alloc, &[])?;
+        let Ok(parts) = Index::of(alloc, parts) else {
+            drop(schemas);
+            return Err(OutOfMemory);
+        };
+        let Ok(none) = Index::of(alloc, &[]) else {
+            drop((schemas, parts));
+            return Err(OutOfMemory);
+        };
         Ok(Library {
             named,
             schemas,

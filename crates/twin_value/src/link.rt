@@ -131,8 +131,46 @@ fn link_values(alloc: Global, tree: &Tree, role: Role) -> Result<Tree, OutOfMemo
     ensures { IfOk result (λ t. IsSortedOf (object (picked (λ key. is_value_role (body_member_role (role_view role.entry) key)) same_value (members_in (view tree.now)))) (view t)) }
 {
     let keys = Keys::of(alloc, role)?;
-    let values = values_of(alloc, members_in(tree), &keys)?;
-    Ok(values)
+    let values = values_of(alloc, members_in(tree), &keys);
+    drop(keys);
+    values
+}
+
+/// Two texts in memory of their own.
+fn texts(alloc: Global, first: &str, second: &str) -> Result<(Text, Text), OutOfMemory>
+    ensures { IfOk result (λ t. (t.0 ≡ first.now) × (t.1 ≡ second.now)) }
+{
+    let first = Text::from_str(alloc, first)?;
+    let Ok(second) = Text::from_str(alloc, second) else {
+        drop(first);
+        return Err(OutOfMemory);
+    };
+    Ok((first, second))
+}
+
+/// A relationship with nothing yet of its properties.
+fn bare_link(
+    alloc: Global,
+    source: &str,
+    id: &str,
+    name: &str,
+    target: &str,
+) -> Result<Edge<()>, OutOfMemory>
+    ensures ends { IfOk result (λ e. (e.source ≡ source.now) × (e.target ≡ target.now)) }
+    ensures names { IfOk result (λ e. (e.id ≡ id.now) × (e.name ≡ name.now)) }
+{
+    let (source, id) = texts(alloc, source, id)?;
+    let Ok((name, target)) = texts(alloc, name, target) else {
+        drop((source, id));
+        return Err(OutOfMemory);
+    };
+    Ok(Edge {
+        source,
+        id,
+        name,
+        target,
+        payload: (),
+    })
 }
 
 /// The relationship of a source and an identifier for which a body without breach stands.
@@ -147,11 +185,20 @@ fn link_from(
     requires target { IsSome (text_under (codes "$targetId") (view tree.now)) }
     ensures { IfOk result (IsLinkOf (role_view role.entry) source.now id.now (view tree.now)) }
 {
-    let source = Text::from_str(alloc, source)?;
-    let id = Text::from_str(alloc, id)?;
-    let name = Text::from_str(alloc, text_under(tree, "$relationshipName"))?;
-    let target = Text::from_str(alloc, text_under(tree, "$targetId"))?;
-    let payload = link_values(alloc, tree, role)?;
+    let name = text_under(tree, "$relationshipName");
+    let target = text_under(tree, "$targetId");
+    let bare = bare_link(alloc, source, id, name, target)?;
+    let Ok(payload) = link_values(alloc, tree, role) else {
+        drop(bare);
+        return Err(OutOfMemory);
+    };
+    let Edge {
+        source,
+        id,
+        name,
+        target,
+        payload: _none,
+    } = bare;
     Ok(Edge {
         source,
         id,
@@ -210,5 +257,7 @@ pub fn read_rel(
     }
     let library = Library::of(alloc, resolved)?;
     let link = link_of(resolved.contents.as_slice(), tree);
-    link_by(alloc, source, id, tree, &library, link)
+    let read = link_by(alloc, source, id, tree, &library, link);
+    drop(library);
+    read
 }

@@ -1,11 +1,12 @@
 //! Breaches that show without a model.
 
-ghost use Rattle.std.specs.Prelude.{◌≡◌, [], None, IfOk, MatchOption};
+ghost use Rattle.std.specs.Prelude.{◌≡◌, ℕ, List, [], None, IfOk, MatchOption};
 ghost use Rattle.json_tree.specs.Values.{object};
 ghost use Rattle.json_tree.specs.View.{view, members_view};
 ghost use Rattle.twin_value.specs.Breaches.{HasNoBreach, IsFirstBodyBreach, IsOuterBreach, IsOuterLinkBreach};
+ghost use Rattle.twin_value.specs.Roles.{body_member_role, Role as RoleOf};
 ghost use Rattle.twin_value.specs.Machinery.Outer.{IsOuterBodyBreach, IsMild, is_undeclared, IsOutermost, FindsOuterBelow};
-ghost use Rattle.twin_value.specs.Machinery.Views.{role_view};
+ghost use Rattle.twin_value.specs.Machinery.Views.{role_view, keys_role};
 ghost use Rattle.twin_value.specs.Machinery.Walks.{FindsFirstBodyBreach};
 
 use crate::code::BodyCode;
@@ -55,6 +56,17 @@ fn outer_in_members(
     ensures { IfOk result (FindsOuterBelow (role_view role.entry) (object (members_view members.now))) }
 {
     let keys = Keys::of(alloc, role)?;
+    let found = outer_under(members, alloc, &keys);
+    drop(keys);
+    found
+}
+
+/// The same in members that these keys judge as those of a body, in a role in which it breaks nothing itself.
+fn outer_under(members: &[Member], alloc: Global, keys: &Keys) -> Result<Option<Found>, OutOfMemory>
+    requires { (key : List ℕ) → IsMild (keys_role keys.now key) }
+    ensures { IfOk result (λ found. (r : RoleOf) → ((key : List ℕ) → keys_role keys.now key ≡ body_member_role r key)
+        → FindsOuterBelow r (object (members_view members.now)) found) }
+{
     for (at, member) in members.iter().enumerate() {
         let part = keys.role(member.key.as_str());
         if let Some(found) = outer_in_member(&member.value, alloc, part)? {
@@ -93,7 +105,9 @@ pub fn outer_twin_breach(
         library: &library,
         contents: &[],
     };
-    match outer_in(tree, alloc, role)? {
+    let found = outer_in(tree, alloc, role);
+    drop(library);
+    match found? {
         Some(found) => Ok(Some(breach_of(found))),
         None => Ok(None),
     }
@@ -112,7 +126,9 @@ pub fn outer_link_breach(
         from: None,
         properties: &[],
     };
-    match outer_in(tree, alloc, role)? {
+    let found = outer_in(tree, alloc, role);
+    drop(library);
+    match found? {
         Some(found) => Ok(Some(breach_of(found))),
         None => Ok(None),
     }

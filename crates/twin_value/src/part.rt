@@ -43,6 +43,12 @@ pub fn read_part(
         (EndsBy (IsBodyBreach (body_member_role (twin_role_of resolved.now) name.now) (view tree.now))) }
 {
     let library = Library::of(alloc, resolved)?;
-    let contents = Index::of(alloc, resolved.contents.as_slice())?;
-    part_by(alloc, tree, twin_role(&library, &contents, name))
+    let Ok(contents) = Index::of(alloc, resolved.contents.as_slice()) else {
+        drop(library);
+        return Err(BodyEnd::OutOfMemory);
+    };
+    let values = part_by(alloc, tree, twin_role(&library, &contents, name));
+    drop(contents);
+    drop(library);
+    values
 }

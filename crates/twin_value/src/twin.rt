@@ -38,9 +38,18 @@ impl Twin {
         ensures { IfOk result (λ twin. twin ≡ self.now) }
     {
         let id = self.id.copy(alloc)?;
-        let model = self.model.copy(alloc)?;
-        let values = self.values.copy(alloc)?;
-        let parts = self.parts.copy(alloc)?;
+        let Ok(model) = self.model.copy(alloc) else {
+            drop(id);
+            return Err(OutOfMemory);
+        };
+        let Ok(values) = self.values.copy(alloc) else {
+            drop((id, model));
+            return Err(OutOfMemory);
+        };
+        let Ok(parts) = self.parts.copy(alloc) else {
+            drop((id, model, values));
+            return Err(OutOfMemory);
+        };
         Ok(Twin {
             id,
             model,
@@ -79,7 +88,9 @@ fn values_in(alloc: Global, tree: &Tree, role: Role) -> Result<(Tree, Tree), Out
         × IsSortedOf (object (component_members (role_view role.entry) (view tree.now))) (view made.1)) }
 {
     let keys = Keys::of(alloc, role)?;
-    values_and_parts(alloc, members_in(tree), &keys)
+    let made = values_and_parts(alloc, members_in(tree), &keys);
+    drop(keys);
+    made
 }
 
 /// The same of the body of a twin that may have a breach.
@@ -113,8 +124,14 @@ fn twin_with(
     ensures { IfOk result (λ twin. (twin.id ≡ id.now) × IsSomeAnd (model_text (view tree.now)) (λ text. OwnDtmiText text twin.model)
         × (twin.values ≡ values) × (twin.parts ≡ parts)) }
 {
-    let id = Text::from_str(alloc, id)?;
-    let model = model_of(alloc, tree)?;
+    let Ok(id) = Text::from_str(alloc, id) else {
+        drop((values, parts));
+        return Err(OutOfMemory);
+    };
+    let Ok(model) = model_of(alloc, tree) else {
+        drop((id, values, parts));
+        return Err(OutOfMemory);
+    };
     Ok(Twin {
         id,
         model,
@@ -135,7 +152,9 @@ pub fn read_values(alloc: Global, tree: &Tree, resolved: &Resolved) -> Result<(T
         (EndsBy (IsTwinBreach resolved.now (view tree.now))) }
 {
     let library = Library::of(alloc, resolved)?;
-    values_by(alloc, tree, &library, resolved.contents.as_slice())
+    let made = values_by(alloc, tree, &library, resolved.contents.as_slice());
+    drop(library);
+    made
 }
 
 /// The twin of an identifier for which the body of a request stands (this project's own): `$metadata` names its model by

@@ -1,10 +1,11 @@
 //! The walk over a body, in preorder.
 
-ghost use Rattle.std.specs.Prelude.{◌≡◌, [], ◌∷◌, ◌++◌, None, IfOk};
+ghost use Rattle.std.specs.Prelude.{◌≡◌, ℕ, List, [], ◌∷◌, ◌++◌, None, IfOk};
 ghost use Rattle.json_tree.specs.Values.{array, object};
 ghost use Rattle.json_tree.specs.View.{view, elements_view, members_view};
 ghost use Rattle.twin_value.specs.Breaches.{IsBodyBreach};
-ghost use Rattle.twin_value.specs.Machinery.Views.{role_view};
+ghost use Rattle.twin_value.specs.Roles.{body_member_role, Role as RoleOf};
+ghost use Rattle.twin_value.specs.Machinery.Views.{role_view, keys_role};
 ghost use Rattle.twin_value.specs.Machinery.Walks.{FindsFirstBodyBreach, FindsClear};
 ghost use Rattle.twin_value.specs.Machinery.Sound.{Sound, SoundAlone};
 
@@ -83,6 +84,19 @@ fn first_in_members(
     ensures sound { IfOk result (λ found. found ≡ None → SoundAlone (role_view role.entry) (object (members_view members.now)) → Sound (role_view role.entry) (object (members_view members.now))) }
 {
     let keys = Keys::of(alloc, role)?;
+    let found = first_under(members, alloc, &keys);
+    drop(keys);
+    found
+}
+
+/// The same in members that these keys judge as those of an object, in a role in which it breaks nothing itself.
+#[cycle(walk)]
+fn first_under(members: &[Member], alloc: Global, keys: &Keys) -> Result<Option<Found>, OutOfMemory>
+    ensures first { IfOk result (λ found. (r : RoleOf) → ((key : List ℕ) → keys_role keys.now key ≡ body_member_role r key)
+        → FindsClear r (object (members_view members.now)) found) }
+    ensures sound { IfOk result (λ found. found ≡ None → (r : RoleOf) → ((key : List ℕ) → keys_role keys.now key ≡ body_member_role r key)
+        → SoundAlone r (object (members_view members.now)) → Sound r (object (members_view members.now))) }
+{
     for (at, member) in members.iter().enumerate() {
         let part = keys.role(member.key.as_str());
         if let Some(found) = first_in(&member.value, alloc, part)? {

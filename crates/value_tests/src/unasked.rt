@@ -5,7 +5,7 @@ use dt_base::List;
 use dt_base::names::Dtmi;
 use dtdl_terms::{Boxed, Common, Localized, Primitive, Resolved, Schema};
 use json_read::read;
-use json_tree::Place;
+use json_tree::{Place, Tree};
 use std::alloc::Global;
 use std::test::Fail;
 use twin_value::*;
@@ -26,29 +26,63 @@ fn texts(alloc: Global) -> Localized {
     }
 }
 
-/// An array of integers, which is the schema `dtmi:demo:row;1`.
-fn whole_numbers(alloc: Global) -> Result<Schema, Fail> {
-    let common = Common {
-        id: Some(Dtmi::read(alloc, "dtmi:demo:row;1")?),
+/// What the schema `dtmi:demo:row;1` has besides its parts.
+fn row_common(alloc: Global) -> Result<Common, Fail> {
+    let id = Dtmi::read(alloc, "dtmi:demo:row;1")?;
+    Ok(Common {
+        id: Some(id),
         comment: None,
         description: texts(alloc),
         display_name: texts(alloc),
-    };
-    Ok(Schema::Array {
-        common: Boxed::new(alloc, common)?,
-        element: Boxed::new(alloc, Schema::Primitive(Primitive::Integer))?,
     })
 }
 
-/// The first breach of a value of a schema, where `dtmi:demo:row;1` is there; nothing where the value fits.
-fn fitted(alloc: Global, value: &str, schema: &Schema) -> Result<String, Fail> {
-    let mut named = List::new(alloc);
-    named.push(whole_numbers(alloc)?)?;
-    let tree = read(alloc, value.as_bytes())?;
-    match fit_value(alloc, &tree, schema, named.as_slice())? {
-        Some((place, code)) => told(alloc, &place, code),
-        None => Ok(String::new(alloc)),
+/// An array of integers, which is the schema `dtmi:demo:row;1`.
+fn whole_numbers(alloc: Global) -> Result<Schema, Fail> {
+    let common = Boxed::new(alloc, row_common(alloc)?)?;
+    match Boxed::new(alloc, Schema::Primitive(Primitive::Integer)) {
+        Ok(element) => Ok(Schema::Array { common, element }),
+        Err(error) => {
+            drop(common);
+            Err(Fail::from(error))
+        }
     }
+}
+
+/// The schemas that have a name: the array alone.
+fn named_schemas(alloc: Global) -> Result<List<Schema>, Fail> {
+    let array = whole_numbers(alloc)?;
+    let mut named = List::new(alloc);
+    match named.push(array) {
+        Ok(_) => Ok(named),
+        Err(error) => {
+            drop(named);
+            Err(Fail::from(error))
+        }
+    }
+}
+
+/// The first breach of a value of a schema, where these schemas have a name; nothing where the value fits.
+fn breach_of(
+    alloc: Global,
+    tree: &Tree,
+    schema: &Schema,
+    named: &[Schema],
+) -> Result<String, Fail> {
+    let Some((place, code)) = fit_value(alloc, tree, schema, named)? else {
+        return Ok(String::new(alloc));
+    };
+    let text = told(alloc, &place, code);
+    drop(place);
+    text
+}
+
+/// The same of the value that a text spells.
+fn fitted(alloc: Global, value: &str, schema: &Schema, named: &[Schema]) -> Result<String, Fail> {
+    let tree = read(alloc, value.as_bytes())?;
+    let text = breach_of(alloc, &tree, schema, named);
+    drop(tree);
+    text
 }
 
 /// A value, and its first breach as an array of integers.
@@ -59,21 +93,54 @@ const ARRAYS: [(&str, &str); 4] = [
     ("{}", " BadValue"),
 ];
 
+/// The first of the arrays whose breach is another one.
+fn amiss_among(
+    alloc: Global,
+    array: &Schema,
+    named: &[Schema],
+) -> Result<Option<&'static str>, Fail> {
+    for (value, want) in ARRAYS {
+        if fitted(alloc, value, array, named)?.as_str() != want {
+            return Ok(Some(value));
+        }
+    }
+    Ok(None)
+}
+
+fn amiss(alloc: Global) -> Result<Option<&'static str>, Fail> {
+    let named = named_schemas(alloc)?;
+    let found = match named.as_slice().first() {
+        Some(array) => amiss_among(alloc, array, named.as_slice()),
+        None => Ok(Some("no array")),
+    };
+    drop(named);
+    found
+}
+
 #[test]
 fn arrays_fit_by_their_entries(rt: HostRuntime) -> Result<(), Fail> {
-    let alloc = rt.alloc();
-    let array = whole_numbers(alloc)?;
-    for (value, want) in ARRAYS {
-        assert_eq!(rt; fitted(alloc, value, &array)?.as_str(), want, "{value}");
-    }
+    assert_eq!(rt; amiss(rt.alloc())?, None);
     Ok(())
+}
+
+/// The breach of a number as a value of a schema that is not there.
+fn breach_of_lost(alloc: Global) -> Result<String, Fail> {
+    let lost = Schema::Named(Dtmi::read(alloc, "dtmi:demo:row;2")?);
+    let text = match named_schemas(alloc) {
+        Ok(named) => {
+            let text = fitted(alloc, "1", &lost, named.as_slice());
+            drop(named);
+            text
+        }
+        Err(error) => Err(error),
+    };
+    drop(lost);
+    text
 }
 
 #[test]
 fn nothing_fits_a_schema_that_is_not_there(rt: HostRuntime) -> Result<(), Fail> {
-    let alloc = rt.alloc();
-    let lost = Schema::Named(Dtmi::read(alloc, "dtmi:demo:row;2")?);
-    assert_eq!(rt; fitted(alloc, "1", &lost)?.as_str(), " BadValue");
+    assert_eq!(rt; breach_of_lost(rt.alloc())?.as_str(), " BadValue");
     Ok(())
 }
 
@@ -90,44 +157,79 @@ fn nothing(alloc: Global) -> Resolved {
 /// Why a body stands for nothing.
 fn ended(alloc: Global, end: BodyEnd) -> Result<String, Fail> {
     match end {
-        BodyEnd::Fault { place, code } => told(alloc, &place, code),
+        BodyEnd::Fault { place, code } => {
+            let text = told(alloc, &place, code);
+            drop(place);
+            text
+        }
         BodyEnd::OutOfMemory => Ok(String::new(alloc)),
     }
 }
 
-#[test]
-fn a_twins_breaches_come_by_their_places(rt: HostRuntime) -> Result<(), Fail> {
-    let alloc = rt.alloc();
+/// Why the body of a twin stands for none, where its model declares nothing.
+fn twin_breach(alloc: Global, tree: &Tree) -> Result<String, Fail> {
     let model = nothing(alloc);
-    let tree = read(alloc, br#"{"zz":1,"$metadata":{}}"#)?;
-    let got = match read_twin(alloc, "t1", &tree, &model) {
-        Ok(_twin) => String::new(alloc),
-        Err(end) => ended(alloc, end)?,
-    };
-    assert_eq!(rt; got.as_str(), "/0 UnknownMember");
-    Ok(())
+    let read = read_twin(alloc, "t1", tree, &model);
+    drop(model);
+    match read {
+        Ok(twin) => {
+            drop(twin);
+            Ok(String::new(alloc))
+        }
+        Err(end) => ended(alloc, end),
+    }
 }
 
-/// The body of a relationship, and its first breach where the model has no such relationship.
-const LINKS: [(&str, &str); 2] = [
+/// Why the body of a relationship stands for none, where the model of its source declares nothing.
+fn link_breach(alloc: Global, tree: &Tree) -> Result<String, Fail> {
+    let model = nothing(alloc);
+    let read = read_rel(alloc, "t1", "m1", tree, &model);
+    drop(model);
+    match read {
+        Ok(link) => {
+            drop(link);
+            Ok(String::new(alloc))
+        }
+        Err(end) => ended(alloc, end),
+    }
+}
+
+/// Whether a body is that of a twin.
+#[derive(Clone, Copy, PartialEq)]
+enum Of {
+    Twin,
+    Link,
+}
+
+/// Bodies, and their first breaches where a model declares nothing. An unknown relationship is the only breach of its body.
+const BODIES: [(Of, &str, &str); 3] = [
+    (Of::Twin, r#"{"zz":1,"$metadata":{}}"#, "/0 UnknownMember"),
     (
+        Of::Link,
         r#"{"zz":1,"$targetId":7,"$relationshipName":"drains"}"#,
         "/2 UnknownRelationship",
     ),
-    (r#"{"$relationshipName":"count"}"#, "/0 UnknownRelationship"),
+    (
+        Of::Link,
+        r#"{"$relationshipName":"count"}"#,
+        "/0 UnknownRelationship",
+    ),
 ];
 
+fn body_breach(alloc: Global, of: Of, body: &str) -> Result<String, Fail> {
+    let tree = read(alloc, body.as_bytes())?;
+    let text = match of {
+        Of::Twin => twin_breach(alloc, &tree),
+        Of::Link => link_breach(alloc, &tree),
+    };
+    drop(tree);
+    text
+}
+
 #[test]
-fn an_unknown_relationship_is_the_only_breach(rt: HostRuntime) -> Result<(), Fail> {
-    let alloc = rt.alloc();
-    let model = nothing(alloc);
-    for (body, want) in LINKS {
-        let tree = read(alloc, body.as_bytes())?;
-        let got = match read_rel(alloc, "t1", "m1", &tree, &model) {
-            Ok(_link) => String::new(alloc),
-            Err(end) => ended(alloc, end)?,
-        };
-        assert_eq!(rt; got.as_str(), want, "{body}");
+fn breaches_of_bodies_come_by_their_places(rt: HostRuntime) -> Result<(), Fail> {
+    for (of, body, want) in BODIES {
+        assert_eq!(rt; body_breach(rt.alloc(), of, body)?.as_str(), want, "{body}");
     }
     Ok(())
 }

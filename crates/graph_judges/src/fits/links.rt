@@ -13,10 +13,11 @@ ghost use Rattle.graph_steps.specs.Typed.{target_of, IsAtMost, FitsSource, LinkI
 ghost use Rattle.graph_steps.specs.held.Held.{link_of, state_of};
 ghost use Rattle.graph_judges.specs.fits.Machinery.Judged.{with_given, SuitsAmong, SuitsDeclared, SuitsKind};
 
+use crate::fits::refused::refused;
 use dt_base::names::Dtmi;
 use dt_base::{OutOfMemory, Text};
 use dtdl_terms::{ContentKind, Interface, Resolved};
-use graph_steps::bodies::{BodyFailure, is_model_a};
+use graph_steps::bodies::is_model_a;
 use graph_steps::held::{Lent, Stored, judged_link, link_called, most_of, stored_tree, target_of};
 use model_life::resolution::Resolutions;
 use rel_graph::Edge;
@@ -122,7 +123,7 @@ fn is_unbroken(
     ensures unbroken { IfOk result (λ clear. IsTrue clear ↔ HasNoBreach (IsLinkBreach (inherited (set_of (state_of lent.now)) interface.now) (link_value (link_of edge.now)))) }
 {
     let tree = stored_tree(lent.alloc(), edge)?;
-    match judged_link(
+    let judged = judged_link(
         lent,
         resolutions,
         &edge.source,
@@ -131,10 +132,17 @@ fn is_unbroken(
         &edge.target,
         interface,
         &tree,
-    ) {
-        Ok(_) => Ok(true),
-        Err(BodyFailure::Refused(_)) => Ok(false),
-        Err(BodyFailure::OutOfMemory) => Err(OutOfMemory),
+    );
+    drop(tree);
+    match judged {
+        Ok(link) => {
+            drop(link);
+            Ok(true)
+        }
+        Err(failure) => {
+            refused(failure)?;
+            Ok(false)
+        }
     }
 }
 

@@ -8,9 +8,10 @@ ghost use Rattle.graph_steps.specs.Typed.{FitsModel};
 ghost use Rattle.graph_steps.specs.held.Held.{state_of};
 
 use crate::fits::names::have_same_names;
+use crate::fits::refused::refused;
 use dt_base::OutOfMemory;
 use dtdl_terms::Interface;
-use graph_steps::bodies::{BodyFailure, twin_tree};
+use graph_steps::bodies::twin_tree;
 use graph_steps::held::{Lent, judged_twin};
 use model_life::resolution::Resolutions;
 use twin_value::Twin;
@@ -30,9 +31,17 @@ pub fn twin_fits(
     ensures fits { IfOk result (λ fits. IsTrue fits ↔ FitsModel (set_of (state_of lent.now)) interface.now (twin_view twin.now)) }
 {
     let tree = twin_tree(lent.alloc(), twin)?;
-    match judged_twin(lent, resolutions, &twin.id, interface, &tree) {
-        Ok(read) => Ok(have_same_names(&read, twin)),
-        Err(BodyFailure::Refused(_)) => Ok(false),
-        Err(BodyFailure::OutOfMemory) => Err(OutOfMemory),
+    let judged = judged_twin(lent, resolutions, &twin.id, interface, &tree);
+    drop(tree);
+    match judged {
+        Ok(read) => {
+            let same = have_same_names(&read, twin);
+            drop(read);
+            Ok(same)
+        }
+        Err(failure) => {
+            refused(failure)?;
+            Ok(false)
+        }
     }
 }

@@ -71,10 +71,14 @@ pub(crate) fn admitted(lent: &Lent<'_>, link: Relationship) -> Result<NewLink, B
     ensures tree { IfOk result (λ new. view new.tree ≡ link_value (link_of new.edge)) }
 {
     let Some(bytes) = link_bytes(MOST_LINK_BYTES, &link) else {
+        drop(link);
         return Err(full(Limit::RelationshipBytes));
     };
     match limit_passed(lent, &link, bytes) {
-        Some(limit) => Err(full(limit)),
+        Some(limit) => {
+            drop(link);
+            Err(full(limit))
+        }
         None => {
             let tree = link_tree(lent.alloc(), &link)?;
             Ok(NewLink {

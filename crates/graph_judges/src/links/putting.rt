@@ -110,7 +110,9 @@ fn leading(
     ensures tree { IfOk result (λ new. view new.tree ≡ link_value (link_of new.edge)) }
 {
     let Some(twin) = lent.twin(&link.target) else {
-        return Err(no_twin(lent.alloc(), &link.target));
+        let failure = no_twin(lent.alloc(), &link.target);
+        drop(link);
+        return Err(failure);
     };
     fitting(lent, resolutions, interface, twin, link)
 }
@@ -138,6 +140,7 @@ fn fitting(
 {
     let found = declared_refusal(lent, resolutions, interface, twin, &link)?;
     if let Some(refusal) = found {
+        drop(link);
         return Err(BodyFailure::Refused(refusal));
     }
     admitted(lent, link)

@@ -70,12 +70,14 @@ fn within_graph(
     ensures held { IfOk result (λ new. IsHeldTwin (record { twin = new.twin; bytes = new.bytes })) }
 {
     if twins_with(lent, there) > MOST_TWINS {
+        drop(twin);
         return Err(BodyFailure::Refused(Refusal::Full {
             limit: Limit::Twins,
         }));
     }
     let before = bytes_before(there);
     if lent.bytes() - before + bytes > MOST_GRAPH_BYTES {
+        drop(twin);
         return Err(BodyFailure::Refused(Refusal::Full {
             limit: Limit::GraphBytes,
         }));
@@ -101,8 +103,11 @@ pub(crate) fn within_limits(
 {
     match twin_bytes(MOST_TWIN_BYTES, &twin) {
         Some(bytes) => within_graph(lent, there, twin, bytes),
-        None => Err(BodyFailure::Refused(Refusal::Full {
-            limit: Limit::TwinBytes,
-        })),
+        None => {
+            drop(twin);
+            Err(BodyFailure::Refused(Refusal::Full {
+                limit: Limit::TwinBytes,
+            }))
+        }
     }
 }

@@ -6,8 +6,8 @@ use Rattle.std.specs.List.{list_any}
 use Rattle.std.specs.BTreeSet.{BTreeSet}
 use Rattle.json_decimal.specs.Number.{Number}
 use Rattle.json_tree.specs.Values.{Json, null, truth, number, text, array, object}
-use Rattle.text_buckets.specs.Buckets.{IsUsed}
-use Rattle.text_buckets.specs.declared.buckets.Buckets.{Buckets}
+use Rattle.json_tree.specs.Buckets.{IsUsed}
+use Rattle.json_tree.specs.declared.buckets.Buckets.{Buckets}
 use Rattle.json_tree.specs.Members.{text_in, value_in}
 use Rattle.local_rules.specs.Repeats.{holds_some, name_in, repeats, same_value}
 use Rattle.local_rules.specs.declared.role.Role.{Role}

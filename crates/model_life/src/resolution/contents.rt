@@ -80,7 +80,10 @@ fn copy_declared(
     ensures { IfOk result (λ copy. copy ≡ declared_by from.now content.now) }
 {
     let from = from.copy(alloc)?;
-    let content = content.copy(alloc)?;
+    let Ok(content) = content.copy(alloc) else {
+        drop(from);
+        return Err(OutOfMemory);
+    };
     Ok(ResolvedContent { from, content })
 }
 
@@ -95,9 +98,14 @@ pub fn contents_of(
 {
     let mut contents = Contents::new(alloc);
     'interfaces: for interface in interfaces {
-        add_contents(interface, &mut contents)?;
+        let Ok(()) = add_contents(interface, &mut contents) else {
+            drop(contents);
+            return Err(OutOfMemory);
+        };
     }
-    contents.copy(alloc)
+    let copies = contents.copy(alloc);
+    drop(contents);
+    copies
 }
 
 /// Adds the contents of an interface.

@@ -3,6 +3,7 @@
 ghost use Rattle.std.specs.Prelude.{◌≡◌, [], Some, cond, map, IfOk, OnOk};
 ghost use Rattle.std.specs.Option.{is_some};
 ghost use Rattle.std.specs.Ordering.{is_eq};
+ghost use Rattle.std.specs.Map.{values_of};
 ghost use Rattle.dt_base.specs.names.Grammar.{Identifier, id_cmp};
 ghost use Rattle.dtdl_terms.specs.Sets.{InOrder, interface_at};
 
@@ -68,10 +69,19 @@ impl<'a> Found<'a> {
         ensures each { IfOk result (λ list. map (λ i. i.now) list.items ≡ self.now) }
         ensures ordered { IfOk result (λ _. InOrder self.now) }
     {
-        let mut list = Vec::with_capacity(alloc, self.by_id.len())?;
-        'list: for interface in self.by_id.values() {
-            list.push(*interface)?;
-        }
+        let list = values_of(alloc, &self.by_id)?;
         Ok(list)
     }
+}
+
+/// The values of a map, in the order of its keys.
+fn values_of<K: Ord, V: Copy>(alloc: Global, map: &BTreeMap<K, V>) -> Result<Vec<V>, OutOfMemory>
+    ensures { IfOk result (λ list. list.items ≡ values_of map.now.entries) }
+{
+    let mut list = Vec::with_capacity(alloc, map.len())?;
+    let mut values = map.values();
+    'values: while let Some(value) = values.next() {
+        list.push(*value)?;
+    }
+    Ok(list)
 }

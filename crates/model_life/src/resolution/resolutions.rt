@@ -94,8 +94,11 @@ impl Resolutions {
         if self.entries.get(id).is_some() {
             return Ok(());
         }
-        let resolved = resolve(self.alloc, set, id)?;
         let key = id.copy(self.alloc)?;
+        let Ok(resolved) = resolve(self.alloc, set, id) else {
+            drop(key);
+            return Err(OutOfMemory);
+        };
         self.hold(key, resolved)
     }
 
@@ -107,7 +110,8 @@ impl Resolutions {
     {
         let contents = contents_of(&resolved);
         self.held = make_room(&mut self.entries, self.held, contents);
-        self.entries.insert(key, resolved)?;
+        let before = self.entries.insert(key, resolved)?;
+        drop(before);
         self.held = self.held.saturating_add(contents);
         Ok(())
     }
@@ -118,6 +122,7 @@ impl Resolutions {
     {
         if let Some(resolved) = self.entries.remove(id) {
             self.held = self.held.saturating_sub(contents_of(&resolved));
+            drop(resolved);
         }
     }
 

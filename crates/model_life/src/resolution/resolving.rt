@@ -36,19 +36,31 @@ pub fn resolve(alloc: Global, set: &ModelSet, id: &Dtmi) -> Result<Resolved, Out
 {
     let interface = set.get(id).unwrap();
     let mut found = ancestors_of(alloc, set, interface)?;
-    let ancestors = found.list(alloc)?;
-    let parts = parts(alloc, set, ancestors.as_slice())?;
-    add_all_ancestors(set, parts.as_slice(), &mut found)?;
-    let sources = found.list(alloc)?;
-    drop(found);
+    let Ok(ancestors) = found.list(alloc) else {
+        drop(found);
+        return Err(OutOfMemory);
+    };
+    let Ok(parts) = parts(alloc, set, ancestors.as_slice()) else {
+        drop((found, ancestors));
+        return Err(OutOfMemory);
+    };
+    let Ok(()) = add_all_ancestors(set, parts.as_slice(), &mut found) else {
+        drop((found, ancestors, parts));
+        return Err(OutOfMemory);
+    };
+    let Ok(sources) = found.list(alloc) else {
+        drop((found, ancestors, parts));
+        return Err(OutOfMemory);
+    };
     let resolved = resolved_of(
         alloc,
         set,
         ancestors.as_slice(),
         sources.as_slice(),
         parts.as_slice(),
-    )?;
-    Ok(resolved)
+    );
+    drop((found, ancestors, sources, parts));
+    Ok(resolved?)
 }
 
 /// What an interface has whose ancestors these are, with the schemas of the sources and the contents of the parts.
@@ -70,7 +82,10 @@ fn resolved_of(
     ensures parts { IfOk result (λ r. AllZip (IsPartOf set.now) (map (λ i. i.now) parts.now) r.parts) }
 {
     let ids = copy_ids(alloc, ancestors)?;
-    let contents = contents_of(alloc, ancestors)?;
+    let Ok(contents) = contents_of(alloc, ancestors) else {
+        drop(ids);
+        return Err(OutOfMemory);
+    };
     let Ok(named) = copy_named(alloc, sources) else {
         drop((ids, contents));
         return Err(OutOfMemory);
@@ -100,7 +115,9 @@ pub fn ancestors<'a>(
     ensures ordered { IfOk result (λ list. InOrder (map (λ x. x.now) list.items)) }
 {
     let found = ancestors_of(alloc, set, interface)?;
-    found.list(alloc)
+    let list = found.list(alloc);
+    drop(found);
+    list
 }
 
 /// The ancestors of an interface, itself included.
@@ -243,7 +260,10 @@ fn named_in(alloc: Global, interface: &Interface) -> Result<NamedIn, OutOfMemory
     ensures { IfOk result (λ named. named ≡ schemas_of interface.now) }
 {
     let of = interface.id.copy(alloc)?;
-    let schemas = copy_schemas(alloc, interface.schemas.as_slice())?;
+    let Ok(schemas) = copy_schemas(alloc, interface.schemas.as_slice()) else {
+        drop(of);
+        return Err(OutOfMemory);
+    };
     Ok(NamedIn { of, schemas })
 }
 
@@ -283,10 +303,16 @@ fn part_of(alloc: Global, set: &ModelSet, part: &Interface) -> Result<PartOf, Ou
     requires there { IsThere set.now part.now }
     ensures { IfOk result (IsPartOf set.now part.now) }
 {
-    let found = ancestors_of(alloc, set, part)?;
-    let ancestors = found.list(alloc)?;
-    Ok(PartOf {
-        of: part.id.copy(alloc)?,
-        contents: contents_of(alloc, ancestors.as_slice())?,
-    })
+    let of = part.id.copy(alloc)?;
+    let Ok(ancestors) = ancestors(alloc, set, part) else {
+        drop(of);
+        return Err(OutOfMemory);
+    };
+    let contents = contents_of(alloc, ancestors.as_slice());
+    drop(ancestors);
+    let Ok(contents) = contents else {
+        drop(of);
+        return Err(OutOfMemory);
+    };
+    Ok(PartOf { of, contents })
 }

@@ -1,7 +1,6 @@
 //! Every field of a read record, printed once, with neighbours that differ.
 
-use super::shown;
-use model_read::read_interfaces;
+use super::{shown, uploads_of};
 use std::alloc::Global;
 use std::test::Fail;
 
@@ -91,12 +90,13 @@ fn joined(alloc: Global, pieces: &[&str]) -> Result<String, Fail> {
 
 /// What is shown of the last interface of the document.
 fn shown_last(alloc: Global) -> Result<String, Fail> {
-    let tree = json_read::read(alloc, DOCUMENT.as_bytes())?;
-    let uploads = read_interfaces(alloc, &tree, 9)?;
-    match uploads.as_slice().last() {
+    let uploads = uploads_of(alloc, DOCUMENT, 9)?;
+    let text = match uploads.as_slice().last() {
         Some(uploaded) => shown(alloc, uploaded),
-        None => Err(Fail::from("no interface")),
-    }
+        None => Ok(String::new(alloc)),
+    };
+    drop(uploads);
+    text
 }
 
 #[test]

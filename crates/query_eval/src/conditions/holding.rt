@@ -67,10 +67,22 @@ fn operands_compare(
     let Some(left) = side_of(alloc, row, left)? else {
         return Ok(false);
     };
-    let Some(right) = side_of(alloc, row, right)? else {
-        return Ok(false);
-    };
-    Ok(compares(compare, left.plain(), right.plain()))
+    match side_of(alloc, row, right) {
+        Ok(Some(right)) => {
+            let so = compares(compare, left.plain(), right.plain());
+            drop(left);
+            drop(right);
+            Ok(so)
+        }
+        Ok(None) => {
+            drop(left);
+            Ok(false)
+        }
+        Err(OutOfMemory) => {
+            drop(left);
+            Err(OutOfMemory)
+        }
+    }
 }
 
 /// Whether an operand is there and equals one of the literals.
@@ -84,7 +96,11 @@ fn is_among(
     ensures { IfOk result (λ answer. answer ≡ there (equals_one literals.now) (operand_value (row_view row.now) operand.now)) }
 {
     match side_of(alloc, row, operand)? {
-        Some(side) => Ok(equals_one(side.plain(), literals)),
+        Some(side) => {
+            let so = equals_one(side.plain(), literals);
+            drop(side);
+            Ok(so)
+        }
         None => Ok(false),
     }
 }
@@ -100,7 +116,11 @@ fn is_not_among(
     ensures { IfOk result (λ answer. answer ≡ there (λ v. is_primitive v && not (equals_one literals.now v)) (operand_value (row_view row.now) operand.now)) }
 {
     match side_of(alloc, row, operand)? {
-        Some(side) => Ok(equals_none(side.plain(), literals)),
+        Some(side) => {
+            let so = equals_none(side.plain(), literals);
+            drop(side);
+            Ok(so)
+        }
         None => Ok(false),
     }
 }
@@ -116,7 +136,11 @@ fn path_is(
     ensures { IfOk result (λ answer. answer ≡ is_of_query_kind kind (path_value (row_view row.now) path.now)) }
 {
     match value_at(alloc, row, path)? {
-        Some(found) => Ok(is_of_kind(kind, Some(found.tree()))),
+        Some(found) => {
+            let so = is_of_kind(kind, Some(found.tree()));
+            drop(found);
+            Ok(so)
+        }
         None => Ok(is_of_kind(kind, None)),
     }
 }
@@ -135,8 +159,20 @@ fn operand_is_part(
     let Some(whole) = side_of(alloc, row, whole)? else {
         return Ok(false);
     };
-    let Some(part) = side_of(alloc, row, part)? else {
-        return Ok(false);
-    };
-    Ok(is_text_part(kind, whole.plain(), part.plain()))
+    match side_of(alloc, row, part) {
+        Ok(Some(part)) => {
+            let so = is_text_part(kind, whole.plain(), part.plain());
+            drop(whole);
+            drop(part);
+            Ok(so)
+        }
+        Ok(None) => {
+            drop(whole);
+            Ok(false)
+        }
+        Err(OutOfMemory) => {
+            drop(whole);
+            Err(OutOfMemory)
+        }
+    }
 }

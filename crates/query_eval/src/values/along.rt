@@ -60,7 +60,10 @@ fn metadata(alloc: Global, model: &Dtmi) -> Result<Tree, OutOfMemory>
     ensures { IfOk result (λ tree. view tree ≡ object (member (codes "$model") (text (dtmi_text model.now)) no_members)) }
 {
     let key = Text::from_str(alloc, "$model")?;
-    let id = Text::from_str(alloc, model.as_str())?;
+    let Ok(id) = Text::from_str(alloc, model.as_str()) else {
+        drop(key);
+        return Err(OutOfMemory);
+    };
     let mut members = List::new(alloc);
     members.push(Member {
         key,

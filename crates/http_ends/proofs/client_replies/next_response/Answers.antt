@@ -2,7 +2,7 @@ use Rattle.std.proofs.Common.{◌≡◌, Ok, Err, inl, refl, ap, ◌∙◌, subs
 use Rattle.std.specs.Io.KnownBytes.{IsAtEnd}
 use Rattle.std.proofs.lemmas.Result.{err_from_is_err_and}
 use Rattle.http_ends.specs.declared.buffer.Filled.TheVariants.{Ended}
-use Rattle.http_ends.specs.declared.response.ReplyEnd.TheVariants.{BadReply}
+use Rattle.http_ends.specs.declared.response.ReplyEnd.TheVariants.{BadReply, ReadFault, OutOfMemory}
 use Rattle.http_ends.specs.ReplyReading.{AnswersReply}
 use Rattle.http_ends.proofs.ReadingLemmas.{Reads-trans, on_streams}
 use Rattle.http_ends.proofs.ReplyLemmas.{IsReplyHeadAt-append, IsReplyOf, is_reply, no_reply_cut_off, reply_ends}
@@ -22,6 +22,23 @@ returns-in-Ended-clause-next g c =
     let end : IsAtEnd (g.S.Source.left c.await_body.new.link) = c.await_body.ensures.ended ended in
     on_streams c.args.buffer.now (g.S.Source.left c.args.link.now) c.await_body.new.buffer c.await_body.new.buffer (g.S.Source.left c.await_body.new.link) read.bytes (AnswersReply (Err BadReply)) read.grown read.taken
     (λ more is. (no_reply_cut_off c.await_body.new.buffer more c.in_ok-head.head c.in_ok-head.ensures.head.0 at (c.await_body.ensures.short (inl ended)) (subst IsAtEnd is end), refl))
+
+pub returns-in_err-await_body-clause-next : goal.returns-in_err-await_body-clause-next
+returns-in_err-await_body-clause-next g c =
+    let p = err_from_is_err_and c.from_residual-in_err-await_body.result c.from_residual-in_err-await_body.ensures.1 in
+    let read = Reads-trans g.S.Source.left g.S.Source.aside g.S.Source.faults c.read_reply_head.ensures.read c.await_body.ensures.read in
+    rw (p.1, p.2) (on_streams c.args.buffer.now (g.S.Source.left c.args.link.now) c.await_body.new.buffer c.await_body.new.buffer (g.S.Source.left c.await_body.new.link) read.bytes (AnswersReply (Err OutOfMemory)) read.grown read.taken (λ more is. refl))
+
+pub returns-in-Failed-clause-next : goal.returns-in-Failed-clause-next
+returns-in-Failed-clause-next g c =
+    let read = Reads-trans g.S.Source.left g.S.Source.aside g.S.Source.faults c.read_reply_head.ensures.read c.await_body.ensures.read in
+    on_streams c.args.buffer.now (g.S.Source.left c.args.link.now) c.await_body.new.buffer c.await_body.new.buffer (g.S.Source.left c.await_body.new.link) read.bytes (AnswersReply (Err ReadFault)) read.grown read.taken (λ more is. refl)
+
+pub returns-in_err-response-clause-next : goal.returns-in_err-response-clause-next
+returns-in_err-response-clause-next g c =
+    let p = err_from_is_err_and c.from_residual-in_err-response.result c.from_residual-in_err-response.ensures.1 in
+    let read = Reads-trans g.S.Source.left g.S.Source.aside g.S.Source.faults c.read_reply_head.ensures.read c.await_body.ensures.read in
+    rw (p.1, p.2) (on_streams c.args.buffer.now (g.S.Source.left c.args.link.now) c.await_body.new.buffer c.await_body.new.buffer (g.S.Source.left c.await_body.new.link) read.bytes (AnswersReply (Err OutOfMemory)) read.grown read.taken (λ more is. refl))
 
 pub returns-clause-next : goal.returns-clause-next
 returns-clause-next g c =

@@ -4,7 +4,7 @@ use Rattle.std.specs.Io.KnownBytes.{IsAtEnd}
 use Rattle.std.proofs.lemmas.Result.{err_from_is_err_and}
 use Rattle.httparse.specs.Spans.{span_bytes}
 use Rattle.httparse.proofs.RunLemmas.{length-slice_range}
-use Rattle.http_ends.specs.declared.request.HttpEnd.TheVariants.{BodyTooLong, TransferCoding, CutOff}
+use Rattle.http_ends.specs.declared.request.HttpEnd.TheVariants.{BodyTooLong, TransferCoding, CutOff, ReadFault, OutOfMemory}
 use Rattle.http_ends.specs.declared.buffer.Filled.TheVariants.{Ended, Failed}
 use Rattle.http_ends.specs.Streams.{ReadsNext}
 use Rattle.http_ends.proofs.ReadingLemmas.{Reads-trans, on_streams}
@@ -72,6 +72,23 @@ returns-in-Failed-clause-fault g c = λ is holds.
     let failed : c.await_body.result ≡ Ok Failed = c.in_ok-await_body.was ∙ ap Ok c.in-Failed.is in
     let room = held c.await_body.new.buffer c.in_ok-head.head c.in_ok-head.ensures.head.0 at c.if-head.false c.if-head-gt-MOST_BODY.false holds in
     omega (arith, room, c.await_body.ensures.short (inr failed))
+
+pub returns-in_err-await_body-clause-next : goal.returns-in_err-await_body-clause-next
+returns-in_err-await_body-clause-next g c =
+    let p = err_from_is_err_and c.from_residual-in_err-await_body.result c.from_residual-in_err-await_body.ensures.1 in
+    let read = Reads-trans g.S.Source.left g.S.Source.aside g.S.Source.faults c.read_head.ensures.read c.await_body.ensures.read in
+    rw (p.1, p.2) (on_streams c.args.buffer.now (g.S.Source.left c.args.link.now) c.await_body.new.buffer c.await_body.new.buffer (g.S.Source.left c.await_body.new.link) read.bytes (ReadsNext (Err OutOfMemory)) read.grown read.taken (λ more is. refl))
+
+pub returns-in-Failed-clause-next : goal.returns-in-Failed-clause-next
+returns-in-Failed-clause-next g c =
+    let read = Reads-trans g.S.Source.left g.S.Source.aside g.S.Source.faults c.read_head.ensures.read c.await_body.ensures.read in
+    on_streams c.args.buffer.now (g.S.Source.left c.args.link.now) c.await_body.new.buffer c.await_body.new.buffer (g.S.Source.left c.await_body.new.link) read.bytes (ReadsNext (Err ReadFault)) read.grown read.taken (λ more is. refl)
+
+pub returns-in_err-request-clause-next : goal.returns-in_err-request-clause-next
+returns-in_err-request-clause-next g c =
+    let p = err_from_is_err_and c.from_residual-in_err-request.result c.from_residual-in_err-request.ensures.1 in
+    let read = Reads-trans g.S.Source.left g.S.Source.aside g.S.Source.faults c.read_head.ensures.read c.await_body.ensures.read in
+    rw (p.1, p.2) (on_streams c.args.buffer.now (g.S.Source.left c.args.link.now) c.await_body.new.buffer c.await_body.new.buffer (g.S.Source.left c.await_body.new.link) read.bytes (ReadsNext (Err OutOfMemory)) read.grown read.taken (λ more is. refl))
 
 pub request_of-requires-clause-method : goal.request_of-requires-clause-method
 request_of-requires-clause-method g c =

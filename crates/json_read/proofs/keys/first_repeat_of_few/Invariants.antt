@@ -1,6 +1,6 @@
 use Rattle.std.proofs.Common.{◌≡◌, ◌+◌, ℕ, List, map, take, drop, [], true}
 use Rattle.json_read.specs.Machinery.Ways.{has_key, repeat_at}
-use Rattle.text_buckets.specs.Buckets.{IsUsed}
+use Rattle.json_tree.specs.Buckets.{IsUsed}
 use Rattle.json_read.proofs.keys.first_repeat_of_few.Given as goal
 
 abbrev pub invariant-loop-at : goal.invariant-loop-at

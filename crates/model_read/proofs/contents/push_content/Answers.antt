@@ -24,10 +24,10 @@ pub returns : goal.returns
 returns c =
     let is = c.members_of-members.ensures in
     on_ok_weaker c.push_kind.result (λ gained. record {
-      one = record { name = c.in_ok-name.name; common = c.in_ok-common.common; kind = gained.kind };
+      one = record { name = c.in_ok-name.name; common = c.in-Ok.common; kind = gained.kind };
       items = gained.items;
       is = (
         ap (λ v. type_of position.Content (members_in v)) is ∙ gained.named,
-        (members_view c.members_of-members.result.now, is, c.in_ok-name.ensures, c.in_ok-common.ensures, gained.are),
+        (members_view c.members_of-members.result.now, is, c.in_ok-name.ensures, c.in-Ok.ensures, gained.are),
       );
     }) c.push_kind.ensures

@@ -22,11 +22,11 @@ push_property-requires c = (property_shape (members_view c.members_of-members.re
 pub returns : goal.returns
 returns c =
     on_ok_weaker c.push_property.result (λ gained. record {
-      one = record { name = c.in_ok-name.name; common = c.in_ok-common.common; kind = gained.kind };
+      one = record { name = c.in_ok-name.name; common = c.in-Ok.common; kind = gained.kind };
       items = gained.items;
       is = (
         (
-          (members_view c.members_of-members.result.now, c.members_of-members.ensures, c.in_ok-name.ensures, c.in_ok-common.ensures, gained.are),
+          (members_view c.members_of-members.result.now, c.members_of-members.ensures, c.in_ok-name.ensures, c.in-Ok.ensures, gained.are),
           ap (λ e. unwrap_or e element.Property) (sym gained.named),
         ),
         tt,

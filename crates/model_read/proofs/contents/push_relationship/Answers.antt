@@ -10,12 +10,12 @@ use Rattle.model_read.proofs.contents.push_relationship.Goals as goal
 
 pub returns : goal.returns
 returns c =
-    let seen = term-Relationship c.in_ok-target.target c.in_ok-properties.properties c.max_at-max.result c.is_writable-writable.result in record {
-      kind = kinds.Relationship c.in_ok-target.target c.in_ok-properties.properties c.max_at-max.result c.is_writable-writable.result;
+    let seen = term-Relationship c.in-Ok.target c.in-Ok-properties_of.properties c.max_at-max.result c.is_writable-writable.result in record {
+      kind = kinds.Relationship c.in-Ok.target c.in-Ok-properties_of.properties c.max_at-max.result c.is_writable-writable.result;
       items = c.in_ok-push.ensures.items;
       are = subst (λ (k : KindTerm). AreKind position.Content k (members_view c.args.members.now)) (sym seen) (
-        c.in_ok-target.ensures,
-        (elements_view c.entries_at-entries.result.now, c.entries_at-entries.ensures, c.in_ok-properties.ensures),
+        c.in-Ok.ensures,
+        (elements_view c.entries_at-entries.result.now, c.entries_at-entries.ensures, c.in-Ok-properties_of.ensures),
         c.max_at-max.ensures,
         c.is_writable-writable.ensures,
       );

@@ -10,9 +10,9 @@ use Rattle.model_read.proofs.kinds.push_command.Goals as goal
 
 pub returns : goal.returns
 returns c =
-    let seen = term-Command c.in_ok-request.request c.in_ok-response.response in record {
-      kind = kinds.Command c.in_ok-request.request c.in_ok-response.response;
+    let seen = term-Command c.in-Ok.request c.in-Ok-optional_payload.response in record {
+      kind = kinds.Command c.in-Ok.request c.in-Ok-optional_payload.response;
       items = c.in_ok-push.ensures.items;
-      are = subst (λ (k : KindTerm). AreKind position.Content k (members_view c.args.members.now)) (sym seen) (c.in_ok-request.ensures, c.in_ok-response.ensures);
+      are = subst (λ (k : KindTerm). AreKind position.Content k (members_view c.args.members.now)) (sym seen) (c.in-Ok.ensures, c.in-Ok-optional_payload.ensures);
       named = sym (ap (λ (k : KindTerm). Some (type_of_kind k)) seen);
     }

@@ -10,9 +10,9 @@ use Rattle.model_read.proofs.kinds.push_component.Goals as goal
 
 pub returns : goal.returns
 returns c =
-    let seen = term-Component c.in_ok-of.of in record {
-      kind = kinds.Component c.in_ok-of.of;
+    let seen = term-Component c.in-Ok.of in record {
+      kind = kinds.Component c.in-Ok.of;
       items = c.in_ok-push.ensures.items;
-      are = subst (λ (k : KindTerm). AreKind position.Content k (members_view c.args.members.now)) (sym seen) c.in_ok-of.ensures;
+      are = subst (λ (k : KindTerm). AreKind position.Content k (members_view c.args.members.now)) (sym seen) c.in-Ok.ensures;
       named = sym (ap (λ (k : KindTerm). Some (type_of_kind k)) seen);
     }

@@ -9,9 +9,9 @@ use Rattle.model_read.proofs.kinds.push_property.Goals as goal
 
 pub returns : goal.returns
 returns c =
-    let seen = term-Property c.in_ok-schema.schema c.in_ok-semantic.semantic c.in_ok-unit.unit c.is_writable-writable.result in record {
-      kind = kinds.Property c.in_ok-schema.schema c.in_ok-semantic.semantic c.in_ok-unit.unit c.is_writable-writable.result;
+    let seen = term-Property c.in-Ok-schema_at.schema c.in-Ok.semantic c.in-Ok.unit c.is_writable-writable.result in record {
+      kind = kinds.Property c.in-Ok-schema_at.schema c.in-Ok.semantic c.in-Ok.unit c.is_writable-writable.result;
       items = c.in_ok-push.ensures.items;
-      are = subst (λ (k : KindTerm). AreKind c.args.position k (members_view c.args.members.now)) (sym seen) (c.in_ok-schema.ensures, c.in_ok-semantic.ensures, c.in_ok-unit.ensures, c.is_writable-writable.ensures);
+      are = subst (λ (k : KindTerm). AreKind c.args.position k (members_view c.args.members.now)) (sym seen) (c.in-Ok-schema_at.ensures, c.in-Ok.ensures.semantic, c.in-Ok.ensures.unit, c.is_writable-writable.ensures);
       named = sym (ap (λ (k : KindTerm). Some (type_of_kind k)) seen);
     }

@@ -10,9 +10,9 @@ use Rattle.model_read.proofs.kinds.push_telemetry.Goals as goal
 
 pub returns : goal.returns
 returns c =
-    let seen = term-Telemetry c.in_ok-schema.schema c.in_ok-semantic.semantic c.in_ok-unit.unit in record {
-      kind = kinds.Telemetry c.in_ok-schema.schema c.in_ok-semantic.semantic c.in_ok-unit.unit;
+    let seen = term-Telemetry c.in-Ok-schema_at.schema c.in-Ok.semantic c.in-Ok.unit in record {
+      kind = kinds.Telemetry c.in-Ok-schema_at.schema c.in-Ok.semantic c.in-Ok.unit;
       items = c.in_ok-push.ensures.items;
-      are = subst (λ (k : KindTerm). AreKind position.Content k (members_view c.args.members.now)) (sym seen) (c.in_ok-schema.ensures, c.in_ok-semantic.ensures, c.in_ok-unit.ensures);
+      are = subst (λ (k : KindTerm). AreKind position.Content k (members_view c.args.members.now)) (sym seen) (c.in-Ok-schema_at.ensures, c.in-Ok.ensures.semantic, c.in-Ok.ensures.unit);
       named = sym (ap (λ (k : KindTerm). Some (type_of_kind k)) seen);
     }

@@ -3,7 +3,7 @@ use Rattle.json_tree.specs.View.{view}
 use Rattle.json_tree.specs.Places.{StandsAt}
 use Rattle.model_read.proofs.read.one_upload.Goals as goal
 
-pub uploaded_in-requires-clause-placed : goal.uploaded_in-requires-clause-placed
-uploaded_in-requires-clause-placed c =
+pub uploaded_in-upload-requires-clause-placed : goal.uploaded_in-upload-requires-clause-placed
+uploaded_in-upload-requires-clause-placed c =
     let v = view c.args.tree.now in
     (v, subst (λ (steps : List ℕ). StandsAt v steps v) (sym c.new.ensures) refl)

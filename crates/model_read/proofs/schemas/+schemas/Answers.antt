@@ -1,9 +1,11 @@
-use Rattle.std.proofs.Common.{List, Some, sym, ap, subst, arith}
+use Rattle.std.proofs.Common.{List, Some, refl, sym, ap, ◌∙◌, subst, arith}
 use Rattle.std.specs.Prelude.{codes}
 use Rattle.json_tree.specs.Values.{Json, object}
 use Rattle.json_tree.specs.View.{view, elements_view, members_view}
 use Rattle.json_tree.specs.declared.tree.Tree.{Tree}
+use Rattle.dtdl_terms.specs.Terms.{SchemaTerm}
 use Rattle.dtdl_terms.specs.TermViews.{schema_term, payloads_term}
+use Rattle.dtdl_terms.proofs.TermViews.{term-Object}
 use Rattle.dtdl_terms.specs.declared.schema.Payload.{Payload}
 use Rattle.dtdl_terms.specs.declared.schema.Schema.{Schema}
 use Rattle.local_faults.proofs.Sizes.{size, part_smaller, item_smaller}
@@ -21,6 +23,17 @@ object_in-payloads_of-requires t c =
     let same = ap size c.entries_of.ensures in
     let listed = c.requires.shaped.fields.1 (view c.wanted-fields.result.now) c.wanted-fields.ensures in
     (omega (arith, c.decreases, less, same), entries IsValidPayload (view c.wanted-fields.result.now) (elements_view c.entries_of.result.now) c.entries_of.ensures listed)
+
+pub object_in-returns : goal.object_in-returns
+object_in-returns t c =
+    subst (λ (s : SchemaTerm). IsSchema s (object (members_view c.args.members.now))) (sym (term-Object c.in_ok-common.common c.in-Ok.fields)) (
+      members_view c.args.members.now,
+      elements_view c.entries_of.result.now,
+      (refl, c.requires.typed),
+      c.in_ok-common.ensures,
+      c.wanted-fields.ensures ∙ ap Some c.entries_of.ensures,
+      c.in-Ok.ensures,
+    )
 
 pub payload_at-payload_of-requires : goal.payload_at-payload_of-requires
 payload_at-payload_of-requires t c =

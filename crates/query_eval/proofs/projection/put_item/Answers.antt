@@ -15,8 +15,8 @@ returns c =
     let row = row_view c.args.row.now in
     let ms = values_view c.args.values.now.entries in
     let found = found_value c.in-Some.found in
-    ap values_view c.in_ok-_old.ensures.entries
-    ∙ inserted c.in_ok-name.name c.in_ok-value.value c.args.values.now.entries
-    ∙ ap (λ (name : List ℕ). with_member name (view c.in_ok-value.value) ms) c.in_ok-name.ensures
+    ap values_view c.in_ok-old.ensures.entries
+    ∙ inserted c.in-Ok.name c.in_ok-value.value c.args.values.now.entries
+    ∙ ap (λ (name : List ℕ). with_member name (view c.in_ok-value.value) ms) c.in-Ok.ensures
     ∙ ap (λ (v : Json). with_member c.args.item.now.out v ms) c.in_ok-value.ensures
     ∙ sym (with_value row c.args.item.now ms found (ap (option_map found_value) (sym c.in-Some.is) ∙ c.in_ok-found.ensures ∙ ap (path_value row) c.as_slice.ensures))

@@ -11,7 +11,7 @@ loop-member-init c = rw c.in_ok-members.ensures.items (adds_none [])
 pub loop-member-preserved : goal.loop-member-preserved
 loop-member-preserved c =
     picked_either (λ key. not (bytes_eq key (codes "$metadata"))) same_value [] _ _ c.members_in-from.result.now c.loop-member.member-index c.member-item.result c.loop-member-test.true c.member-item.is c.loop-member.invariant
-    (rw (c.ne-passes.ensures, c.as_str.ensures) at c.in_ok-push_if.ensures)
+    (rw (c.ne-passes.ensures, c.as_str.ensures) at c.in-Ok.ensures)
 
 pub returns : goal.returns
 returns c =

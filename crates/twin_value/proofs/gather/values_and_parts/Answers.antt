@@ -1,25 +1,16 @@
-use Rattle.std.proofs.Common.{[]}
+use Rattle.std.proofs.Common.{List, subst}
 use Rattle.json_tree.specs.View.{members_view}
+use Rattle.json_tree.specs.declared.tree.Member.{Member}
 use Rattle.twin_value.specs.Twins.{picked, same_value, without_metadata, is_value_role, is_part_role}
+use Rattle.twin_value.specs.Machinery.Gathering.{PutsBehind}
 use Rattle.twin_value.specs.Machinery.Views.{keys_role}
-use Rattle.twin_value.proofs.Gathered.{adds_none, picked_either, picked_done, added}
+use Rattle.twin_value.proofs.Gathered.{added}
 use Rattle.twin_value.proofs.gather.values_and_parts.Goals as goal
 
-pub loop-member-init : goal.loop-member-init
-loop-member-init c = (rw c.in_ok-values.ensures.items (adds_none []), rw c.new-parts.ensures.items (adds_none []))
-
-pub loop-member-preserved : goal.loop-member-preserved
-loop-member-preserved c = (
-  picked_either (λ key. is_value_role (keys_role c.args.keys.now key)) same_value [] _ _ c.args.from.now c.loop-member.member-index c.member-item.result c.loop-member-test.true c.member-item.is c.loop-member.invariant.0
-      (rw (c.is_value.ensures, c.role-role.ensures, c.as_str.ensures) at c.in_ok-push_if.ensures),
-  picked_either (λ key. is_part_role (keys_role c.args.keys.now key)) without_metadata [] _ _ c.args.from.now c.loop-member.member-index c.member-item.result c.loop-member-test.true c.member-item.is c.loop-member.invariant.1
-      (rw (c.is_part.ensures, c.role-role.ensures, c.as_str.ensures) at c.in_ok-push_part_if.ensures),
-)
-
 pub returns : goal.returns
-returns c = (
-  c.ordered.ensures (picked (λ key. is_value_role (keys_role c.args.keys.now key)) same_value (members_view c.args.from.now))
-      (added _ _ (picked_done (λ key. is_value_role (keys_role c.args.keys.now key)) same_value [] _ c.args.from.now c.loop-member.member-index c.loop-member-test.false c.loop-member.invariant.0)),
-  c.ordered-2.ensures (picked (λ key. is_part_role (keys_role c.args.keys.now key)) without_metadata (members_view c.args.from.now))
-      (added _ _ (picked_done (λ key. is_part_role (keys_role c.args.keys.now key)) without_metadata [] _ c.args.from.now c.loop-member.member-index c.loop-member-test.false c.loop-member.invariant.1)),
-)
+returns c =
+    let values = picked (λ key. is_value_role (keys_role c.args.keys.now key)) same_value (members_view c.args.from.now) in
+    let parts = picked (λ key. is_part_role (keys_role c.args.keys.now key)) without_metadata (members_view c.args.from.now) in (
+      c.ordered.ensures values (added _ _ (subst (λ (l : List Member). PutsBehind l c.push_each.new.values.items values) c.in_ok-values.ensures.items c.in-Ok.ensures.values)),
+      c.ordered-2.ensures parts (added _ _ (subst (λ (l : List Member). PutsBehind l c.push_each.new.parts.items parts) c.new-parts.ensures.items c.in-Ok.ensures.parts)),
+    )

@@ -8,4 +8,4 @@ use Rattle.twin_value.proofs.library.schemas_of.Goals as goal
 pub loop-one-preserved : goal.loop-one-preserved
 loop-one-preserved c = λ q.
     had_more (λ (n : NamedIn). n.schemas) (λ (n : NamedIn). is_called q (Some (dtmi_text n.of))) c.args.named.now c.loop-one.one-index c.one-item.result c.loop-one-test.true c.one-item.is _ _
-    (c.loop-one.invariant q) (c.in_ok-add_schemas.ensures q)
+    (c.loop-one.invariant q) (c.in-Ok.ensures q)

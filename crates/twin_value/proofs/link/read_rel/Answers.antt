@@ -5,5 +5,5 @@ use Rattle.twin_value.proofs.link.read_rel.Goals as goal
 
 pub returns : goal.returns
 returns c =
-    link_result c.args.resolved.now (view c.args.tree.now) (λ n. let e : false ≡ true = sym c.if-names_none.false ∙ c.names_none.ensures.1 n in cc) c.args.source.now c.args.id.now c.link_by.result
-    (rw (c.in_ok-library.ensures, c.link_of-link.ensures, c.as_slice.ensures) at c.link_by.ensures)
+    link_result c.args.resolved.now (view c.args.tree.now) (λ n. let e : false ≡ true = sym c.if-names_none.false ∙ c.names_none.ensures.1 n in cc) c.args.source.now c.args.id.now c.link_by-read.result
+    (rw (c.in_ok-library.ensures, c.link_of-link.ensures, c.as_slice.ensures) at c.link_by-read.ensures)

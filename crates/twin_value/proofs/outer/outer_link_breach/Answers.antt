@@ -5,5 +5,5 @@ use Rattle.twin_value.specs.Roles.{Library, link_body}
 use Rattle.twin_value.proofs.Outermost.{link_outermost}
 use Rattle.twin_value.proofs.outer.outer_link_breach.Goals as goal
 
-pub outer_in-requires : goal.outer_in-requires
-outer_in-requires c = subst (λ (l : Library). IsOutermost (link_body l None no_contents)) (sym c.in_ok-library.ensures) link_outermost
+pub outer_in-found-requires : goal.outer_in-found-requires
+outer_in-found-requires c = subst (λ (l : Library). IsOutermost (link_body l None no_contents)) (sym c.in_ok-library.ensures) link_outermost

@@ -10,5 +10,5 @@ use Rattle.twin_value.proofs.part.read_part.Goals as goal
 pub returns : goal.returns
 returns c =
     let v = view c.args.tree.now in
-    let role = rw (c.in_ok-library.ensures, c.in_ok-contents.ensures, c.as_slice.ensures) at c.twin_role.ensures in
-    subst (λ (r : Role). MatchResult c.part_by.result (λ values. HasNoBreach (IsBodyBreach r v) × IsSortedOf (without_metadata v) (view values)) (EndsBy (IsBodyBreach r v))) role c.part_by.ensures
+    let role = rw (c.in_ok-library.ensures, c.in-Ok.ensures, c.as_slice.ensures) at c.twin_role.ensures in
+    subst (λ (r : Role). MatchResult c.part_by-values.result (λ values. HasNoBreach (IsBodyBreach r v) × IsSortedOf (without_metadata v) (view values)) (EndsBy (IsBodyBreach r v))) role c.part_by-values.ensures

@@ -19,7 +19,7 @@ returns c =
     let parts : picked (λ key. is_part_role (keys_role c.in_ok-keys.keys key)) without_metadata from ≡ component_members (role_view c.args.role) (view c.args.tree.now) =
     picked_same _ _ without_metadata (λ key. ap is_part_role (c.in_ok-keys.ensures key)) from
     ∙ ap (picked (λ key. is_part_role (body_member_role (role_view c.args.role) key)) without_metadata) c.members_in.ensures in
-    IfOk-weaker c.values_and_parts.result _ _ (λ made h. (
+    IfOk-weaker c.values_and_parts-made.result _ _ (λ made h. (
       subst (λ (ms : Members Number). IsSortedOf (object ms) (view made.0)) values h.0,
       subst (λ (ms : Members Number). IsSortedOf (object ms) (view made.1)) parts h.1,
-    )) c.values_and_parts.ensures
+    )) c.values_and_parts-made.ensures

@@ -1,10 +1,11 @@
 use Rattle.std.proofs.Common.{ap, sym, ◌∙◌, arith}
+use Rattle.std.proofs.lemmas.Result.{IfOk-weaker}
 use Rattle.json_tree.specs.Values.{array, object}
 use Rattle.json_tree.specs.View.{view, elements_view, members_view}
 use Rattle.json_tree.proofs.Views.{view-List, view-Members}
 use Rattle.json_tree.proofs.Parts.{item_part, member_part, item_within, value_within}
 use Rattle.twin_value.specs.Machinery.Views.{role_view, keys_role}
-use Rattle.twin_value.proofs.Walked.{judged_so, leaf_after, found_in_part, none_in_part, walked_all}
+use Rattle.twin_value.proofs.Walked.{clear_start, judged_so, leaf_after, found_in_part, none_in_part, walked_all}
 use Rattle.twin_value.proofs.Sounded.{first_of_parts, sound_of_parts, elements_next, members_next, elements_done, members_done}
 use Rattle.twin_value.proofs.walk.+walk.Goals as goal
 
@@ -59,29 +60,37 @@ pub first_in_elements-returns-clause-sound : goal.first_in_elements-returns-clau
 first_in_elements-returns-clause-sound t c = λ none alone.
     elements_done (role_view c.args.role) c.args.elements.now c.loop-at.at c.loop-at-test.false c.loop-at.invariant.1 alone
 
-pub first_in_members-returns-in-Some-clause-first : goal.first_in_members-returns-in-Some-clause-first
-first_in_members-returns-in-Some-clause-first t c =
-    let part = member_part c.args.members.now c.loop-at.at c.index-members-at.result c.loop-at-test.true c.index-members-at.is in
-    let role = sym (c.loop-at.invariant.2 c.index-members-at.result.key) ∙ (ap (keys_role c.loop-at.keys-1) (sym c.as_str.ensures) ∙ sym c.role-part.ensures) in
-    found_in_part (role_view c.args.role) (object (members_view c.args.members.now)) c.loop-at.at (role_view c.role-part.result) (view c.index-members-at.result.value) c.in-Some.found c.in_ok-found-2.found c.in_ok-found.field-0
-    c.loop-at.invariant.0 (c.index-members-at.result.key, part, role) c.in_ok-found.ensures.first c.in-Some.is c.in_ok-found-2.ensures
-
-pub first_in_members-loop-at-preserved : goal.first_in_members-loop-at-preserved
-first_in_members-loop-at-preserved t c =
-    let part = member_part c.args.members.now c.loop-at.at c.index-members-at.result c.loop-at-test.true c.index-members-at.is in
-    let role = sym (c.loop-at.invariant.2 c.index-members-at.result.key) ∙ (ap (keys_role c.loop-at.keys-1) (sym c.as_str.ensures) ∙ sym c.role-part.ensures) in (
-      none_in_part (role_view c.args.role) (object (members_view c.args.members.now)) c.loop-at.at (role_view c.role-part.result) (view c.index-members-at.result.value) c.in_ok-found.field-0
-          c.loop-at.invariant.0 (c.index-members-at.result.key, part, role) c.in_ok-found.ensures.first c.in_default.is,
-      members_next (role_view c.args.role) (role_view c.role-part.result) c.args.members.now c.loop-at.at c.index-members-at.result c.loop-at-test.true c.index-members-at.is
-          role c.loop-at.invariant.1 (c.in_ok-found.ensures.sound c.in_default.is),
-      c.loop-at.invariant.2,
-    )
-
 pub first_in_members-returns-clause-first : goal.first_in_members-returns-clause-first
-first_in_members-returns-clause-first t c =
-    walked_all (role_view c.args.role) (object (members_view c.args.members.now)) c.loop-at.at c.loop-at.invariant.0
-    (λ i s part p. let h = value_within c.args.members.now i _ p.1 in omega (arith, h, c.loop-at-test.false))
+first_in_members-returns-clause-first t c = IfOk-weaker c.first_under-found.result _ _ (λ found h. h (role_view c.args.role) c.in_ok-keys.ensures) c.first_under-found.ensures.first
 
 pub first_in_members-returns-clause-sound : goal.first_in_members-returns-clause-sound
-first_in_members-returns-clause-sound t c = λ none alone.
-    members_done (role_view c.args.role) c.args.members.now c.loop-at.at c.loop-at-test.false c.loop-at.invariant.1 alone
+first_in_members-returns-clause-sound t c = IfOk-weaker c.first_under-found.result _ _ (λ found h none. h none (role_view c.args.role) c.in_ok-keys.ensures) c.first_under-found.ensures.sound
+
+pub first_under-returns-in-Some-clause-first : goal.first_under-returns-in-Some-clause-first
+first_under-returns-in-Some-clause-first t c = λ r h.
+    let part = member_part c.args.members.now c.loop-at.at c.index-members-at.result c.loop-at-test.true c.index-members-at.is in
+    let role = sym (h c.index-members-at.result.key) ∙ (ap (keys_role c.args.keys.now) (sym c.as_str.ensures) ∙ sym c.role-part.ensures) in
+    found_in_part r (object (members_view c.args.members.now)) c.loop-at.at (role_view c.role-part.result) (view c.index-members-at.result.value) c.in-Some.found c.in_ok-found-2.found c.in_ok-found.field-0
+    (c.loop-at.invariant r h).0 (c.index-members-at.result.key, part, role) c.in_ok-found.ensures.first c.in-Some.is c.in_ok-found-2.ensures
+
+pub first_under-loop-at-init : goal.first_under-loop-at-init
+first_under-loop-at-init t c = λ r h. (clear_start r (object (members_view c.args.members.now)), tt)
+
+pub first_under-loop-at-preserved : goal.first_under-loop-at-preserved
+first_under-loop-at-preserved t c = λ r h.
+    let part = member_part c.args.members.now c.loop-at.at c.index-members-at.result c.loop-at-test.true c.index-members-at.is in
+    let role = sym (h c.index-members-at.result.key) ∙ (ap (keys_role c.args.keys.now) (sym c.as_str.ensures) ∙ sym c.role-part.ensures) in (
+      none_in_part r (object (members_view c.args.members.now)) c.loop-at.at (role_view c.role-part.result) (view c.index-members-at.result.value) c.in_ok-found.field-0
+          (c.loop-at.invariant r h).0 (c.index-members-at.result.key, part, role) c.in_ok-found.ensures.first c.in_default.is,
+      members_next r (role_view c.role-part.result) c.args.members.now c.loop-at.at c.index-members-at.result c.loop-at-test.true c.index-members-at.is
+          role (c.loop-at.invariant r h).1 (c.in_ok-found.ensures.sound c.in_default.is),
+    )
+
+pub first_under-returns-clause-first : goal.first_under-returns-clause-first
+first_under-returns-clause-first t c = λ r h.
+    walked_all r (object (members_view c.args.members.now)) c.loop-at.at (c.loop-at.invariant r h).0
+    (λ i s part p. let w = value_within c.args.members.now i _ p.1 in omega (arith, w, c.loop-at-test.false))
+
+pub first_under-returns-clause-sound : goal.first_under-returns-clause-sound
+first_under-returns-clause-sound t c = λ none r h alone.
+    members_done r c.args.members.now c.loop-at.at c.loop-at-test.false (c.loop-at.invariant r h).1 alone

@@ -10,8 +10,8 @@ use Rattle.graph_steps.specs.held.Held.{link_of, state_of}
 use Rattle.graph_judges.proofs.fits.OneLink.{not_clear}
 use Rattle.graph_judges.proofs.fits.links.is_unbroken.Goals as goal
 
-pub judged_link-requires-clause-distinct : goal.judged_link-requires-clause-distinct
-judged_link-requires-clause-distinct c = subst HasDistinctKeys (sym c.in_ok-tree.ensures) (sorted_distinct (link_value (link_of c.args.edge.now)) (sorted_again (link_object (link_of c.args.edge.now))))
+pub judged_link-judged-requires-clause-distinct : goal.judged_link-judged-requires-clause-distinct
+judged_link-judged-requires-clause-distinct c = subst HasDistinctKeys (sym c.in_ok-tree.ensures) (sorted_distinct (link_value (link_of c.args.edge.now)) (sorted_again (link_object (link_of c.args.edge.now))))
 
 pub returns-in-Ok-clause-unbroken : goal.returns-in-Ok-clause-unbroken
 returns-in-Ok-clause-unbroken c = (
@@ -19,9 +19,9 @@ returns-in-Ok-clause-unbroken c = (
   λ h. refl,
 )
 
-pub returns-in-Err-Refused-clause-unbroken : goal.returns-in-Err-Refused-clause-unbroken
-returns-in-Err-Refused-clause-unbroken c = (
+pub returns-in_ok-refused-in-Err-clause-unbroken : goal.returns-in_ok-refused-in-Err-clause-unbroken
+returns-in_ok-refused-in-Err-clause-unbroken c = (
   λ h. absurd (true≢false (sym h)),
-  λ clear. absurd (not_clear (IsLinkBreach (inherited (set_of (state_of c.args.lent.now)) c.args.interface.now) (view c.in_ok-tree.tree)) (view c.in_ok-tree.tree) c.in-Err-Refused.field-0 c.in-Err-Refused.field-0-0 c.in-Err-Refused.field-0-is c.in-Err-Refused.ensures.link
+  λ clear. absurd (not_clear (IsLinkBreach (inherited (set_of (state_of c.args.lent.now)) c.args.interface.now) (view c.in_ok-tree.tree)) (view c.in_ok-tree.tree) c.in-Err.failure c.in_ok-refused-in-Err.ensures.0 c.in_ok-refused-in-Err.ensures.1 c.in-Err.ensures.link
       (subst (λ (v : Json). HasNoBreach (IsLinkBreach (inherited (set_of (state_of c.args.lent.now)) c.args.interface.now) v)) (sym c.in_ok-tree.ensures) clear)),
 )

@@ -17,7 +17,7 @@ pub returns-in_default-clause-judged : goal.returns-in_default-clause-judged
 returns-in_default-clause-judged c =
     let s = state_of c.args.lent.now in
     refused_by (refusals.TwinNotFound c.args.link.target) (RefusesEnds s c.args.interface.now (link_view c.args.link))
-    (inl (sym c.twin.ensures.at ∙ ap (λ o. option_map twin_view (option_copied o)) c.in_default.is, refl)) c.no_twin.result c.no_twin.ensures
+    (inl (sym c.twin.ensures.at ∙ ap (λ o. option_map twin_view (option_copied o)) c.in_default.is, refl)) c.no_twin-failure.result c.no_twin-failure.ensures
 
 pub fitting-requires-clause-target : goal.fitting-requires-clause-target
 fitting-requires-clause-target c = sym c.twin.ensures.at ∙ ap (λ o. option_map twin_view (option_copied o)) c.in-Some.is

@@ -13,12 +13,12 @@ add_contents-requires c = record {
 
 pub interfaces-preserved : goal.interfaces-preserved
 interfaces-preserved c =
-    declared_by_more c.args.interfaces.now c.interfaces.interface-index c.interface-item.result c.interfaces.contents c.add_contents.new.contents (omega (arith, c.interfaces-test.true)) c.interface-item.is c.interfaces.invariant c.in_ok-add_contents.ensures
+    declared_by_more c.args.interfaces.now c.interfaces.interface-index c.interface-item.result c.interfaces.contents c.add_contents.new.contents (omega (arith, c.interfaces-test.true)) c.interface-item.is c.interfaces.invariant c.in-Ok.ensures
 
 pub returns-clause-each : goal.returns-clause-each
 returns-clause-each c =
-    if_ok_both c.copy.result
+    if_ok_both c.copy-copies.result
     (λ rs is sorted.
     subst (λ xs. (r : ResolvedContent) → Contains xs r ↔ IsDeclaredIn (map (λ x. x.now) c.args.interfaces.now) r) (sym is)
     (all_found c.args.interfaces.now c.interfaces.interface-index c.interfaces.contents (omega (arith, c.interfaces-test.false)) (omega arith) sorted c.interfaces.invariant))
-    c.copy.ensures.each c.copy.ensures.sorted
+    c.copy-copies.ensures.each c.copy-copies.ensures.sorted

@@ -7,11 +7,11 @@ use Rattle.query_eval.specs.conditions.Machinery.Sides.{side_value}
 use Rattle.query_eval.proofs.conditions.Plainly.{sides_part}
 use Rattle.query_eval.proofs.conditions.holding.operand_is_part.Goals as goal
 
-pub returns : goal.returns
-returns c =
-    c.is_text_part.ensures
-    ∙ sides_part c.args.kind (side_value c.in-Some.whole) (side_value c.in-Some-2.part) (plain_value c.plain.result) (plain_value c.plain-2.result)
+pub returns-in-Ok-Some : goal.returns-in-Ok-Some
+returns-in-Ok-Some c =
+    c.is_text_part-so.ensures
+    ∙ sides_part c.args.kind (side_value c.in-Some.whole) (side_value c.in-Ok-Some.part) (plain_value c.plain.result) (plain_value c.plain-in-Ok-Some.result)
     (operand_value (row_view c.args.row.now) c.args.whole.now) (operand_value (row_view c.args.row.now) c.args.part.now)
     (sym (ap (option_map side_value) c.in-Some.is) ∙ c.in_ok-whole.ensures)
-    (sym (ap (option_map side_value) c.in-Some-2.is) ∙ c.in_ok-part.ensures)
-    c.plain.ensures c.plain-2.ensures
+    (sym (ap (option_map side_value) c.in-Ok-Some.field-0-is) ∙ c.in-Ok-Some.ensures)
+    c.plain.ensures c.plain-in-Ok-Some.ensures

@@ -7,11 +7,11 @@ use Rattle.query_eval.specs.conditions.Machinery.Sides.{side_value}
 use Rattle.query_eval.proofs.conditions.Plainly.{sides_compare}
 use Rattle.query_eval.proofs.conditions.holding.operands_compare.Goals as goal
 
-pub returns : goal.returns
-returns c =
-    c.compares.ensures
-    ∙ sides_compare c.args.compare (side_value c.in-Some.left) (side_value c.in-Some-2.right) (plain_value c.plain.result) (plain_value c.plain-2.result)
+pub returns-in-Ok-Some : goal.returns-in-Ok-Some
+returns-in-Ok-Some c =
+    c.compares-so.ensures
+    ∙ sides_compare c.args.compare (side_value c.in-Some.left) (side_value c.in-Ok-Some.right) (plain_value c.plain.result) (plain_value c.plain-in-Ok-Some.result)
     (operand_value (row_view c.args.row.now) c.args.left.now) (operand_value (row_view c.args.row.now) c.args.right.now)
     (sym (ap (option_map side_value) c.in-Some.is) ∙ c.in_ok-left.ensures)
-    (sym (ap (option_map side_value) c.in-Some-2.is) ∙ c.in_ok-right.ensures)
-    c.plain.ensures c.plain-2.ensures
+    (sym (ap (option_map side_value) c.in-Ok-Some.field-0-is) ∙ c.in-Ok-Some.ensures)
+    c.plain.ensures c.plain-in-Ok-Some.ensures

@@ -12,5 +12,5 @@ invariant_of-self-2 c =
     ] in (
       c.insert.ensures.ordered,
       put_counted c.make_room-self-inside.new.entries.entries c.insert.new.self.entries c.args.key c.args.resolved c.make_room-self-inside.result c.contents_of-contents.result c.saturating_add-self-inside.result
-          c.insert.ensures.was_ordered absent c.in_ok-insert.ensures.entries c.contents_of-contents.ensures c.saturating_add-self-inside.ensures c.make_room-self-inside.ensures.room c.make_room-self-inside.ensures.counted,
+          c.insert.ensures.was_ordered absent c.in_ok-before.ensures.entries c.contents_of-contents.ensures c.saturating_add-self-inside.ensures c.make_room-self-inside.ensures.room c.make_room-self-inside.ensures.counted,
     )

@@ -23,20 +23,20 @@ returns-clause-held c =
     subst (λ (q : Identifier). IsSome (entry_at q c.hold.new.self)) c.in_ok-key.ensures
     (ap is_some
     (elim h [
-      | inl is ↦ put_there c.in_ok-key.key c.in_ok-resolved.resolved c.args.self.now c.hold.new.self is
-      | inr is ↦ put_there c.in_ok-key.key c.in_ok-resolved.resolved [] c.hold.new.self is
+      | inl is ↦ put_there c.in_ok-key.key c.in-Ok.resolved c.args.self.now c.hold.new.self is
+      | inr is ↦ put_there c.in_ok-key.key c.in-Ok.resolved [] c.hold.new.self is
     ]))) c.hold.ensures.ok
 
 pub returns-clause-right : goal.returns-clause-right
 returns-clause-right c =
     let one = some_of (interface_at c.args.id.now c.args.set.now) c.requires.there in
     let found : interface_at c.in_ok-key.key c.args.set.now ≡ Some one.0 = ap (λ (q : Identifier). interface_at q c.args.set.now) c.in_ok-key.ensures ∙ one.1 in
-    let resolved : IsResolved c.args.set.now one.0 c.in_ok-resolved.resolved = c.in_ok-resolved.ensures one.0 one.1 in
+    let resolved : IsResolved c.args.set.now one.0 c.in-Ok.resolved = c.in-Ok.ensures one.0 one.1 in
     at_each_end c.hold.result
     (λ h.
     elim h [
-      | inl is ↦ put_right c.args.set.now c.in_ok-key.key one.0 c.in_ok-resolved.resolved c.args.self.now c.hold.new.self found resolved is c.requires.right
-      | inr is ↦ put_right c.args.set.now c.in_ok-key.key one.0 c.in_ok-resolved.resolved [] c.hold.new.self found resolved is (none_right c.args.set.now)
+      | inl is ↦ put_right c.args.set.now c.in_ok-key.key one.0 c.in-Ok.resolved c.args.self.now c.hold.new.self found resolved is c.requires.right
+      | inr is ↦ put_right c.args.set.now c.in_ok-key.key one.0 c.in-Ok.resolved [] c.hold.new.self found resolved is (none_right c.args.set.now)
     ])
     (λ h.
     elim h [

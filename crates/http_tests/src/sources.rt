@@ -1,0 +1,56 @@
+//! Sources in memory.
+
+use dt_base::{List, MemSource, OutOfMemory};
+use std::alloc::Global;
+
+/// Both of two values, where both were made.
+pub fn both<A, B>(
+    a: Result<A, OutOfMemory>,
+    b: Result<B, OutOfMemory>,
+) -> Result<(A, B), OutOfMemory>
+where
+    A: Drop,
+    B: Drop,
+{
+    let Ok(a) = a else {
+        drop(b);
+        return Err(OutOfMemory);
+    };
+    let Ok(b) = b else {
+        drop(a);
+        return Err(OutOfMemory);
+    };
+    Ok((a, b))
+}
+
+pub fn list_of<T: Copy>(alloc: Global, items: &[T]) -> Result<List<T>, OutOfMemory> {
+    Ok(List::from_vec(Vec::from_slice(alloc, items)?))
+}
+
+/// The sizes of the first piece of so many bytes and of further ones.
+fn pieces_of(
+    alloc: Global,
+    count: usize,
+    first: u64,
+    further: u64,
+) -> Result<List<u64>, OutOfMemory> {
+    let mut pieces = Vec::new(alloc);
+    pieces.push(first)?;
+    pieces.resize(count, further)?;
+    Ok(List::from_vec(pieces))
+}
+
+/// A source of these bytes, of whose reads one fails, the first gives at most so many bytes and each further one at most so many.
+/// Reads are counted from 1.
+pub fn source_of(
+    alloc: Global,
+    bytes: &[u8],
+    failing: u64,
+    first: u64,
+    further: u64,
+) -> Result<MemSource, OutOfMemory> {
+    let lists = both(list_of(alloc, bytes), list_of(alloc, &[failing]));
+    let pieces = pieces_of(alloc, bytes.len(), first, further);
+    let ((bytes, failing), pieces) = both(lists, pieces)?;
+    Ok(MemSource::new(bytes, failing, pieces))
+}
