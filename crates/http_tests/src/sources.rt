@@ -23,6 +23,7 @@ where
     Ok((a, b))
 }
 
+/// A list of these items.
 pub fn list_of<T: Copy>(alloc: Global, items: &[T]) -> Result<List<T>, OutOfMemory> {
     Ok(List::from_vec(Vec::from_slice(alloc, items)?))
 }
