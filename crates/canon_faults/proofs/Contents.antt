@@ -30,7 +30,7 @@ use Rattle.local_rules.specs.declared.role.SchemaUse.{SchemaUse}
 use Rattle.local_rules.specs.declared.role.SchemaUse.TheVariants as schema_use
 use Rattle.local_rules.specs.declared.role.Role.{Role}
 use Rattle.local_rules.specs.declared.role.Role.TheVariants as role
-use Rattle.model_read.specs.Declarations.{AreEntriesOf, AreKind, AreProperties, HasCommon, HasKindOf, HasMax, HasOptionalPayload, HasOptionalString, HasSchema, HasString, IsContent, IsSchema, IsSemantic, DeclaresWritable}
+use Rattle.local_rules.specs.Declarations.{AreEntriesOf, AreKind, AreProperties, HasCommon, HasKindOf, HasMax, HasOptionalPayload, HasOptionalString, HasSchema, HasString, IsContent, IsSchema, IsSemantic, DeclaresWritable}
 use Rattle.local_rules.specs.Typed.{IsPropertyTerm, type_of_kind, ContentIsTyped, KindIsTyped, NamesNoType, PropertiesAreTyped}
 use Rattle.local_rules.specs.Limits.{KindIsWithin, ContentIsWithin, ContentsAreWithin, HasShortTexts, OuterPayloadIsWithin, OuterSchemaIsWithin}
 use Rattle.model_read.specs.Machinery.Shapes.{CanBe, CanBeTypes}

@@ -16,11 +16,11 @@ use Rattle.canon_text.specs.Machinery.Pairs.{pair_name}
 use Rattle.canon_text.proofs.Told.{all_mapped, all_unmapped, all_with}
 use Rattle.local_rules.specs.Typed.{IsTyped}
 use Rattle.canon_laws.proofs.Documents.{set_pairs, set_same}
-use Rattle.canon_faults.specs.Declared.{IsSoundlyDeclared}
+use Rattle.local_rules.specs.Soundness.{IsSoundlyDeclared}
 use Rattle.canon_faults.proofs.Alike.{AreApart, interfaces}
 use Rattle.canon_faults.proofs.Apart.{Pairwise, pairwise_sorted}
 use Rattle.canon_faults.proofs.Good.{Pairs}
-use Rattle.canon_faults.proofs.Identified.{interface_own, uploads_own}
+use Rattle.canon_laws.proofs.Identified.{interface_own, uploads_own}
 use Rattle.json_tree.proofs.DistinctKeys.{spelled_distinct}
 use Rattle.canon_faults.proofs.Nowhere.{no_breach}
 use Rattle.canon_faults.proofs.Uploads.{typed_so}

@@ -33,7 +33,7 @@ use Rattle.local_rules.specs.declared.role.ValueSchema.{ValueSchema}
 use Rattle.local_rules.specs.declared.role.ValueSchema.TheVariants as value_schemas
 use Rattle.local_rules.specs.declared.role.Role.{Role}
 use Rattle.local_rules.specs.declared.role.Role.TheVariants as role
-use Rattle.model_read.specs.Declarations.{HasString, IsEnumEntry, IsEnumValue, value_schema as declared_value_schema}
+use Rattle.local_rules.specs.Declarations.{HasString, IsEnumEntry, IsEnumValue, value_schema as declared_value_schema}
 use Rattle.local_rules.specs.Limits.{EnumEntryIsWithin}
 use Rattle.model_read.proofs.Valid.{here}
 use Rattle.model_read.proofs.Standing.{BreaksNowhere, Stands, entry_at, entry_stands, key_at, key_stands, stands_valid}

@@ -1,5 +1,5 @@
 -- A canonical interface has no fault where the object that declares it has none.
-use Rattle.std.proofs.Common.{◌≡◌, ◌≢◌, ℕ, zero, suc, ◌≤◌, inl, inr, List, [], ◌∷◌, length, map, ℤ, Option, Some, None, refl, sym, ap, subst, ◌∙◌, arith}
+use Rattle.std.proofs.Common.{◌≡◌, ◌≢◌, ℕ, zero, suc, ◌≤◌, inl, List, [], ◌∷◌, length, map, ℤ, Option, Some, None, refl, sym, ap, subst, ◌∙◌, arith}
 use Rattle.std.specs.Prelude.{codes}
 use Rattle.std.specs.List.{AllByRecursion, AllZip}
 use Rattle.dt_base.specs.names.Grammar.{Identifier, OwnDtmiText, dtmi_text}
@@ -24,7 +24,7 @@ use Rattle.local_rules.specs.declared.role.Localized.TheVariants as localized
 use Rattle.local_rules.specs.declared.role.Position.TheVariants as position
 use Rattle.local_rules.specs.declared.role.Role.{Role}
 use Rattle.local_rules.specs.declared.role.Role.TheVariants as role
-use Rattle.model_read.specs.Declarations.{AreEntriesOf, DeclaresInterface, HasContents, HasParents, HasSchemas, IsContentEntry, IsIdentifier, IsSchema}
+use Rattle.local_rules.specs.Declarations.{AreEntriesOf, DeclaresInterface, HasContents, HasSchemas, IsContentEntry, IsIdentifier, IsSchema}
 use Rattle.local_rules.specs.Limits.{ContentIsWithin, IsShortInterfaceId, IsWithinLimits, OuterSchemaIsWithin}
 use Rattle.model_read.proofs.Once.{identifier_once}
 use Rattle.model_read.proofs.Standing.{BreaksNowhere, Stands, entry_stands, itself, key_stands}
@@ -45,20 +45,10 @@ use Rattle.canon_faults.proofs.Named.{members, under}
 use Rattle.canon_faults.proofs.Parts.{id_part, new_part, nothing_missing, text_part, texts_part}
 use Rattle.canon_faults.proofs.Levels.{schemas_alike}
 use Rattle.canon_faults.proofs.Schemas.{schema_good}
+use Rattle.canon_laws.proofs.Identified.{parents_own}
 use Rattle.canon_faults.proofs.Contents.{content_good, content_named_by, optional_list}
 
 -- ---- parents
-pub parents_own : (o : Option Json) (ids : List Identifier) → HasParents o ids → AllByRecursion (λ id. OwnDtmiText (dtmi_text id) id) ids
-parents_own None ids has = subst (AllByRecursion (λ id. OwnDtmiText (dtmi_text id) id)) (sym has) tt
-parents_own (Some v) ids (inl has) = subst (AllByRecursion (λ id. OwnDtmiText (dtmi_text id) id)) (sym has.1) (has.2.1, tt)
-parents_own (Some v) ids (inr has) = each (list_of has.0) ids has.2
-  where
-    each : (vs : List Json) (js : List Identifier) → AllZip IsIdentifier vs js → AllByRecursion (λ id. OwnDtmiText (dtmi_text id) id) js
-    each [] [] all = tt
-    each [] (j ∷ js) all = absurd all
-    each (w ∷ ws) [] all = absurd all
-    each (w ∷ ws) (j ∷ js) all = (all.0.1, each ws js all.1)
-
 other_texts : (id : Identifier) (ids : List Identifier) → OwnDtmiText (dtmi_text id) id → AllByRecursion (λ j. OwnDtmiText (dtmi_text j) j) ids → AllByRecursion (λ j. id ≢ j) ids
     → AllByRecursion (λ k. dtmi_text id ≢ k) (map pair_name (map parent_pair ids))
 other_texts id [] own owns apart = tt

@@ -20,7 +20,7 @@ use Rattle.local_rules.specs.declared.role.Element.{Element}
 use Rattle.local_rules.specs.declared.role.SchemaUse.{SchemaUse}
 use Rattle.local_rules.specs.declared.role.Role.{Role}
 use Rattle.local_rules.specs.declared.role.Role.TheVariants as role
-use Rattle.model_read.specs.Declarations.{AreEntriesOf, HasOptionalId, HasSchemas, IsIdentifier, IsSchema}
+use Rattle.local_rules.specs.Declarations.{AreEntriesOf, HasOptionalId, HasSchemas, IsIdentifier, IsSchema}
 use Rattle.model_read.proofs.Once.{identifier_once}
 use Rattle.model_read.proofs.Standing.{BreaksNowhere, Stands}
 use Rattle.canon_text.specs.Sorting.{sorted_by}

@@ -13,10 +13,9 @@ pub mod Enums
 pub mod Schemas
 pub mod Contents
 pub mod Interfaces
-pub mod NormalForms
 pub mod Uploads
 pub mod Nowhere
 pub mod Alike
 pub mod Judged
-pub mod Identified
 pub mod DeclaredAgain
+pub mod PrintedAgain

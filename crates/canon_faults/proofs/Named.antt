@@ -20,7 +20,7 @@ use Rattle.local_rules.specs.declared.role.Element.{Element}
 use Rattle.local_rules.specs.declared.role.Element.TheVariants as element_kind
 use Rattle.local_rules.specs.declared.role.Position.TheVariants as position
 use Rattle.local_rules.proofs.Named.{id_is}
-use Rattle.model_read.specs.Declarations.{IsPayload, ArePayloads, IsSchema}
+use Rattle.local_rules.specs.Declarations.{IsPayload, ArePayloads, IsSchema}
 use Rattle.canon_text.specs.Sorting.{sorted_by}
 use Rattle.canon_text.specs.Objects.{present, list_in_order}
 use Rattle.canon_text.specs.Canonical.{element_parts, enum_entry_pair, id_value, payload_pairs, payload_value, schema_value, value_schema_json}

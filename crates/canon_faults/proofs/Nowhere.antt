@@ -19,7 +19,8 @@ use Rattle.canon_text.specs.Sorting.{sorted_by}
 use Rattle.canon_text.specs.Canonical.{interface_pair, interface_value, set_value}
 use Rattle.canon_text.specs.Machinery.Pairs.{pair_name, pair_value}
 use Rattle.canon_text.proofs.Told.{all_mapped, all_sorted, all_with}
-use Rattle.canon_faults.specs.Declared.{IsSoundlyDeclared}
+use Rattle.local_rules.specs.Normal.{HasNormalNumbers}
+use Rattle.local_rules.specs.Soundness.{IsSoundlyDeclared}
 use Rattle.canon_faults.proofs.Everywhere.{everywhere_at}
 use Rattle.canon_faults.proofs.Counts.{counted_once}
 use Rattle.canon_faults.proofs.Once.{at_most_once}
@@ -27,7 +28,7 @@ use Rattle.canon_faults.proofs.Fine.{Fine, HasNames}
 use Rattle.canon_faults.proofs.Good.{Good}
 use Rattle.canon_faults.proofs.Named.{members}
 use Rattle.canon_faults.proofs.Interfaces.{interface_good}
-use Rattle.canon_faults.proofs.NormalForms.{normal_at, normal_once}
+use Rattle.local_rules.proofs.NormalForms.{normal_at, normal_once, spelled_normal}
 use Rattle.canon_faults.proofs.Uploads.{declared_once, typed_so, within_limits}
 use Rattle.canon_laws.proofs.Contents.{interface_parts}
 
@@ -41,9 +42,12 @@ module _ (i : Interface) (s : IsSoundlyDeclared i) where
   abbrev cs : Members Number
   cs = members (interface_parts i)
 
+  numbers : HasNormalNumbers whole
+  numbers = spelled_normal s.bytes whole s.spelled
+
   once : (r q : Role) (m n : Number) (z : ℤ) → Stands whole r (number m) → Stands whole q (number n) → IsWhole m z → IsWhole n z → m ≡ n
-  once r q m n z first second one other = normal_once m n z (normal_at first.place role.Interface whole r (number m) s.numbers first.there)
-      (normal_at second.place role.Interface whole q (number n) s.numbers second.there) one other
+  once r q m n z first second one other = normal_once m n z (normal_at first.place role.Interface whole r (number m) numbers first.there)
+      (normal_at second.place role.Interface whole q (number n) numbers second.there) one other
 
   good : Good cs (Some role.Interface) canonical whole
   good = interface_good s.members i s.declares (declared_once i s) (within_limits i s) (typed_so i s) s.unbroken once

@@ -24,7 +24,7 @@ use Rattle.local_rules.specs.declared.role.Localized.{Localized as Which}
 use Rattle.local_rules.specs.declared.role.Localized.TheVariants as localized
 use Rattle.local_rules.specs.declared.role.Role.{Role}
 use Rattle.local_rules.specs.declared.role.Role.TheVariants as role
-use Rattle.model_read.specs.Declarations.{HasCommon, IsLocalized, IsLocalizedBy, IsTextOfLanguage}
+use Rattle.local_rules.specs.Declarations.{HasCommon, IsLocalized, IsLocalizedBy, IsTextOfLanguage}
 use Rattle.local_rules.specs.Limits.{HasShortTexts, IsShortText}
 use Rattle.model_read.proofs.Valid.{here}
 use Rattle.model_read.proofs.Standing.{BreaksNowhere, Stands, key_stands, part_stands, stands_valid}

@@ -31,7 +31,7 @@ use Rattle.local_rules.specs.declared.role.Role.{Role}
 use Rattle.local_rules.specs.declared.role.Role.TheVariants as role
 use Rattle.local_rules.proofs.Wanted.{lacks_first}
 use Rattle.local_rules.specs.Kinds.{LacksKeyOf, needed_keys}
-use Rattle.model_read.specs.Declarations.{ArePayloads, HasCommon, IsPayload, IsSchema}
+use Rattle.local_rules.specs.Declarations.{ArePayloads, HasCommon, IsPayload, IsSchema}
 use Rattle.local_rules.specs.Limits.{HasShortTexts, PayloadIsWithin, PayloadsAreWithin, SchemaIsWithin}
 use Rattle.model_read.proofs.Valid.{here}
 use Rattle.model_read.proofs.Standing.{BreaksNowhere, Stands, entry_stands, key_stands, stands_valid}

@@ -1,2 +1,1 @@
-pub mod Normal
-pub mod Declared
+pub mod PrintedAgain

@@ -7,4 +7,4 @@ mod texts;
 
 pub use laws::{break_nothing, numbers_are_normal, soundly_declared};
 pub use sets::{declared_alike, judged_alike};
-pub use texts::without_faults;
+pub use texts::{prints_again, without_faults};

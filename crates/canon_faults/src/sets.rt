@@ -11,7 +11,7 @@ ghost use Rattle.dtdl_terms.specs.declared.uploaded.Uploaded.{Uploaded};
 ghost use Rattle.model_read.specs.Uploads.{AreUploaded};
 ghost use Rattle.extend_resolve.specs.Breaches.{IsSound};
 ghost use Rattle.canon_text.specs.Canonical.{set_value};
-ghost use Rattle.canon_faults.specs.Declared.{IsSoundlyDeclared};
+ghost use Rattle.local_rules.specs.Soundness.{IsSoundlyDeclared};
 
 /// Two sets that declare the same, in whatever order, are judged the same by the rules on sets: where the interfaces of
 /// each have declarations and identifiers of their own, the second breaks no rule if the first breaks none.

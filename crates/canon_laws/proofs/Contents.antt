@@ -20,7 +20,7 @@ use Rattle.dtdl_terms.specs.declared.common.Common.{Common}
 use Rattle.dtdl_terms.specs.declared.content.Content.{Content}
 use Rattle.dtdl_terms.specs.declared.interface.Interface.{Interface}
 use Rattle.dtdl_terms.specs.declared.schema.Schema.{Schema}
-use Rattle.model_read.specs.Declarations.{IsIdentifier, HasId, HasOptionalString, HasOptionalId, IsSemantic, AreKind, IsContent, AreProperties, HasKindOf, IsContentEntry, HasParents, IsSchema, DeclaresInterface}
+use Rattle.local_rules.specs.Declarations.{IsIdentifier, HasId, HasOptionalString, HasOptionalId, IsSemantic, AreKind, IsContent, AreProperties, HasKindOf, IsContentEntry, HasParents, IsSchema, DeclaresInterface}
 use Rattle.local_rules.specs.Typed.{type_of_kind, IsPropertyTerm, NamesNoType, KindIsTyped, ContentIsTyped, PropertiesAreTyped, IsTyped}
 use Rattle.canon_text.specs.Objects.{present, object_of_parts, list_in_order, unless_empty}
 use Rattle.canon_text.specs.Canonical.{id_value, localized_value, element_parts, schema_pair, typed, kind_type, writable_value, most_value, kind_parts, content_value, content_pairs, content_pair, parent_pair, interface_value, interface_pair}

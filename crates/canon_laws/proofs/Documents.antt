@@ -15,7 +15,7 @@ use Rattle.dtdl_terms.specs.Equality.{SameElements, DeclareTheSame}
 use Rattle.dtdl_terms.specs.declared.content.Content.{Content}
 use Rattle.dtdl_terms.specs.declared.interface.Interface.{Interface}
 use Rattle.dtdl_terms.specs.declared.uploaded.Uploaded.{Uploaded}
-use Rattle.model_read.specs.Declarations.{IsSemantic, AreKind, IsContent, AreProperties, IsContentEntry, DeclaresInterface}
+use Rattle.local_rules.specs.Declarations.{IsSemantic, AreKind, IsContent, AreProperties, IsContentEntry, DeclaresInterface}
 use Rattle.model_read.specs.Uploads.{IsUploadedAt, AreUploaded}
 use Rattle.canon_text.specs.Sorting.{sorted_by}
 use Rattle.canon_text.specs.Canonical.{interface_pair, set_value}

@@ -4,3 +4,5 @@ pub mod Contents
 pub mod Documents
 pub mod Nests
 pub mod Spelled
+pub mod Identified
+pub mod Printable

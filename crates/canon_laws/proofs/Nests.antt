@@ -33,7 +33,7 @@ more_room inner zero le = absurd (omega arith)
 more_room inner (suc f) le = (f, refl, omega arith)
 
 mutual
-  deeper : (v : Json) (d e : ℕ) → d ≤ e → NestsWithin d v → NestsWithin e v
+  pub deeper : (v : Json) (d e : ℕ) → d ≤ e → NestsWithin d v → NestsWithin e v
   deeper null d e le h = tt
   deeper (truth b) d e le h = tt
   deeper (number n) d e le h = tt
@@ -244,7 +244,7 @@ parents_nest : (ps : List Identifier) → AllByRecursion (λ p. PairNests 20 (pa
 parents_nest [] = tt
 parents_nest (p ∷ ps) = (tt, parents_nest ps)
 
-interface_nests : (i : Interface) → IsTyped i → IsWithinLimits i → NestsWithin 22 (interface_value i)
+pub interface_nests : (i : Interface) → IsTyped i → IsWithinLimits i → NestsWithin 22 (interface_value i)
 interface_nests i t h =
     let contents = optional_list_nests 20 (map (λ c. content_pair (content_term c)) i.contents)
     (all_mapped (λ c. content_pair (content_term c)) (PairNests 20) i.contents

@@ -16,8 +16,8 @@ use Rattle.dtdl_terms.specs.declared.common.Common.{Common}
 use Rattle.dtdl_terms.specs.declared.enumeration.EnumEntry.{EnumEntry}
 use Rattle.dtdl_terms.specs.declared.enumeration.EnumValue.{EnumValue}
 use Rattle.dtdl_terms.specs.declared.enumeration.EnumValue.TheVariants as values
-use Rattle.model_read.specs.Declarations.{HasCommon, IsEnumValue, IsEnumEntry, IsSchema, IsPayload, ArePayloads, HasSchema, HasPayload, HasOptionalPayload}
-use Rattle.model_read.specs.Declarations as declared
+use Rattle.local_rules.specs.Declarations.{HasCommon, IsEnumValue, IsEnumEntry, IsSchema, IsPayload, ArePayloads, HasSchema, HasPayload, HasOptionalPayload}
+use Rattle.local_rules.specs.Declarations as declared
 use Rattle.model_read.proofs.Once.{is, form, form_in, primitive_form, has_form}
 use Rattle.canon_text.specs.Numbers.{whole}
 use Rattle.canon_text.specs.Objects.{present, object_of_parts, list_in_order}

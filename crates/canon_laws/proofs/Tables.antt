@@ -16,7 +16,7 @@ use Rattle.json_tree.specs.Members.{list_of, pairs_of, value_at}
 use Rattle.dtdl_terms.specs.declared.common.Common.{Common}
 use Rattle.dtdl_terms.specs.declared.common.Entry.{Entry}
 use Rattle.dtdl_terms.specs.declared.common.Localized.{Localized}
-use Rattle.model_read.specs.Declarations.{HasOptionalString, HasOptionalId, DeclaresWritable, IsTextOfLanguage, IsLocalizedBy, IsLocalized, HasLocalized, HasCommon, HasMax, AreEntriesOf}
+use Rattle.local_rules.specs.Declarations.{HasOptionalString, HasOptionalId, DeclaresWritable, IsTextOfLanguage, IsLocalizedBy, IsLocalized, HasLocalized, HasCommon, HasMax, AreEntriesOf}
 use Rattle.canon_text.specs.Sorting.{sorted_by, put_by, is_before}
 use Rattle.canon_text.specs.Numbers.{without_zeros, sized, whole}
 use Rattle.canon_text.specs.Objects.{present, object_of_parts, members_in_order, list_in_order, unless_empty}

@@ -1,5 +1,5 @@
 -- A whole number is told by its normal form.
-use Rattle.std.proofs.Common.{◌≡◌, ℕ, zero, suc, ◌*◌, ◌/◌, ◌%◌, ◌^◌, ◌==◌, if◌then◌else◌, Bool, true, false, ℤ, pos, negsuc, refl, sym, ap, ◌∙◌, arith}
+use Rattle.std.proofs.Common.{◌≡◌, ◌≢◌, ℕ, zero, suc, ◌*◌, ◌/◌, ◌%◌, ◌^◌, ◌<◌, ◌≤◌, ◌==◌, if◌then◌else◌, Bool, true, false, ℤ, pos, negsuc, refl, sym, ap, ◌∙◌, arith}
 use Rattle.std.proofs.Math.Nat.{mul_assoc, pow-succ'}
 use Rattle.std.proofs.lemmas.Bool.{eqb-true}
 use Rattle.json_decimal.specs.Number.{Number}
@@ -22,6 +22,16 @@ kept_size (suc most) n z = by (n % 10 == 0) (λ t. kept_size most (n / 10) (suc 
         → size (if b then without_zeros most (n / 10) (suc z) else (n, z)) ≡ n * 10 ^ z
     by true later t = later t
     by false later t = refl
+
+-- what is left of some has no zero at its end
+pub trimmed : (most n z : ℕ) → n ≤ most → 0 < n → (without_zeros most n z).0 % 10 ≢ 0
+trimmed zero n z few some = absurd (omega arith)
+trimmed (suc most) n z few some = by (n % 10 == 0) (λ t. (let last = eqb-true (n % 10) 0 t in trimmed most (n / 10) (suc z) (omega arith) (omega arith))) refl
+  where
+    by : (b : Bool) → ((n % 10 == 0) ≡ true → (without_zeros most (n / 10) (suc z)).0 % 10 ≢ 0) → (n % 10 == 0) ≡ b
+        → (if b then without_zeros most (n / 10) (suc z) else (n, z)).0 % 10 ≢ 0
+    by true later t = later t
+    by false later t = λ e. let f : true ≡ false = sym (ap (λ (r : ℕ). r == 0) e) ∙ t in cc
 
 abbrev pub exponent_size : ℤ → ℕ
 exponent_size (pos n) = n

@@ -1,3 +1,4 @@
 pub mod Breached
 pub mod Firsts
 pub mod Judged
+pub mod Outcomes

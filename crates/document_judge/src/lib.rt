@@ -2,8 +2,10 @@
 #![tactic(auto)]
 
 mod judgement;
+mod laws;
 mod lines;
 mod refusal;
 
 pub use judgement::declared_by;
+pub use laws::declaration_or_fault;
 pub use refusal::Refusal;

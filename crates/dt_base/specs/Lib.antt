@@ -4,4 +4,5 @@ pub mod Files
 pub mod Pieces
 pub mod Shelves
 pub mod Texts
+pub mod Existence
 pub mod names

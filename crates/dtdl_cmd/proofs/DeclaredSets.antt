@@ -4,61 +4,44 @@ use Rattle.std.specs.Prelude.{Contains, slice_get}
 use Rattle.std.specs.List.{AllByRecursion, AllZip}
 use Rattle.std.proofs.lemmas.Option.{same_Some}
 use Rattle.local_rules.specs.Breaches.{BreaksNoLocalRule}
-use Rattle.json_tree.specs.Values.{HasDistinctKeys, Json}
+use Rattle.json_tree.specs.Values.{Json}
 use Rattle.json_tree.specs.Grammar.{Spells}
 use Rattle.dt_base.specs.names.Grammar.{Identifier, dtmi_text}
-use Rattle.dtdl_terms.specs.Distinct.{AreDistinct, HasDeclaration}
+use Rattle.dtdl_terms.specs.Distinct.{AreDistinct}
 use Rattle.dtdl_terms.specs.declared.interface.Interface.{Interface}
 use Rattle.dtdl_terms.specs.declared.uploaded.Uploaded.{Uploaded}
-use Rattle.local_rules.specs.Limits.{IsWithinLimits}
-use Rattle.model_read.specs.Uploads.{AreUploaded}
-use Rattle.local_rules.specs.Typed.{IsTyped}
-use Rattle.model_read.proofs.Documents.{all_have_declarations, all_within}
+use Rattle.local_rules.specs.Soundness.{IsSoundInterface, IsSoundlyDeclared}
+use Rattle.canon_text.proofs.Told.{all_with}
+use Rattle.canon_faults.proofs.Uploads.{all_soundly, sound_interface}
 use Rattle.extend_resolve.specs.Breaches.{IsSound}
 use Rattle.extend_resolve.specs.declared.rule.SetRule.TheVariants as rules
 use Rattle.dtdl_terms.specs.declared.spot.Spot.TheVariants as spots
 use Rattle.document_judge.specs.FirstFaults.{AllUploaded, Declare}
 use Rattle.dtdl_cmd.specs.Answers.{uploaded_interfaces}
-use Rattle.json_tree.proofs.DistinctKeys.{spelled_distinct}
 use Rattle.model_read.proofs.Pairs.{distinct_pairs, mapped_back}
 use Rattle.dtdl_cmd.proofs.Ordinals.{all_append}
 
 -- ---- each interface
-distinct_keys : (documents : List (List ℕ)) (values : List Json) → AllZip Spells documents values → AllByRecursion HasDistinctKeys values
-distinct_keys [] [] all = tt
-distinct_keys [] (v ∷ vs) all = absurd all
-distinct_keys (d ∷ ds) [] all = absurd all
-distinct_keys (d ∷ ds) (v ∷ vs) all = (spelled_distinct d v all.0, distinct_keys ds vs all.1)
-
-declarations : (n : ℕ) (vs : List Json) (us : List Uploaded) → AllByRecursion HasDistinctKeys vs → AllByRecursion BreaksNoLocalRule vs → AllUploaded n vs us
-    → AllByRecursion (λ u. HasDeclaration u.interface) us
-declarations n [] us keys unbroken none = subst (AllByRecursion (λ u. HasDeclaration u.interface)) (sym none) tt
-declarations n (v ∷ vs) us keys unbroken (first, rest, h, t, e) =
-    subst (AllByRecursion (λ u. HasDeclaration u.interface)) (sym e)
-    (all_append (λ u. HasDeclaration u.interface) first rest (all_have_declarations v n first keys.0 unbroken.0 h) (declarations (n + 1) vs rest keys.1 unbroken.1 t))
-
-limits : (n : ℕ) (vs : List Json) (us : List Uploaded) → AllByRecursion BreaksNoLocalRule vs → AllUploaded n vs us → AllByRecursion (λ u. IsWithinLimits u.interface) us
-limits n [] us unbroken none = subst (AllByRecursion (λ u. IsWithinLimits u.interface)) (sym none) tt
-limits n (v ∷ vs) us unbroken (first, rest, h, t, e) =
-    subst (AllByRecursion (λ u. IsWithinLimits u.interface)) (sym e)
-    (all_append (λ u. IsWithinLimits u.interface) first rest (all_within v n first unbroken.0 h) (limits (n + 1) vs rest unbroken.1 t))
-
--- what each document declares is typed, as `canon_laws` tells
-abbrev pub TypesAreTold : Type 0
-TypesAreTold = (whole : Json) (nth : ℕ) (us : List Uploaded) → AreUploaded whole nth us → AllByRecursion (λ u. IsTyped u.interface) us
-
-types : TypesAreTold → (n : ℕ) (vs : List Json) (us : List Uploaded) → AllUploaded n vs us → AllByRecursion (λ u. IsTyped u.interface) us
-types told n [] us none = subst (AllByRecursion (λ u. IsTyped u.interface)) (sym none) tt
-types told n (v ∷ vs) us (first, rest, h, t, e) =
-    subst (AllByRecursion (λ u. IsTyped u.interface)) (sym e)
-    (all_append (λ u. IsTyped u.interface) first rest (told v n first h) (types told (n + 1) vs rest t))
+soundly : (n : ℕ) (ds : List (List ℕ)) (vs : List Json) (us : List Uploaded) → AllZip Spells ds vs → AllByRecursion BreaksNoLocalRule vs → AllUploaded n vs us
+    → AllByRecursion (λ u. IsSoundlyDeclared u.interface) us
+soundly n [] [] us spelled unbroken none = subst (AllByRecursion (λ u. IsSoundlyDeclared u.interface)) (sym none) tt
+soundly n [] (v ∷ vs) us spelled unbroken h = absurd spelled
+soundly n (d ∷ ds) [] us spelled unbroken h = absurd spelled
+soundly n (d ∷ ds) (v ∷ vs) us spelled unbroken (first, rest, h, t, e) =
+    subst (AllByRecursion (λ u. IsSoundlyDeclared u.interface)) (sym e)
+    (all_append (λ u. IsSoundlyDeclared u.interface) first rest (all_soundly d v n first spelled.0 unbroken.0 h) (soundly (n + 1) ds vs rest spelled.1 unbroken.1 t))
 
 pub without_places : (P : Interface → Type 0) (us : List Uploaded) → AllByRecursion (λ u. P u.interface) us → AllByRecursion P (uploaded_interfaces us)
 without_places P [] all = tt
 without_places P (u ∷ us) all = (all.0, without_places P us all.1)
 
--- ---- their identifiers
+pub declared_soundly : (documents : List (List ℕ)) (us : List Uploaded) → Declare documents us → AllByRecursion IsSoundlyDeclared (uploaded_interfaces us)
+declared_soundly documents us d = without_places IsSoundlyDeclared us (soundly 1 documents d.values us d.spelled d.unbroken d.uploaded)
 
+pub all_sound : (documents : List (List ℕ)) (us : List Uploaded) → Declare documents us → AllByRecursion IsSoundInterface (uploaded_interfaces us)
+all_sound documents us d = all_with IsSoundlyDeclared IsSoundInterface sound_interface (uploaded_interfaces us) (declared_soundly documents us d)
+
+-- ---- their identifiers
 among : (us : List Uploaded) (k l : ℕ) (u : Uploaded) → k < l → slice_get us k ≡ Some u → Contains (map (λ v. v.interface) (take l us)) u.interface
 among [] k l u less at = absurd cc
 among (w ∷ ws) k zero u less at = absurd (omega (arith, less))
@@ -101,12 +84,5 @@ distinct_ids (u ∷ us) apart = (
   distinct_ids us (λ k l v w first second less e. apart (suc k) (suc l) v w first second (omega (arith, less)) e),
 )
 
-pub declared_set : TypesAreTold → (documents : List (List ℕ)) (us : List Uploaded) → Declare documents us
-    → AllByRecursion HasDeclaration (uploaded_interfaces us) × AllByRecursion IsWithinLimits (uploaded_interfaces us)
-    × AllByRecursion IsTyped (uploaded_interfaces us) × AreDistinct (map (λ i. i.id) (uploaded_interfaces us))
-declared_set told documents us d = (
-  without_places HasDeclaration us (declarations 1 d.values us (distinct_keys documents d.values d.spelled) d.unbroken d.uploaded),
-  without_places IsWithinLimits us (limits 1 d.values us d.unbroken d.uploaded),
-  without_places IsTyped us (types told 1 d.values us d.uploaded),
-  distinct_ids us (sound_apart us d.sound),
-)
+pub ids_apart : (documents : List (List ℕ)) (us : List Uploaded) → Declare documents us → AreDistinct (map (λ i. i.id) (uploaded_interfaces us))
+ids_apart documents us d = distinct_ids us (sound_apart us d.sound)

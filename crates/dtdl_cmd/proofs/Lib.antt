@@ -11,3 +11,5 @@ pub mod Rooms
 pub mod OtherWords
 pub mod OneReplay
 pub mod OneMake
+pub mod FaultlessRuns
+pub mod SomeAnswer

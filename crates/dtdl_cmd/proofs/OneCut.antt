@@ -6,7 +6,7 @@ use Rattle.std.specs.List.{sum_by}
 use Rattle.dtdl_cmd.specs.Documents.{AreAllFound, IsMissing, AreTooLong, MAX_BYTES, documents_bytes}
 
 -- what comes behind the documents that are there: nothing, none of a name, or one that passes the limit
-abbrev Stops : ℕ → List (Option (List ℕ)) → Type 0
+abbrev pub Stops : ℕ → List (Option (List ℕ)) → Type 0
 Stops sum [] = Unit {0}
 Stops sum (None ∷ after) = Unit {0}
 Stops sum (Some bytes ∷ after) = MAX_BYTES < sum + length bytes
@@ -14,7 +14,7 @@ Stops sum (Some bytes ∷ after) = MAX_BYTES < sum + length bytes
 first_of : {A : Type 0} (x y : A) (xs ys : List (Option A)) → Some x ∷ xs ≡ Some y ∷ ys → (x ≡ y) × (xs ≡ ys)
 first_of x y xs ys e = (cc, cc)
 
-total_front : (x : List ℕ) (xs : List (List ℕ)) → documents_bytes (x ∷ xs) ≡ length x + documents_bytes xs
+pub total_front : (x : List ℕ) (xs : List (List ℕ)) → documents_bytes (x ∷ xs) ≡ length x + documents_bytes xs
 total_front x xs =
     let more = sum_by-append length (x ∷ []) xs in
     let one : sum_by length (x ∷ []) ≡ length x = omega arith in

@@ -14,7 +14,7 @@ use Rattle.dtdl_cmd.specs.Runs.{RunEnds, EndsReplay, IsDecidedStatus, exit_statu
 use Rattle.dtdl_cmd.specs.declared.status.Status.{Status}
 use Rattle.dtdl_cmd.proofs.OtherWords.{none_ended, replays_no_documents, replays_or_makes}
 
-replayed : (words : List (String Global)) (input : StreamChange) (shelf : ShelfChange) (output : StreamChange) (s : Status) → AreReplay words → RunEnds words input shelf output s → EndsReplay input output s
+pub replayed : (words : List (String Global)) (input : StreamChange) (shelf : ShelfChange) (output : StreamChange) (s : Status) → AreReplay words → RunEnds words input shelf output s → EndsReplay input output s
 replayed words input shelf output s replays (inl h) = absurd (none_ended words (λ none. none.1 replays) (replays_no_documents words replays) input shelf output s h)
 replayed words input shelf output s replays (inr (inl h)) = h.1
 replayed words input shelf output s replays (inr (inr (n, are, h))) = absurd (replays_or_makes words n replays are)
@@ -28,7 +28,7 @@ decided ends.WriteFault h = absurd h
 decided ends.OutOfMemory h = absurd h
 
 -- a replay of known bytes, of which it is not told whether the sink's count rose
-known : (input output : StreamChange) (s : Status) (all : List ℕ) (h : EndsReplay input output s) → input.before ≡ Some all → IsReplay (Unit {0}) h.end (Some all) input.after h.out
+pub known : (input output : StreamChange) (s : Status) (all : List ℕ) (h : EndsReplay input output s) → input.before ≡ Some all → IsReplay (Unit {0}) h.end (Some all) input.after h.out
 known input output s all h is =
     replay_weaker (Rose output.faults_before output.faults_after) (Unit {0}) h.end (Some all) input.after h.out (λ rose. tt)
     (subst (λ (stream : Option (List ℕ)). IsReplay (Rose output.faults_before output.faults_after) h.end stream input.after h.out) is h.replay)

@@ -1,20 +1,25 @@
 -- Canonical bytes print themselves.
 use Rattle.std.proofs.Common.{◌≡◌, ℕ, ◌+◌, ◌≤◌, ◌⊎◌, List, [], ◌∷◌, ◌++◌, length, Some, String, inl, inr, refl, sym, ap, subst, ◌∙◌, append-nil, arith}
-use Rattle.std.specs.List.{AllByRecursion, AllZip}
+use Rattle.std.specs.List.{AllByRecursion}
 use Rattle.std.specs.declared.alloc.Global.{Global}
 use Rattle.json_tree.specs.Values.{Json}
 use Rattle.json_tree.specs.Grammar.{Spells}
 use Rattle.json_read.proofs.OneValue.{OneNumber}
-use Rattle.dtdl_terms.specs.declared.interface.Interface.{Interface}
 use Rattle.dtdl_terms.specs.declared.uploaded.Uploaded.{Uploaded}
 use Rattle.model_read.specs.Uploads.{AreUploaded}
 use Rattle.extend_resolve.specs.Breaches.{IsSound}
 use Rattle.canon_text.specs.Canonical.{set_text, set_value}
 use Rattle.local_rules.specs.Breaches.{BreaksNoLocalRule}
-use Rattle.canon_faults.specs.Declared.{IsSoundlyDeclared}
+use Rattle.local_rules.specs.Soundness.{IsSoundlyDeclared}
 use Rattle.canon_faults.proofs.Judged.{sound_alike}
 use Rattle.canon_faults.proofs.DeclaredAgain.{apart_set, declared_set as has_declarations, same_set}
-use Rattle.canon_faults.proofs.Uploads.{all_soundly, declared_once}
+use Rattle.canon_faults.proofs.Nowhere.{no_breach}
+use Rattle.canon_faults.proofs.PrintedAgain.{printed_again, text_spelled}
+use Rattle.canon_faults.proofs.Uploads.{declared_once}
+use Rattle.dt_base.specs.Existence.{IsThere}
+use Rattle.json_read.proofs.Spelled.{one_spelled}
+use Rattle.model_read.proofs.ThereLeaves.{last_there}
+use Rattle.model_read.proofs.ThereUploads.{all_there}
 use Rattle.canon_text.proofs.Told.{all_with}
 use Rattle.dtdl_cmd.specs.Words.{IsCommand}
 use Rattle.dtdl_cmd.specs.Documents.{MAX_BYTES}
@@ -25,40 +30,34 @@ use Rattle.dtdl_cmd.specs.declared.command.Command.{Command}
 use Rattle.dtdl_cmd.specs.declared.command.Command.TheVariants as commands
 use Rattle.dtdl_cmd.specs.declared.status.Status.{Status}
 use Rattle.dtdl_cmd.specs.declared.status.Status.TheVariants as status
-use Rattle.dtdl_cmd.proofs.DeclaredSets.{texts_apart, without_places}
+use Rattle.dtdl_cmd.proofs.DeclaredSets.{declared_soundly, texts_apart}
 use Rattle.document_judge.proofs.Firsts.{none_first}
 use Rattle.dtdl_cmd.proofs.OneAnswer.{breached, faulty, one_values, same_command}
 use Rattle.dtdl_cmd.proofs.OneCut.{long_or_there, missing_or_there, one_there}
-use Rattle.dtdl_cmd.proofs.Ordinals.{all_append}
-
--- ---- what documents without faults declare
-soundly : (n : ℕ) (ds : List (List ℕ)) (vs : List Json) (us : List Uploaded) → AllZip Spells ds vs → AllByRecursion BreaksNoLocalRule vs → AllUploaded n vs us
-    → AllByRecursion (λ u. IsSoundlyDeclared u.interface) us
-soundly n [] [] us spelled unbroken none = subst (AllByRecursion (λ u. IsSoundlyDeclared u.interface)) (sym none) tt
-soundly n [] (v ∷ vs) us spelled unbroken h = absurd spelled
-soundly n (d ∷ ds) [] us spelled unbroken h = absurd spelled
-soundly n (d ∷ ds) (v ∷ vs) us spelled unbroken (first, rest, h, t, e) =
-    subst (AllByRecursion (λ u. IsSoundlyDeclared u.interface)) (sym e)
-    (all_append (λ u. IsSoundlyDeclared u.interface) first rest (all_soundly d v n first spelled.0 unbroken.0 h) (soundly (n + 1) ds vs rest spelled.1 unbroken.1 t))
-
-pub declared_soundly : (documents : List (List ℕ)) (us : List Uploaded) → Declare documents us → AllByRecursion IsSoundlyDeclared (uploaded_interfaces us)
-declared_soundly documents us d = without_places IsSoundlyDeclared us (soundly 1 documents d.values us d.spelled d.unbroken d.uploaded)
 
 -- ---- one document, of canonical bytes
-module _ (number : OneNumber) (documents : List (List ℕ)) (us : List Uploaded) (d : Declare documents us) (spelled : Spells (set_text (uploaded_interfaces us)) (set_value (uploaded_interfaces us)))
-    (unbroken : BreaksNoLocalRule (set_value (uploaded_interfaces us)))
-    (same_text : (v : Json) (nth : ℕ) (ws : List Uploaded) → Spells (set_text (uploaded_interfaces us)) v → AreUploaded v nth ws → set_text (uploaded_interfaces ws) ≡ set_text (uploaded_interfaces us))
-    (short : length (set_text (uploaded_interfaces us)) ≤ MAX_BYTES) where
+module _ (number : OneNumber) (documents : List (List ℕ)) (us : List Uploaded) (d : Declare documents us) (short : length (set_text (uploaded_interfaces us)) ≤ MAX_BYTES) where
   abbrev bytes : List ℕ
   bytes = set_text (uploaded_interfaces us)
 
   abbrev value : Json
   value = set_value (uploaded_interfaces us)
 
+  sound : AllByRecursion IsSoundlyDeclared (uploaded_interfaces us)
+  sound = declared_soundly documents us d
+
+  spelled : Spells bytes value
+  spelled = text_spelled (one_spelled number) (uploaded_interfaces us) sound
+
+  unbroken : BreaksNoLocalRule value
+  unbroken = no_breach (uploaded_interfaces us) sound
+
+  same_text : (nth : ℕ) (ws : List Uploaded) → AreUploaded value nth ws → set_text (uploaded_interfaces ws) ≡ bytes
+  same_text nth ws g = (printed_again (one_spelled number) (uploaded_interfaces us) sound value nth ws spelled g).text
+
   -- what it declares breaks no rule on sets
   sound_again : (nth : ℕ) (ws : List Uploaded) → AreUploaded value nth ws → IsSound [] ws
   sound_again nth ws g =
-      let sound = declared_soundly documents us d in
       let apart = texts_apart us d.sound in
       sound_alike us ws (same_set (uploaded_interfaces us) nth ws sound g) (all_with IsSoundlyDeclared _ declared_once (uploaded_interfaces us) sound)
       (has_declarations bytes (uploaded_interfaces us) nth ws sound spelled g) apart (apart_set (uploaded_interfaces us) nth ws sound g apart) d.sound
@@ -79,8 +78,8 @@ module _ (number : OneNumber) (documents : List (List ℕ)) (us : List Uploaded)
           sound_again 1 ws (one_document ws (subst (λ (xs : List Json). AllUploaded 1 xs ws) same are)) breaks.0 breaks.2.breach
 
   prints_bytes : (ws : List Uploaded) (s : Status) (line : List ℕ) → AreUploaded value 1 ws → Prints commands.Canon (uploaded_interfaces ws) s line → (s ≡ status.Ok) × (line ≡ bytes)
-  prints_bytes ws s line g (inl (ok, within, is)) = (ok, is ∙ same_text value 1 ws spelled g)
-  prints_bytes ws s line g (inr (long, more, is)) = let sizes = ap length (same_text value 1 ws spelled g) in absurd (omega (arith, more, short))
+  prints_bytes ws s line g (inl (ok, within, is)) = (ok, is ∙ same_text 1 ws g)
+  prints_bytes ws s line g (inr (long, more, is)) = let sizes = ap length (same_text 1 ws g) in absurd (omega (arith, more, short))
 
   to_documents : (s : Status) (line : List ℕ) → AnswersDocuments commands.Canon (bytes ∷ []) s line → (s ≡ status.Ok) × (line ≡ bytes)
   to_documents s line (inl (refused, fault)) = absurd (no_fault line fault)
@@ -102,14 +101,20 @@ module _ (number : OneNumber) (documents : List (List ℕ)) (us : List Uploaded)
       let same : command ≡ commands.Canon = same_command command commands.Canon more names (sym has.0 ∙ is.0) in
       to_found s line (subst (λ (c : Command). AnswersFound c (Some bytes ∷ []) s line) same answers)
 
--- ---- of any list of these interfaces
-abbrev PrintsAgain : List Interface → Type 0
-PrintsAgain is = Spells (set_text is) (set_value is) → BreaksNoLocalRule (set_value is)
-    → ((v : Json) (nth : ℕ) (ws : List Uploaded) → Spells (set_text is) v → AreUploaded v nth ws → set_text (uploaded_interfaces ws) ≡ set_text is)
-    → length (set_text is) ≤ MAX_BYTES
-    → (words : List (String Global)) (names : List (List ℕ)) → IsCommand words commands.Canon names → (s : Status) (line : List ℕ)
-    → AnswersWords words (Some (set_text is) ∷ []) s line → (s ≡ status.Ok) × (line ≡ set_text is)
+  -- ---- and there is this answer
+  declares_again : (ws : List Uploaded) → AreUploaded value 1 ws → Declare (bytes ∷ []) ws
+  declares_again ws g = record {
+    values = value ∷ [];
+    spelled = (spelled, tt);
+    unbroken = (unbroken, tt);
+    uploaded = (ws, [], g, refl, sym (append-nil ws));
+    sound = sound_again 1 ws g;
+  }
 
-pub prints_itself : OneNumber → (documents : List (List ℕ)) (us : List Uploaded) → Declare documents us → (is : List Interface) → is ≡ uploaded_interfaces us → PrintsAgain is
-prints_itself number documents us d is same =
-    subst PrintsAgain (sym same) (λ spelled unbroken same_text short. to_words number documents us d spelled unbroken same_text short)
+  prints_same : (ws : List Uploaded) → AreUploaded value 1 ws → Prints commands.Canon (uploaded_interfaces ws) status.Ok bytes
+  prints_same ws g = let same = same_text 1 ws g in inl (refl, (let sizes = ap length same in omega (arith, sizes, short)), sym same)
+
+  pub is_answered : (words : List (String Global)) (names : List (List ℕ)) → IsCommand words commands.Canon names → IsThere (AnswersWords words (Some bytes ∷ []) status.Ok bytes)
+  is_answered words names is =
+      last_there (AnswersWords words (Some bytes ∷ []) status.Ok bytes) (all_there value 1 unbroken)
+      (λ h. inr (commands.Canon, names, is, inr (inr (bytes ∷ [], (refl, omega (arith, short)), inr (h.0, declares_again h.0 h.1, prints_same h.0 h.1)))))

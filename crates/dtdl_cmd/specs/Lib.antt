@@ -3,6 +3,7 @@ pub mod Documents
 pub mod Lines
 pub mod Answers
 pub mod Runs
+pub mod FaultlessRuns
 pub mod Machinery
 pub mod serving
 pub mod making

@@ -1,14 +1,14 @@
 //! What the definitions of answers say, whatever is run.
 
-ghost use Rattle.std.specs.Prelude.{◌≡◌, ◌↔◌, ℕ, ◌≤◌, List, [], ◌∷◌, Some, Option, String, length, map, IfOk};
+ghost use Rattle.std.specs.Prelude.{◌≡◌, ◌↔◌, ℕ, ◌≤◌, List, [], ◌∷◌, Some, Option, String, length, map};
 ghost use Rattle.std.specs.List.{AllByRecursion};
 ghost use Rattle.std.specs.declared.alloc.Global.{Global};
-ghost use Rattle.dtdl_terms.specs.Distinct.{AreDistinct, HasDeclaration};
+ghost use Rattle.dt_base.specs.Existence.{IsThere};
+ghost use Rattle.dtdl_terms.specs.Distinct.{AreDistinct};
 ghost use Rattle.dtdl_terms.specs.Equality.{DeclareTheSame, SameElements};
 ghost use Rattle.dtdl_terms.specs.declared.uploaded.Uploaded.{Uploaded};
-ghost use Rattle.local_rules.specs.Limits.{IsWithinLimits};
+ghost use Rattle.local_rules.specs.Soundness.{IsSoundInterface};
 ghost use Rattle.canon_text.specs.Canonical.{set_text};
-ghost use Rattle.local_rules.specs.Typed.{IsTyped};
 ghost use Rattle.dtdl_cmd.specs.Words.{IsCommand};
 ghost use Rattle.dtdl_cmd.specs.Documents.{AreFound, MAX_BYTES, ShelfChange, StreamChange, documents_of};
 ghost use Rattle.document_judge.specs.FirstFaults.{Declare};
@@ -19,12 +19,8 @@ ghost use Rattle.dtdl_cmd.specs.Words.{AreMake, AreReplay};
 ghost use Rattle.dtdl_cmd.specs.declared.status.Status.{Status};
 ghost use Rattle.dtdl_cmd.specs.declared.status.Status.TheVariants as status;
 
-use canon_faults::without_faults;
-use canon_laws::{have_types, one_set_text, same_bytes};
-use dt_base::OutOfMemory;
-use dtdl_terms::Interface;
+use canon_laws::one_set_text;
 use json_decimal::one_number;
-use std::alloc::Global;
 
 /// The words and what is found of the documents have at most one answer: the status and the line or text are a function
 /// of them.
@@ -70,39 +66,42 @@ pub fn one_make()
     crate::making::one_text();
 }
 
-/// The interfaces that documents without faults declare each have a declaration, are within the limits, have types that
-/// their canonical trees tell, and no two of them have one identifier.
+/// The interfaces that documents without faults declare are sound: each has a declaration, is within the limits, and has
+/// types that its canonical tree tells. No two of them have one identifier.
 pub fn declared_set()
-    ensures { (documents : List (List ℕ)) (uploads : List Uploaded) → Declare documents uploads
-        → AllByRecursion HasDeclaration (uploaded_interfaces uploads) × AllByRecursion IsWithinLimits (uploaded_interfaces uploads)
-        × AllByRecursion IsTyped (uploaded_interfaces uploads) × AreDistinct (map (λ i. i.id) (uploaded_interfaces uploads)) }
-{
-    have_types();
-}
+    ensures sound { (documents : List (List ℕ)) (uploads : List Uploaded) → Declare documents uploads
+        → AllByRecursion IsSoundInterface (uploaded_interfaces uploads) }
+    ensures apart { (documents : List (List ℕ)) (uploads : List Uploaded) → Declare documents uploads
+        → AreDistinct (map (λ i. i.id) (uploaded_interfaces uploads)) }
+{}
 
 /// Two lists of interfaces that documents without faults declare have one canonical text exactly where they declare the
-/// same. The call makes the trees of both, and fails only for want of memory.
-pub fn equal_texts(alloc: Global, one: &[Interface], other: &[Interface]) -> Result<(), OutOfMemory>
-    ensures { IfOk result (λ done. (documents others : List (List ℕ)) (uploads more : List Uploaded) → Declare documents uploads → Declare others more
-        → one.now ≡ uploaded_interfaces uploads → other.now ≡ uploaded_interfaces more
-        → (set_text one.now ≡ set_text other.now) ↔ SameElements DeclareTheSame one.now other.now) }
+/// same.
+pub fn equal_texts()
+    ensures { (documents others : List (List ℕ)) (uploads more : List Uploaded)
+        → Declare documents uploads → Declare others more
+        → (set_text (uploaded_interfaces uploads) ≡ set_text (uploaded_interfaces more))
+        ↔ SameElements DeclareTheSame (uploaded_interfaces uploads) (uploaded_interfaces more) }
 {
     declared_set();
-    one_set_text(alloc, one, other)?;
-    Ok(())
+    one_set_text();
 }
 
 /// Canonical bytes print themselves: where documents without faults declare interfaces whose canonical text is within its
-/// limit, whatever answers the words of `canon` that find this text as their one document is status 0 and the same bytes.
-/// The call makes the tree of the interfaces, and fails only for want of memory.
-pub fn prints_itself(alloc: Global, interfaces: &[Interface]) -> Result<(), OutOfMemory>
-    ensures { IfOk result (λ done. (documents : List (List ℕ)) (uploads : List Uploaded) → Declare documents uploads → interfaces.now ≡ uploaded_interfaces uploads
-        → length (set_text interfaces.now) ≤ MAX_BYTES → (words : List (String Global)) (names : List (List ℕ)) → IsCommand words commands.Canon names
-        → (s : Status) (line : List ℕ) → AnswersWords words (Some (set_text interfaces.now) ∷ []) s line → (s ≡ status.Ok) × (line ≡ set_text interfaces.now)) }
+/// limit, the words of `canon` that find this text as their one document are answered by status 0 and the same bytes: this
+/// answer is there (`IsThere`), and no other.
+pub fn prints_itself()
+    ensures there { (documents : List (List ℕ)) (uploads : List Uploaded) → Declare documents uploads
+        → length (set_text (uploaded_interfaces uploads)) ≤ MAX_BYTES
+        → (words : List (String Global)) (names : List (List ℕ)) → IsCommand words commands.Canon names
+        → IsThere (AnswersWords words (Some (set_text (uploaded_interfaces uploads)) ∷ [])
+        status.Ok (set_text (uploaded_interfaces uploads))) }
+    ensures only { (documents : List (List ℕ)) (uploads : List Uploaded) → Declare documents uploads
+        → length (set_text (uploaded_interfaces uploads)) ≤ MAX_BYTES
+        → (words : List (String Global)) (names : List (List ℕ)) → IsCommand words commands.Canon names
+        → (s : Status) (line : List ℕ)
+        → AnswersWords words (Some (set_text (uploaded_interfaces uploads)) ∷ []) s line
+        → (s ≡ status.Ok) × (line ≡ set_text (uploaded_interfaces uploads)) }
 {
     one_number();
-    declared_set();
-    without_faults(alloc, interfaces)?;
-    same_bytes(alloc, interfaces)?;
-    Ok(())
 }

@@ -4,6 +4,7 @@
 
 mod answers;
 mod command;
+mod complete;
 mod documents;
 mod laws;
 mod makes;
@@ -13,6 +14,10 @@ mod run;
 pub mod serving;
 mod status;
 
+pub use complete::{
+    canon_prints, check_accepts, documents_answered, faults_refused, long_refused,
+    long_text_refused, make_counts, missing_refused, replay_answered, some_answer, usage_told,
+};
 pub use laws::{
     declared_set, equal_texts, make_ends, one_answer, one_input, one_make, one_replay,
     prints_itself,

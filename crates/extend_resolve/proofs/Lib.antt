@@ -13,3 +13,4 @@ pub mod Judged
 pub mod Crowds
 pub mod Judging
 pub mod Naming
+pub mod LeastBreaches

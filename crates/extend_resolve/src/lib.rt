@@ -19,5 +19,5 @@ mod world;
 pub use ancestry::{MOST_STEPS, is_a};
 pub use check::check_set;
 pub use end::SetEnd;
-pub use laws::{ancestors_of_ancestors, one_first_breach};
+pub use laws::{ancestors_of_ancestors, breach_or_none, one_first_breach};
 pub use rule::SetRule;

@@ -9,19 +9,19 @@ use Rattle.graph_asks.specs.declared.ask.Ask.TheVariants as asks
 use Rattle.graph_steps.specs.Soundness.{IsSoundAsk}
 use Rattle.graph_steps.specs.States.{State}
 use Rattle.graph_steps.specs.Steps.{Answers, changed, followed}
-use Rattle.graph_steps.proofs.OneAnswer.{one_answer}
 use Rattle.graph_answers.proofs.Refusals.{given, one_missing, one_never, one_of}
+use Rattle.graph_answers.proofs.ModelAnswers.{one_drop_model, one_model, one_put, one_unknown}
 use Rattle.graph_answers.proofs.TwinAnswers.{one_drop_twin, one_get_part, one_part, one_patch_part, one_patch_twin, one_put_twin, one_twin}
 use Rattle.graph_answers.proofs.LinkAnswers.{one_absent, one_link, one_patch_rel, one_put_rel}
 use Rattle.graph_answers.proofs.Alike.{same_step}
 
 one_of_ask : (s : State) (ask : Ask) (a b : Answer) → IsSoundAsk ask → Answers s ask a → Answers s ask b → a ≡ b
-one_of_ask s (asks.PutModels models) a b sound h k = one_answer s (asks.PutModels models) a b sound tt h k
-one_of_ask s (asks.GetModel id) a b sound h k = one_answer s (asks.GetModel id) a b sound tt h k
-one_of_ask s asks.ListModels a b sound h k = one_answer s asks.ListModels a b sound tt h k
-one_of_ask s (asks.Mark id on) a b sound h k = one_answer s (asks.Mark id on) a b sound tt h k
-one_of_ask s (asks.DropModel id) a b sound h k = one_answer s (asks.DropModel id) a b sound tt h k
-one_of_ask s asks.Canon a b sound h k = one_answer s asks.Canon a b sound tt h k
+one_of_ask s (asks.PutModels models) a b sound h k = one_of _ _ (one_put s models sound) (given _) a b h k
+one_of_ask s (asks.GetModel id) a b sound h k = one_of _ _ (one_unknown s id) (one_model s id) a b h k
+one_of_ask s asks.ListModels a b sound h k = one_of _ _ one_never (given _) a b h k
+one_of_ask s (asks.Mark id on) a b sound h k = one_of _ _ (one_unknown s id) (given _) a b h k
+one_of_ask s (asks.DropModel id) a b sound h k = one_of _ _ (one_drop_model s id) (given _) a b h k
+one_of_ask s asks.Canon a b sound h k = one_of _ _ one_never (given _) a b h k
 one_of_ask s (asks.PutTwin id model tree) a b sound h k = one_of _ _ (one_put_twin s id model (view tree)) (one_twin (changed s (asks.PutTwin id model tree)) id) a b h k
 one_of_ask s (asks.GetTwin id) a b sound h k = one_of _ _ (one_missing s id) (one_twin s id) a b h k
 one_of_ask s (asks.PatchTwin id patch) a b sound h k = one_of _ _ (one_patch_twin s id (operations_of patch.ops)) (given _) a b h k

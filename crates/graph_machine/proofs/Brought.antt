@@ -22,7 +22,7 @@ use Rattle.graph_steps.specs.declared.bodies.failure.BodyFailure.{BodyFailure}
 use Rattle.graph_steps.specs.declared.bodies.failure.BodyFailure.TheVariants as failures
 use Rattle.graph_steps.proofs.invariants.Edges.{edge-with}
 use Rattle.graph_steps.proofs.invariants.Twins.{twin_own}
-use Rattle.graph_steps.proofs.invariants.Typed.{changed_typed, keeps_typed}
+use Rattle.graph_steps.proofs.invariants.Typed.{changed_typed}
 use Rattle.graph_steps.specs.LinkAsks.{link_at, with_link}
 use Rattle.graph_steps.specs.Soundness.{IsSoundAsk}
 use Rattle.graph_steps.specs.States.{State, twin_at, twin_value, link_value, with_twin}
@@ -78,13 +78,13 @@ module _ (s : State) (id : List ℕ) (twin : Twin) (bytes : ℕ) where
   twin_patched patch b = inr (b.free, refl)
 
   pub patched_typed : (patch : Patch) → WellTyped s → IsSoundAsk (asks.PatchTwin id patch) → BringsTwin s (asks.PatchTwin id patch) id twin bytes → WellTyped (with_twin (twin_view twin) s)
-  patched_typed patch w sound b = subst WellTyped (sym b.put) (keeps_typed s (asks.PatchTwin id patch) replies.Done w sound (twin_patched patch b))
+  patched_typed patch w sound b = subst WellTyped (sym b.put) (changed_typed s (asks.PatchTwin id patch) w sound b.free)
 
   pub part_patched : (name : List ℕ) (patch : Patch) → BringsTwin s (asks.PatchPart id name patch) id twin bytes → Allows s (asks.PatchPart id name patch) replies.Done
   part_patched name patch b = inr (b.free, refl)
 
   pub part_typed : (name : List ℕ) (patch : Patch) → WellTyped s → IsSoundAsk (asks.PatchPart id name patch) → BringsTwin s (asks.PatchPart id name patch) id twin bytes → WellTyped (with_twin (twin_view twin) s)
-  part_typed name patch w sound b = subst WellTyped (sym b.put) (keeps_typed s (asks.PatchPart id name patch) replies.Done w sound (part_patched name patch b))
+  part_typed name patch w sound b = subst WellTyped (sym b.put) (changed_typed s (asks.PatchPart id name patch) w sound b.free)
 
 -- ---- relationships
 module _ (s : State) (source id : List ℕ) (edge : Edge Stored) (tree : Tree) where
@@ -96,10 +96,10 @@ module _ (s : State) (source id : List ℕ) (edge : Edge Stored) (tree : Tree) w
       inr (b.free, (l, subst (λ (x : State). link_at source id x ≡ Some l) b.put at, ap body b.printed))
 
   pub link_typed : (name target : List ℕ) (given : Tree) → WellTyped s → IsSoundAsk (asks.PutRel source id name target given) → BringsLink s (asks.PutRel source id name target given) source id edge tree → WellTyped (with_link (link_of edge) s)
-  link_typed name target given w sound b = subst WellTyped (sym b.put) (keeps_typed s (asks.PutRel source id name target given) (replies.Body tree) w sound (link_put name target given b))
+  link_typed name target given w sound b = subst WellTyped (sym b.put) (changed_typed s (asks.PutRel source id name target given) w sound b.free)
 
   pub link_patched : (patch : Patch) → BringsLink s (asks.PatchRel source id patch) source id edge tree → Allows s (asks.PatchRel source id patch) replies.Done
   link_patched patch b = inr (b.free, refl)
 
   pub patch_typed : (patch : Patch) → WellTyped s → IsSoundAsk (asks.PatchRel source id patch) → BringsLink s (asks.PatchRel source id patch) source id edge tree → WellTyped (with_link (link_of edge) s)
-  patch_typed patch w sound b = subst WellTyped (sym b.put) (keeps_typed s (asks.PatchRel source id patch) replies.Done w sound (link_patched patch b))
+  patch_typed patch w sound b = subst WellTyped (sym b.put) (changed_typed s (asks.PatchRel source id patch) w sound b.free)

@@ -9,6 +9,7 @@ use Rattle.std.proofs.lemmas.Option.{none-some}
 use Rattle.ordered_table.proofs.Flat.{C}
 use Rattle.dt_base.specs.names.Grammar.{Identifier}
 use Rattle.dtdl_terms.specs.declared.resolved.Resolved.{Resolved}
+use Rattle.dtdl_terms.specs.Distinct.{HasDeclaration}
 use Rattle.dtdl_terms.specs.declared.uploaded.Uploaded.{Uploaded}
 use Rattle.rel_graph.specs.Edges.{EdgesInOrder, key_cmp, key, edge_at, with_edge, without_edge}
 use Rattle.rel_graph.specs.declared.edge.Edge.{Edge}
@@ -23,7 +24,8 @@ use Rattle.graph_steps.specs.Soundness.{IsSoundUpload}
 use Rattle.graph_steps.specs.LinkAsks.{with_link}
 use Rattle.graph_steps.specs.States.{State, with_twin, graph_bytes}
 use Rattle.graph_steps.specs.TwinAsks.{RefusesDropTwin}
-use Rattle.graph_steps.specs.Typed.{IsSoundInterface, WellTyped}
+use Rattle.local_rules.specs.Soundness.{IsSoundInterface}
+use Rattle.graph_steps.specs.Typed.{WellTyped}
 use Rattle.graph_steps.proofs.Empty.{empty_is_typed}
 use Rattle.graph_steps.proofs.Marked.{still_typed}
 use Rattle.graph_steps.proofs.invariants.Drops.{rel_dropped, twin_dropped}
@@ -50,6 +52,10 @@ total-with e es sorted = sum-with key key_cmp keys_total size e es sorted
 all_interfaces : (us : List Uploaded) → AllByRecursion IsSoundUpload us → AllByRecursion (λ u. IsSoundInterface u.interface) us
 all_interfaces [] all = tt
 all_interfaces (u ∷ us) all = (all.0.interface, all_interfaces us all.1)
+
+pub all_declared : (us : List Uploaded) → AllByRecursion IsSoundUpload us → AllByRecursion (λ u. HasDeclaration u.interface) us
+all_declared [] all = tt
+all_declared (u ∷ us) all = (all.0.interface.declaration, all_declared us all.1)
 
 module _ (h : Holding) (rs : List (Identifier × Resolved)) (bytes : ℕ) (k : HoldsTogether h rs bytes) where
   -- ---- models

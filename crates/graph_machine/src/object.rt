@@ -1,11 +1,11 @@
 //! The machine as an object that answers one ask at a time.
 
-ghost use Rattle.std.specs.Prelude.{◌≡◌, Contains, IfOk, IsOk, OnErr, false};
+ghost use Rattle.std.specs.Prelude.{◌≡◌, IfOk, IsOk, OnErr};
 ghost use Rattle.graph_asks.specs.Answers.{done};
-ghost use Rattle.graph_steps.specs.invariants.Frozen.{StaysFrozen};
+ghost use Rattle.graph_steps.specs.invariants.Frozen.{FrozenStay};
 ghost use Rattle.graph_steps.specs.Soundness.{IsSoundAsk};
 ghost use Rattle.graph_steps.specs.Steps.{Allows, Answers, follows};
-ghost use Rattle.graph_steps.specs.States.{State, Twin, is_live};
+ghost use Rattle.graph_steps.specs.States.{State};
 ghost use Rattle.graph_machine.specs.Memory.{NeedsNoMemory};
 ghost use Rattle.graph_steps.specs.held.Held.{state_of};
 
@@ -37,7 +37,7 @@ impl Object for Machine {
         ensures allowed { IfOk result (Allows (state_of self.old) ask.now) }
         ensures follows { IfOk result (λ reply. state_of self.new ≡ follows (state_of self.old) ask.now reply) }
         ensures unchanged { OnErr result (state_of self.new ≡ state_of self.old) }
-        ensures frozen { IfOk result (λ _. (t : Twin) → Contains (state_of self.old).twins t → is_live (state_of self.old) t ≡ false → StaysFrozen (state_of self.old) ask.now (state_of self.new) t) }
+        ensures frozen { IfOk result (λ _. FrozenStay (state_of self.old) ask.now (state_of self.new)) }
         ensures free { NeedsNoMemory ask.now → Answers (state_of self.old) ask.now done → IsOk result }
     {
         stays_frozen();

@@ -5,25 +5,22 @@ use Rattle.std.specs.List.Sorted.{IsStrictlySortedBy}
 use Rattle.std.specs.Ordering.{nat_cmp, is_lt, ordering_then, ordering_reverse}
 use Rattle.std.specs.Cmp.Lexicographic.{slice_cmp}
 use Rattle.std.proofs.lemmas.Cmp.{nat_cmp_total}
-use Rattle.json_tree.specs.Values.{HasDistinctKeys, Json, null, truth, number, text, array, object}
-use Rattle.dtdl_terms.specs.Distinct.{HasDeclaration}
+use Rattle.json_tree.specs.Values.{Json, null, truth, number, text, array, object}
+use Rattle.json_tree.specs.Grammar.{Spells}
 use Rattle.dtdl_terms.specs.declared.uploaded.Uploaded.{Uploaded}
 use Rattle.local_rules.specs.Breaches.{BreaksNoLocalRule}
+use Rattle.local_rules.specs.Soundness.{IsSoundInterface}
 use Rattle.json_tree.specs.Members.{list_of}
-use Rattle.local_rules.specs.Limits.{IsWithinLimits}
 use Rattle.model_read.specs.Uploads.{AreUploaded, IsUploadedAt}
 use Rattle.extend_resolve.specs.Breaches.{HasOrdinals}
-use Rattle.local_rules.specs.Typed.{IsTyped}
-use Rattle.model_read.proofs.Documents.{all_have_declarations, all_within}
-use Rattle.canon_laws.proofs.Documents.{all_typed}
+use Rattle.canon_faults.proofs.Uploads.{all_sound}
 use Rattle.graph_steps.specs.Soundness.{IsSoundUpload, AreSoundUploads, upload_place}
 use Rattle.model_read.proofs.Ordinals.{in_document}
 
 -- ---- one by one
-all_sound : (us : List Uploaded) → AllByRecursion (λ u. HasDeclaration u.interface) us → AllByRecursion (λ u. IsWithinLimits u.interface) us → AllByRecursion (λ u. IsTyped u.interface) us → AllByRecursion HasOrdinals us
-    → AllByRecursion IsSoundUpload us
-all_sound [] d l t o = tt
-all_sound (u ∷ us) d l t o = (record { interface = record { declaration = d.0; limits = l.0; typed = t.0 }; ordinals = o.0 }, all_sound us d.1 l.1 t.1 o.1)
+all_sound_uploads : (us : List Uploaded) → AllByRecursion (λ u. IsSoundInterface u.interface) us → AllByRecursion HasOrdinals us → AllByRecursion IsSoundUpload us
+all_sound_uploads [] s o = tt
+all_sound_uploads (u ∷ us) s o = (record { interface = s.0; ordinals = o.0 }, all_sound_uploads us s.1 o.1)
 
 -- ---- in their order
 tied : (a : ℕ) → nat_cmp a a ≡ Equal
@@ -74,8 +71,9 @@ in_order (text bytes) nth us h = absurd h
 in_order (array vs) nth us h = ascending (array vs) nth 0 (list_of vs) us h
 in_order (object ms) nth us (u, one, h) = subst (λ (vs : List Uploaded). IsStrictlySortedBy (slice_cmp nat_cmp) (map upload_place vs)) (sym one) (alone u)
 
-pub documents_are_sound : (whole : Json) (nth : ℕ) (us : List Uploaded) → HasDistinctKeys whole → BreaksNoLocalRule whole → AreUploaded whole nth us → AreSoundUploads us
-documents_are_sound whole nth us distinct free h = record {
-  each = all_sound us (all_have_declarations whole nth us distinct free h) (all_within whole nth us free h) (all_typed whole nth us h) (in_document whole nth us h);
+pub documents_are_sound : (bytes : List ℕ) (whole : Json) (nth : ℕ) (us : List Uploaded) → Spells bytes whole → BreaksNoLocalRule whole → AreUploaded whole nth us
+    → AreSoundUploads us
+documents_are_sound bytes whole nth us spelled free h = record {
+  each = all_sound_uploads us (all_sound bytes whole nth us spelled free h) (in_document whole nth us h);
   order = in_order whole nth us h;
 }

@@ -1,7 +1,8 @@
 //! What the definitions of prepared requests say, whatever is asked.
 
 ghost use Rattle.std.specs.Prelude.{ℕ, List};
-ghost use Rattle.json_tree.specs.Values.{HasDistinctKeys, Json};
+ghost use Rattle.json_tree.specs.Values.{Json};
+ghost use Rattle.json_tree.specs.Grammar.{Spells};
 ghost use Rattle.dtdl_terms.specs.declared.uploaded.Uploaded.{Uploaded};
 ghost use Rattle.local_rules.specs.Breaches.{BreaksNoLocalRule};
 ghost use Rattle.model_read.specs.Uploads.{AreUploaded};
@@ -18,10 +19,10 @@ ghost use Rattle.graph_steps.specs.Soundness.{AreSoundUploads, IsSoundAsk};
 use json_decimal::one_number;
 use twin_patch::one_answer;
 
-/// The interfaces of a document without breach may be asked for together, in their order, where no object in the document
-/// has two members of one key, as in each document that was read from a text.
+/// The interfaces of a document without breach that was read from a text may be asked for together, in their order.
 pub fn documents_are_sound()
-    ensures { (whole : Json) (nth : ℕ) (us : List Uploaded) → HasDistinctKeys whole → BreaksNoLocalRule whole → AreUploaded whole nth us → AreSoundUploads us }
+    ensures { (bytes : List ℕ) (whole : Json) (nth : ℕ) (us : List Uploaded)
+        → Spells bytes whole → BreaksNoLocalRule whole → AreUploaded whole nth us → AreSoundUploads us }
 {}
 
 /// A request makes at most one ask, or its bytes decide at most one refusal, and never both. Two asks are one but for where

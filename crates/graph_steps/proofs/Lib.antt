@@ -1,3 +1,2 @@
 pub mod Empty
-pub mod OneAnswer
 pub mod Marked

@@ -9,17 +9,12 @@ use Rattle.dtdl_terms.specs.TermViews.{kind_term}
 use Rattle.dtdl_terms.specs.Sets.{interface_at, InOrder}
 use Rattle.extend_resolve.specs.Breaches.{BreaksNoRule}
 use Rattle.twin_value.specs.Breaches.{HasNoBreach, IsLinkBreach, link_called}
-use Rattle.graph_asks.specs.Answers.{Answer, body, created, canon, done, refused, answer_of}
-use Rattle.graph_asks.specs.declared.ask.Ask.{Ask}
-use Rattle.graph_asks.specs.declared.ask.Ask.TheVariants as asks
-use Rattle.graph_asks.specs.declared.reply.Reply.{Reply}
 use Rattle.model_life.specs.Models.{Model, model_of, interfaces_of, mark_one, with_mark}
 use Rattle.model_life.specs.Sums.{text_bytes, model_bytes, AllTake, AreWithinLimits}
 use Rattle.graph_steps.specs.Inherited.{contents, inherited, is_a}
-use Rattle.graph_steps.specs.OnModels.{KeepsModels}
 use Rattle.graph_steps.specs.States.{State, Twin, Link, link_value, with_models}
-use Rattle.graph_steps.specs.Steps.{changed, followed, follows}
-use Rattle.graph_steps.specs.Typed.{IsSoundInterface, AreSound, FitsModel, SuitsTarget, target_of, FitsSource, LinkIsTyped, WellTyped}
+use Rattle.local_rules.specs.Soundness.{IsSoundInterface}
+use Rattle.graph_steps.specs.Typed.{AreSound, FitsModel, SuitsTarget, target_of, FitsSource, LinkIsTyped, WellTyped}
 
 -- ---- the interfaces stay
 same_one : (id : Identifier) (on : Bool) (m : Model) → (mark_one id on m).interface ≡ m.interface
@@ -94,19 +89,3 @@ module _ (s : State) (new : List Model) (same : interfaces_of s.models ≡ inter
       graph_bytes = w.limits.graph_bytes;
     };
   }
-
--- ---- asks
-after : (s : State) (ask : Ask) (answer : Answer) → WellTyped s → WellTyped (changed s ask) → WellTyped (followed s ask answer)
-after s ask (body v) w h = h
-after s ask (created v) w h = h
-after s ask (canon bytes) w h = h
-after s ask done w h = h
-after s ask (refused r) w h = w
-
-pub stays_typed : (s : State) (ask : Ask) (reply : Reply) → KeepsModels ask → WellTyped s → WellTyped (follows s ask reply)
-stays_typed s (asks.GetModel id) reply named w = after s (asks.GetModel id) (answer_of reply) w w
-stays_typed s asks.ListModels reply named w = after s asks.ListModels (answer_of reply) w w
-stays_typed s (asks.Mark id on) reply named w =
-    after s (asks.Mark id on) (answer_of reply) w (still_typed s (with_mark id on s.models) (sym (same_interfaces id on s.models)) w)
-stays_typed s asks.Canon reply named w = after s asks.Canon (answer_of reply) w w
-stays_typed s other reply named w = absurd named

@@ -5,7 +5,6 @@ pub mod Typed
 pub mod Refusals
 pub mod Pages
 pub mod ModelAsks
-pub mod OnModels
 pub mod TwinAsks
 pub mod LinkAsks
 pub mod ListAsks

@@ -9,12 +9,11 @@ use Rattle.json_tree.specs.Values.{Json, HasDistinctKeys}
 use Rattle.json_tree.specs.Printing.{NestsWithin}
 use Rattle.json_tree.specs.View.{view}
 use Rattle.dtdl_terms.specs.declared.uploaded.Uploaded.{Uploaded}
+use Rattle.local_rules.specs.Soundness.{IsSoundInterface}
 use Rattle.extend_resolve.specs.Breaches.{HasOrdinals}
 use Rattle.query_terms.specs.Queries.{asked, key_length}
 use Rattle.query_terms.specs.declared.query.Query.{Query}
-use Rattle.query_grammar.specs.Grammar.{IsQuery}
-use Rattle.query_grammar.specs.Phrases.{Placed}
-use Rattle.query_grammar.specs.declared.names.Notes.{Notes}
+use Rattle.query_grammar.specs.Spelled.{SpellsQuery}
 use Rattle.twin_patch.specs.Operations.{operations_of}
 use Rattle.twin_patch.specs.Reading.{IsPatch}
 use Rattle.twin_patch.specs.declared.entry.PatchOf.{PatchOf}
@@ -24,7 +23,6 @@ use Rattle.twin_value.specs.Breaches.{IsTwinId, HasNoBreach, IsOuterBreach, IsOu
 use Rattle.twin_value.specs.Twins.{model_text}
 use Rattle.graph_asks.specs.declared.ask.Ask.{Ask}
 use Rattle.graph_asks.specs.declared.ask.Ask.TheVariants as asks
-use Rattle.graph_steps.specs.Typed.{IsSoundInterface}
 
 -- ---- identifiers
 -- An identifier of a model: a DTMI that is not reserved, of at most 128 bytes.
@@ -79,9 +77,9 @@ abbrev pub IsReadPatch : PatchOf → Patch → Type 0
 IsReadPatch of patch = (v : Json) × IsReadValue v × IsPatch of v (operations_of patch.ops)
 
 -- ---- queries
--- A query by the grammar, and an id for each part of the key of its rows.
+-- A query that some text is, and an id for each part of the key of its rows.
 abbrev pub IsReadQuery : Query → Type 0
-IsReadQuery query = (tokens : List Placed) × (notes : Notes) × IsQuery tokens (asked query, notes)
+IsReadQuery query = (text : List ℕ) × SpellsQuery text (asked query)
 
 abbrev pub FitsKey : Query → Option (List (List ℕ)) → Type 0
 FitsKey query after = IfSome after (λ ids. (length ids ≡ key_length (asked query)) × AllByRecursion IsTwinId ids)

@@ -16,25 +16,17 @@ use Rattle.rel_graph.specs.Edges.{EdgesInOrder, named}
 use Rattle.twin_value.specs.Breaches.{HasNoBreach, IsTwinBreach, IsLinkBreach, link_called, twin_role_of}
 use Rattle.twin_value.specs.Roles.{body_member_role}
 use Rattle.twin_value.specs.Twins.{is_value_role, is_part_role}
-use Rattle.dtdl_terms.specs.Distinct.{HasDeclaration}
 use Rattle.dtdl_terms.specs.Sets.{InOrder as InterfacesInOrder}
 use Rattle.extend_resolve.specs.Breaches.{BreaksNoRule}
-use Rattle.local_rules.specs.Limits.{IsWithinLimits as InterfaceIsWithinLimits}
-use Rattle.local_rules.specs.Typed.{IsTyped}
+use Rattle.local_rules.specs.Soundness.{IsSoundInterface}
 use Rattle.model_life.specs.Models.{Model, interfaces_of}
 use Rattle.model_life.specs.Sums.{AreWithinLimits}
 use Rattle.graph_steps.specs.Inherited.{contents, inherited, is_a}
 use Rattle.graph_steps.specs.States.{State, Twin, Link, set_of, interface_of, twin_at, twin_value, twin_text, link_value, link_text, graph_bytes}
 
 -- ---- models
--- What a document without breach declares: its record has a declaration, is within the limits, and has types that its
--- canonical tree tells.
-pub record IsSoundInterface (i : Interface) : Type 0 where
-  pub declaration : HasDeclaration i
-  pub limits : InterfaceIsWithinLimits i
-  pub typed : IsTyped i
-
--- Together they break no rule on sets, so that each parent and each interface of a component is there.
+-- Together they break no rule on sets, so that each parent and each interface of a component is there, and each of them breaks no
+-- local rule.
 pub record AreSound (ms : List Model) : Type 0 where
   pub rules : BreaksNoRule (interfaces_of ms)
   pub each : AllByRecursion IsSoundInterface (interfaces_of ms)

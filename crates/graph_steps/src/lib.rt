@@ -10,4 +10,4 @@ mod laws;
 pub mod paging;
 pub mod twins;
 
-pub use laws::{empty_is_typed, one_answer, stays_typed};
+pub use laws::empty_is_typed;

@@ -8,3 +8,5 @@ pub mod ReadsBack
 pub mod Sizes
 pub mod Wholes
 pub mod SameValues
+pub mod Normal
+pub mod Literals

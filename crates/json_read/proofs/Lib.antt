@@ -25,3 +25,5 @@ mod ValueSpans
 pub mod Pointed
 pub mod Spelled
 pub mod OneFault
+mod Outcomes
+pub mod PrintedAgain

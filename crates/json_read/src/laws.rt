@@ -1,6 +1,7 @@
 //! What the definitions say of bytes, whatever is read.
 
-ghost use Rattle.std.specs.Prelude.{◌≡◌, ◌≢◌, ℕ, List};
+ghost use Rattle.std.specs.Prelude.{◌≡◌, ◌≢◌, ◌⊎◌, ℕ, List};
+ghost use Rattle.dt_base.specs.Existence.{IsThere};
 ghost use Rattle.json_tree.specs.Values.{HasDistinctKeys, Json};
 ghost use Rattle.json_tree.specs.View.{view};
 ghost use Rattle.json_tree.specs.Grammar.{Spells};
@@ -30,6 +31,17 @@ pub fn fault_or_value()
 pub fn one_fault()
     ensures { (bytes : List ℕ) (fault other : JsonFault) → IsFault bytes fault → IsFault bytes other
         → fault ≢ faults.OutOfMemory → other ≢ faults.OutOfMemory → fault ≡ other }
+{}
+
+/// Bytes spell a value, or have a fault other than want of memory.
+pub fn value_or_fault()
+    ensures { (bytes : List ℕ) → IsThere (((value : Json) × Spells bytes value)
+        ⊎ ((fault : JsonFault) × (fault ≢ faults.OutOfMemory) × IsFault bytes fault)) }
+{}
+
+/// A value that some text spells is spelled by the text that it prints as.
+pub fn printed_again()
+    ensures { (bytes : List ℕ) (v : Json) → Spells bytes v → Spells (printed v) v }
 {}
 
 /// Two trees that nest at most 64 deep, and in which no object has two members of one key, print the same text only

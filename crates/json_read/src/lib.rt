@@ -10,5 +10,5 @@ mod scan;
 mod strings;
 
 pub use fault::JsonFault;
-pub use laws::{fault_or_value, one_fault, one_printed, one_value};
+pub use laws::{fault_or_value, one_fault, one_printed, one_value, printed_again, value_or_fault};
 pub use reading::{pointer_in, read};

@@ -4,7 +4,7 @@ pub mod Keyed
 pub mod Parts
 mod Escaped
 mod Printed
-mod Printable
+pub mod Printable
 mod Characters
 pub mod FirstKeys
 mod TreeItems
@@ -16,3 +16,4 @@ pub mod Stepped
 pub mod OnePointer
 pub mod Preorder
 pub mod DistinctKeys
+pub mod FirstPlaces

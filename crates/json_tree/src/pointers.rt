@@ -19,6 +19,16 @@ pub struct Pointer {
     pub text: Text,
 }
 
+impl Pointer {
+    /// An equal pointer in memory of its own. Fails only for want of memory.
+    pub fn copy(&self, alloc: Global) -> Result<Pointer, OutOfMemory>
+        ensures { IfOk result (λ pointer. pointer ≡ self.now) }
+    {
+        let text = self.text.copy(alloc)?;
+        Ok(Pointer { text })
+    }
+}
+
 /// A byte of a key that stands for itself in a token.
 pub fn is_bare(byte: u8) -> bool
     ensures bare { IsTrue result → IsBare byte }

@@ -13,3 +13,4 @@ mod LevelSteps
 mod Tabled
 mod Judged
 pub mod OneBreach
+pub mod LeastBreaches

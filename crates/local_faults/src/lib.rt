@@ -13,4 +13,4 @@ mod schemas;
 mod walk;
 
 pub use document::{Breach, first_breach};
-pub use laws::one_first_breach;
+pub use laws::{breach_or_none, one_first_breach};

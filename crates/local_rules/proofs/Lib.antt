@@ -10,3 +10,4 @@ pub mod Named
 pub mod Typed
 pub mod Keys
 pub mod TypeRules
+pub mod NormalForms

@@ -13,4 +13,7 @@ pub mod Levels
 pub mod Breaches
 pub mod Typed
 pub mod Limits
+pub mod Declarations
+pub mod Normal
+pub mod Soundness
 pub mod Machinery

@@ -34,7 +34,7 @@ use Rattle.local_rules.specs.declared.role.Role.TheVariants as role
 use Rattle.local_rules.specs.declared.role.SchemaUse.TheVariants as schema_use
 use Rattle.local_rules.specs.declared.role.ValueSchema.{ValueSchema}
 use Rattle.json_tree.proofs.Keyed.{position_of_key}
-use Rattle.model_read.specs.Declarations.{ArePayloads, AreProperties, AreEntriesOf, AreKind, DeclaresInterface, HasCommon, HasContents, HasKindOf, HasLocalized, HasOptionalId, HasOptionalPayload, HasParents, HasSchemas, HasString, IsContent, IsContentEntry, IsEnumEntry, IsIdentifier, IsLocalized, IsLocalizedBy, IsPayload, IsSchema, IsTextOfLanguage}
+use Rattle.local_rules.specs.Declarations.{ArePayloads, AreProperties, AreEntriesOf, AreKind, DeclaresInterface, HasCommon, HasContents, HasKindOf, HasLocalized, HasOptionalId, HasOptionalPayload, HasParents, HasSchemas, HasString, IsContent, IsContentEntry, IsEnumEntry, IsIdentifier, IsLocalized, IsLocalizedBy, IsPayload, IsSchema, IsTextOfLanguage}
 use Rattle.local_rules.specs.Typed.{IsPropertyTerm, type_of_kind}
 use Rattle.model_read.proofs.Valid.{here, of_kind}
 use Rattle.model_read.proofs.Pairs.{apart, distinct_pairs, mapped_back, zip_at}

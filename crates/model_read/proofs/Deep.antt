@@ -11,7 +11,7 @@ use Rattle.local_rules.specs.Levels.{HasLevel, entries_under, parts_by}
 use Rattle.local_rules.specs.declared.role.Element.{Element}
 use Rattle.local_rules.specs.declared.role.Element.TheVariants as element_kind
 use Rattle.local_rules.specs.declared.role.Position.TheVariants as position
-use Rattle.model_read.specs.Declarations.{IsPayload, ArePayloads, IsSchema}
+use Rattle.local_rules.specs.Declarations.{IsPayload, ArePayloads, IsSchema}
 use Rattle.local_rules.specs.Limits.{levels, payload_levels, payloads_levels}
 
 -- ---- lists

@@ -9,7 +9,7 @@ use Rattle.dtdl_terms.specs.Distinct.{HasDeclaration}
 use Rattle.dtdl_terms.specs.declared.interface.Interface.{Interface}
 use Rattle.dtdl_terms.specs.declared.uploaded.Uploaded.{Uploaded}
 use Rattle.json_tree.specs.Members.{list_of}
-use Rattle.model_read.specs.Declarations.{DeclaresInterface}
+use Rattle.local_rules.specs.Declarations.{DeclaresInterface}
 use Rattle.local_rules.specs.Limits.{IsWithinLimits}
 use Rattle.model_read.specs.Uploads.{IsUploadedAt, AreUploaded}
 use Rattle.model_read.proofs.Standing.{BreaksNowhere}

@@ -11,7 +11,7 @@ use Rattle.dtdl_terms.specs.TermViews.{payloads_term, contents_term}
 use Rattle.dtdl_terms.specs.declared.schema.Payload.{Payload}
 use Rattle.dtdl_terms.specs.declared.content.Content.{Content}
 use Rattle.json_tree.specs.Members.{list_of, pairs_of}
-use Rattle.model_read.specs.Declarations.{ArePayloads, AreProperties}
+use Rattle.local_rules.specs.Declarations.{ArePayloads, AreProperties}
 
 -- ---- loops
 -- a relation that grows at the end keeps pace with a loop

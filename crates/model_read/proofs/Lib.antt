@@ -15,3 +15,6 @@ pub mod Pairs
 pub mod Apart
 pub mod Documents
 pub mod Ordinals
+pub mod ThereLeaves
+pub mod There
+pub mod ThereUploads

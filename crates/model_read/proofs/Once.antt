@@ -22,7 +22,7 @@ use Rattle.local_rules.specs.Roles.{type_of}
 use Rattle.local_rules.specs.declared.role.Element.{Element}
 use Rattle.local_rules.specs.declared.role.Element.TheVariants as element_kind
 use Rattle.local_rules.specs.declared.role.Position.TheVariants as position
-use Rattle.model_read.specs.Declarations.{HasString, HasOptionalString, IsIdentifier, HasId, HasOptionalId, DeclaresWritable, IsTextOfLanguage, IsLocalizedBy, IsLocalized, HasLocalized, HasCommon, IsEnumValue, DeclaresEnumEntry, IsEnumEntry, value_schema, IsSchemaObject, IsSchema, IsPayload, ArePayloads, HasOptionalPayload, HasSchema}
+use Rattle.local_rules.specs.Declarations.{HasString, HasOptionalString, IsIdentifier, HasId, HasOptionalId, DeclaresWritable, IsTextOfLanguage, IsLocalizedBy, IsLocalized, HasLocalized, HasCommon, IsEnumValue, DeclaresEnumEntry, IsEnumEntry, value_schema, IsSchemaObject, IsSchema, IsPayload, ArePayloads, HasOptionalPayload, HasSchema}
 
 -- ---- forms of relations
 pub same_members : (v : Json) (ms ns : Members Number) → v ≡ object ms → v ≡ object ns → ns ≡ ms

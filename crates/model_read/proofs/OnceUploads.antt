@@ -18,7 +18,7 @@ use Rattle.dtdl_terms.proofs.OneTerm.{one_schema, one_content}
 use Rattle.json_tree.specs.Members.{list_of, value_at}
 use Rattle.local_rules.specs.declared.role.Position.{Position}
 use Rattle.local_rules.specs.declared.role.Position.TheVariants as position
-use Rattle.model_read.specs.Declarations.{IsIdentifier, AreEntriesOf, IsSemantic, HasSemantic, HasMax, AreKind, IsContent, AreProperties, HasKindOf, IsContentEntry, HasEach, IsSchema, HasParents, DeclaresInterface}
+use Rattle.local_rules.specs.Declarations.{IsIdentifier, AreEntriesOf, IsSemantic, HasSemantic, HasMax, AreKind, IsContent, AreProperties, HasKindOf, IsContentEntry, HasEach, IsSchema, HasParents, DeclaresInterface}
 use Rattle.local_rules.specs.Typed.{type_of_kind, IsPropertyTerm}
 use Rattle.model_read.specs.Uploads.{HasOrdinal, IsUploaded, IsUploadedAt, AreUploaded}
 use Rattle.model_read.proofs.Once.{same_members, option_once, all_zip_once, optional_text_once, identifier_once, id_once, optional_id_once, writable_once, localized_once, commons_once, schema_once, schema_at_once, optional_payload_once}

@@ -10,7 +10,7 @@ use Rattle.dt_base.specs.names.Grammar.{Identifier}
 use Rattle.dtdl_terms.specs.declared.content.Content.{Content}
 use Rattle.dtdl_terms.specs.declared.uploaded.Uploaded.{Uploaded}
 use Rattle.json_tree.specs.Members.{list_of, value_at}
-use Rattle.model_read.specs.Declarations.{AreEntriesOf, HasContents, HasEach, HasParents}
+use Rattle.local_rules.specs.Declarations.{AreEntriesOf, HasContents, HasEach, HasParents}
 use Rattle.model_read.specs.Uploads.{AreUploaded, HasOrdinal, IsUploaded, IsUploadedAt}
 use Rattle.extend_resolve.specs.Breaches.{HasOrdinals}
 

@@ -10,7 +10,7 @@ use Rattle.json_tree.specs.declared.tree.Tree as variants
 use Rattle.json_tree.specs.declared.tree.Member.{Member}
 use Rattle.json_tree.proofs.Views.{view-Text, view-List, view-Members}
 use Rattle.json_tree.specs.Members.{list_of}
-use Rattle.model_read.specs.Declarations.{HasParents, IsIdentifier}
+use Rattle.local_rules.specs.Declarations.{HasParents, IsIdentifier}
 
 pub seen_text : (t : Tree) (bytes slice : List ℕ) → t ≡ variants.Text bytes → slice ≡ bytes → view t ≡ text slice
 seen_text t bytes slice is same = ap view is ∙ (view-Text bytes ∙ ap text (sym same))

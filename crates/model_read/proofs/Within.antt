@@ -37,7 +37,7 @@ use Rattle.local_rules.specs.declared.role.Role.TheVariants as role
 use Rattle.local_rules.specs.declared.role.SchemaUse.{SchemaUse}
 use Rattle.local_rules.specs.declared.role.SchemaUse.TheVariants as schema_use
 use Rattle.local_rules.specs.declared.role.ValueSchema.{ValueSchema}
-use Rattle.model_read.specs.Declarations.{ArePayloads, AreProperties, AreEntriesOf, AreKind, DeclaresInterface, HasCommon, HasContents, HasKindOf, HasSchemas, HasOptionalId, HasOptionalPayload, HasOptionalString, HasParents, HasSchema, HasSemantic, HasString, IsContent, IsContentEntry, IsEnumEntry, IsIdentifier, IsLocalized, IsLocalizedBy, IsPayload, IsSchema, IsSemantic, IsTextOfLanguage}
+use Rattle.local_rules.specs.Declarations.{ArePayloads, AreProperties, AreEntriesOf, AreKind, DeclaresInterface, HasCommon, HasContents, HasKindOf, HasSchemas, HasOptionalId, HasOptionalPayload, HasOptionalString, HasParents, HasSchema, HasSemantic, HasString, IsContent, IsContentEntry, IsEnumEntry, IsIdentifier, IsLocalized, IsLocalizedBy, IsPayload, IsSchema, IsSemantic, IsTextOfLanguage}
 use Rattle.local_rules.specs.Typed.{IsPropertyTerm, type_of_kind}
 use Rattle.local_rules.specs.Limits.{ContentIsWithin, ContentsAreWithin, EnumEntryIsWithin, HasShortTexts, IsShortId, IsShortInterfaceId, IsShortName, IsShortText, IsWithinLimits, KindIsWithin, OuterPayloadIsWithin, OuterSchemaIsWithin, PayloadIsWithin, PayloadsAreWithin, SchemaIsWithin, levels}
 use Rattle.model_read.specs.Machinery.Shapes.{CanBeName, CanBeTypes, IsValid}

@@ -1,4 +1,3 @@
-pub mod Declarations
 pub mod Uploads
 pub mod Ends
 pub mod Machinery

@@ -7,7 +7,7 @@ use Rattle.json_tree.specs.Places.{member_at}
 use Rattle.json_tree.specs.Pointers.{IsPointerOf}
 use Rattle.dtdl_terms.specs.declared.uploaded.Uploaded.{Uploaded}
 use Rattle.json_tree.specs.Members.{list_of, value_at}
-use Rattle.model_read.specs.Declarations.{DeclaresInterface}
+use Rattle.local_rules.specs.Declarations.{DeclaresInterface}
 
 -- No member before this position has the key.
 abbrev pub IsNew : List ℕ → Members Number → ℕ → Type 0

@@ -2,7 +2,7 @@
 
 ghost use Rattle.std.specs.Prelude.{◌≡◌, IfOk};
 ghost use Rattle.json_tree.specs.View.{members_view};
-ghost use Rattle.model_read.specs.Declarations.{HasCommon};
+ghost use Rattle.local_rules.specs.Declarations.{HasCommon};
 ghost use Rattle.model_read.specs.Machinery.Shapes.{CommonShape};
 
 use crate::localized::localized_at;

@@ -8,7 +8,7 @@ ghost use Rattle.local_rules.specs.Roles.{type_of};
 ghost use Rattle.local_rules.specs.declared.role.Element.TheVariants as element;
 ghost use Rattle.local_rules.specs.declared.role.Position.TheVariants as position;
 ghost use Rattle.dtdl_terms.specs.TermViews.{contents_term};
-ghost use Rattle.model_read.specs.Declarations.{AreProperties, HasContents, IsContentEntry};
+ghost use Rattle.local_rules.specs.Declarations.{AreProperties, HasContents, IsContentEntry};
 ghost use Rattle.model_read.specs.Machinery.Gains.{Gains, GainsKind};
 ghost use Rattle.model_read.specs.Machinery.Shapes.{EachIs, IsListOf, IsValidContent, IsValidProperty, KindShape, MayHave, RelationshipShape};
 

@@ -6,7 +6,7 @@ ghost use Rattle.json_decimal.specs.Decimals.{number_of};
 ghost use Rattle.json_tree.specs.Values.{number, text};
 ghost use Rattle.json_tree.specs.View.{view, members_view, elements_view};
 ghost use Rattle.json_tree.specs.Members.{list_of};
-ghost use Rattle.model_read.specs.Declarations.{DeclaresEnumEntry, HasString, IsEnumEntry, IsEnumValue, value_schema};
+ghost use Rattle.local_rules.specs.Declarations.{DeclaresEnumEntry, HasString, IsEnumEntry, IsEnumValue, value_schema};
 ghost use Rattle.model_read.specs.Machinery.Shapes.{CanBeEnumValue, CanBeValueSchema, EachIs, EnumEntryShape, HasMember, IsValidEnumEntry};
 
 use crate::common::common_of;

@@ -5,7 +5,7 @@ ghost use Rattle.std.specs.List.{AllZip};
 ghost use Rattle.json_tree.specs.View.{view, members_view, elements_view};
 ghost use Rattle.json_tree.specs.Members.{list_of, value_at};
 ghost use Rattle.dtdl_terms.specs.TermViews.{schema_term};
-ghost use Rattle.model_read.specs.Declarations.{DeclaresInterface, HasParents, HasSchemas, IsIdentifier, IsSchema};
+ghost use Rattle.local_rules.specs.Declarations.{DeclaresInterface, HasParents, HasSchemas, IsIdentifier, IsSchema};
 ghost use Rattle.model_read.specs.Machinery.Shapes.{CanBeId, EachIs, InterfaceShape, IsListOf, IsParents, IsValidSchema, MayHave};
 
 use crate::contents::contents_at;

@@ -10,7 +10,7 @@ ghost use Rattle.local_rules.specs.declared.role.Element.TheVariants as element;
 ghost use Rattle.local_rules.specs.declared.role.Position.TheVariants as position;
 ghost use Rattle.dtdl_terms.specs.TermViews.{payload_term};
 ghost use Rattle.std.specs.Option.{option_map};
-ghost use Rattle.model_read.specs.Declarations.{HasMax, HasOptionalPayload, HasOptionalString, HasSemantic, DeclaresWritable};
+ghost use Rattle.local_rules.specs.Declarations.{HasMax, HasOptionalPayload, HasOptionalString, HasSemantic, DeclaresWritable};
 ghost use Rattle.model_read.specs.Machinery.Gains.{GainsKind};
 ghost use Rattle.model_read.specs.Machinery.Shapes.{CanBeMultiplicity, CanBeName, CanBeTypes, CommandShape, ComponentShape, IsValidPayload, IsTruth, MayHave, PropertyShape, TelemetryShape};
 

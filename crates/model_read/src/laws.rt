@@ -2,6 +2,7 @@
 
 ghost use Rattle.std.specs.Prelude.{◌≡◌, ℕ, List};
 ghost use Rattle.std.specs.List.{AllByRecursion};
+ghost use Rattle.dt_base.specs.Existence.{IsThere};
 ghost use Rattle.json_tree.specs.Values.{HasDistinctKeys, Json};
 ghost use Rattle.dtdl_terms.specs.Distinct.{HasDeclaration};
 ghost use Rattle.dtdl_terms.specs.declared.uploaded.Uploaded.{Uploaded};
@@ -12,6 +13,12 @@ ghost use Rattle.model_read.specs.Uploads.{AreUploaded};
 /// A document declares at most one list of interfaces.
 pub fn one_declaration()
     ensures { (whole : Json) (nth : ℕ) (us vs : List Uploaded) → AreUploaded whole nth us → AreUploaded whole nth vs → us ≡ vs }
+{}
+
+/// What a document without breach declares is there: it is refuted that it declares no list of interfaces.
+pub fn declaration_is_there()
+    ensures { (whole : Json) (nth : ℕ) → BreaksNoLocalRule whole
+        → IsThere ((us : List Uploaded) × AreUploaded whole nth us) }
 {}
 
 /// What a document without breach declares is within the limits.

@@ -17,6 +17,6 @@ mod semantics;
 mod texts;
 
 pub use end::LocalEnd;
-pub use laws::{have_declarations, one_declaration, within_limits};
+pub use laws::{declaration_is_there, have_declarations, one_declaration, within_limits};
 pub use local_rules::LocalRule;
 pub use read::read_interfaces;

@@ -5,7 +5,7 @@ ghost use Rattle.std.specs.List.{AllZip};
 ghost use Rattle.json_tree.specs.View.{view, member_view, members_view};
 ghost use Rattle.json_tree.specs.Members.{pairs_of, value_at};
 ghost use Rattle.local_rules.specs.Quantities.{IsStringValue};
-ghost use Rattle.model_read.specs.Declarations.{HasLocalized, IsLocalizedBy, IsTextOfLanguage};
+ghost use Rattle.local_rules.specs.Declarations.{HasLocalized, IsLocalizedBy, IsTextOfLanguage};
 ghost use Rattle.model_read.specs.Machinery.Shapes.{HaveStrings, IsWords, MayHave};
 
 use crate::parts::list_of_one;

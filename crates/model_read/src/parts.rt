@@ -4,7 +4,7 @@ ghost use Rattle.std.specs.Prelude.{◌≡◌, ◌≢◌, ◌∷◌, [], Some, N
 ghost use Rattle.json_tree.specs.Values.{array, object};
 ghost use Rattle.json_tree.specs.View.{view, members_view, elements_view};
 ghost use Rattle.json_tree.specs.Members.{value_at};
-ghost use Rattle.model_read.specs.Declarations.{AreEntriesOf};
+ghost use Rattle.local_rules.specs.Declarations.{AreEntriesOf};
 ghost use Rattle.model_read.specs.Machinery.Shapes.{IsArray, IsObject, MayHave};
 
 use dt_base::{List, OutOfMemory};

@@ -8,7 +8,7 @@ ghost use Rattle.local_rules.specs.Levels.{IsPrimitiveName};
 ghost use Rattle.local_rules.specs.Roles.{type_of};
 ghost use Rattle.local_rules.specs.declared.role.Element.TheVariants as element;
 ghost use Rattle.local_rules.specs.declared.role.Position.TheVariants as position;
-ghost use Rattle.model_read.specs.Declarations.{IsSchema, IsPayload, ArePayloads, HasSchema, HasPayload};
+ghost use Rattle.local_rules.specs.Declarations.{IsSchema, IsPayload, ArePayloads, HasSchema, HasPayload};
 ghost use Rattle.model_read.specs.Machinery.Shapes.{ArrayShape, CanBeId, EachIs, EnumerationShape, HasMember, IsValidPayload, IsValidSchema, MapShape, ObjectShape, SchemaShape};
 
 use crate::common::{boxed_common_of, common_of};

@@ -5,7 +5,7 @@ ghost use Rattle.json_tree.specs.Values.{array, text};
 ghost use Rattle.json_tree.specs.View.{view, members_view, elements_view};
 ghost use Rattle.local_rules.specs.Types.{MayHaveBeside, further};
 ghost use Rattle.local_rules.specs.declared.role.Element.TheVariants as element;
-ghost use Rattle.model_read.specs.Declarations.{IsSemantic, HasSemantic};
+ghost use Rattle.local_rules.specs.Declarations.{IsSemantic, HasSemantic};
 ghost use Rattle.model_read.specs.Machinery.Shapes.{CanBe, CanBeTypes, MayHave};
 
 use crate::texts::name_of;

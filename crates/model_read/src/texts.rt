@@ -5,7 +5,7 @@ ghost use Rattle.dt_base.specs.declared.names.fault.NameFault.TheVariants as fau
 ghost use Rattle.json_tree.specs.Values.{text};
 ghost use Rattle.json_tree.specs.View.{view, members_view};
 ghost use Rattle.local_rules.specs.Quantities.{IsStringValue};
-ghost use Rattle.model_read.specs.Declarations.{IsIdentifier, HasString, HasOptionalString, HasId, HasOptionalId};
+ghost use Rattle.local_rules.specs.Declarations.{IsIdentifier, HasString, HasOptionalString, HasId, HasOptionalId};
 ghost use Rattle.model_read.specs.Machinery.Shapes.{CanBeId, CanBeName, HasMember, MayHave};
 
 use crate::parts::wanted;

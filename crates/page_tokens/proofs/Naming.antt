@@ -13,10 +13,10 @@ use Rattle.std.proofs.Math.Seq.{take-suc}
 use Rattle.twin_value.specs.Breaches.{IsTwinId, is_id_byte}
 use Rattle.page_tokens.specs.Tokens.{NamesId, NameIds, token_parts, IsPageToken}
 
-id_byte_small : (b : ℕ) → is_id_byte b ≡ true → b < 128
+pub id_byte_small : (b : ℕ) → is_id_byte b ≡ true → b < 128
 id_byte_small b h = grind (arith, nat_tests)
 
-small_at : (bytes : List ℕ) (i : ℕ) → AllPass is_id_byte bytes → get_or bytes i 0 < 128
+pub small_at : (bytes : List ℕ) (i : ℕ) → AllPass is_id_byte bytes → get_or bytes i 0 < 128
 small_at bytes i each =
     ⊎_elim
     (λ t. id_byte_small (get_or bytes i 0) (each i 0 (ltb-true i (length bytes) t)))

@@ -1,3 +1,5 @@
 pub mod Breaching
 pub mod OneOutcome
 pub mod Soundly
+pub mod Existence
+pub mod GivenTokens

@@ -5,7 +5,7 @@ use Rattle.json_tree.specs.Pointers.{IsPointerOf}
 use Rattle.json_tree.proofs.OnePointer.{one_pointer}
 use Rattle.query_terms.specs.Queries.{Asked, asked, key_length}
 use Rattle.query_terms.specs.declared.query.Query.{Query}
-use Rattle.query_parse.specs.Faults.{SpellsQuery}
+use Rattle.query_grammar.specs.Spelled.{SpellsQuery}
 use Rattle.query_parse.specs.declared.fault.QueryFault.{QueryFault}
 use Rattle.query_parse.specs.declared.fault.QueryFault.TheVariants as faults
 use Rattle.query_parse.proofs.OneAnswer.{one_asked, one_refusal, refused_for_memory}

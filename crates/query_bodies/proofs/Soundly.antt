@@ -1,11 +1,9 @@
 -- The ask that a value makes is sound, and a refusal is one of three.
-use Rattle.std.proofs.Common.{◌≡◌, ℕ, ◌≤◌, List, [], ◌∷◌, length, Option, Some, None, Ok, Err, refl, sym, subst, ◌∙◌, inl, inr}
+use Rattle.std.proofs.Common.{◌≡◌, ℕ, List, [], ◌∷◌, length, Option, Some, None, Ok, Err, refl, sym, subst, ◌∙◌, inl, inr}
 use Rattle.std.specs.List.{AllByRecursion}
 use Rattle.json_tree.specs.Values.{Json}
-use Rattle.query_terms.specs.Queries.{Asked, asked, key_length}
+use Rattle.query_terms.specs.Queries.{asked, key_length}
 use Rattle.query_terms.specs.declared.query.Query.{Query}
-use Rattle.query_grammar.specs.Grammar.{IsQuery}
-use Rattle.query_parse.specs.Faults.{SpellsQuery}
 use Rattle.query_parse.specs.declared.fault.QueryFault.{QueryFault}
 use Rattle.query_parse.specs.declared.fault.QueryFault.TheVariants as faults
 use Rattle.twin_value.specs.Breaches.{IsTwinId}
@@ -16,13 +14,6 @@ use Rattle.graph_asks.specs.declared.refusal.Refusal.{Refusal}
 use Rattle.graph_asks.specs.declared.refusal.Refusal.TheVariants as refusals
 use Rattle.graph_steps.specs.Soundness.{FitsKey, IsReadQuery, IsSoundAsk}
 use Rattle.query_bodies.specs.Outcomes.{BeginsPast, IsMadeOfBody, IsMadeOfQuery, IsMadeOfText, AskOrRefusal, TellsFault}
-
--- ---- queries
-pub few_joins : (text : List ℕ) (query : Query) → SpellsQuery text (asked query) → length query.joins ≤ 5
-few_joins text query (short, (q, (notes, is, h))) = subst (λ (a : Asked). length a.joins ≤ 5) h.4 h.0
-
-read_query : (text : List ℕ) (query : Query) → SpellsQuery text (asked query) → IsReadQuery query
-read_query text query (short, (q, (notes, (tokens, (rest, are, spaces, is)), h))) = (tokens, notes, subst (λ (a : Asked). IsQuery tokens (a, notes)) h.4 is)
 
 -- ---- tokens
 ids_fit : (parts ids : List (List ℕ)) → NameIds parts ids → (length ids ≡ length parts) × AllByRecursion IsTwinId ids
@@ -69,7 +60,7 @@ told_of_body faults.OutOfMemory r e = absurd e
 
 right_text : (text : List ℕ) (token : Option (List ℕ)) (x : AskOrRefusal) → IsMadeOfText text token x → IsRight x
 right_text text token x (inl (r, (fault, is, h), e)) = right_by x (Err r) e (told_of_body fault r h)
-right_text text token x (inr (query, spells, h)) = right_query token query x (read_query text query spells) h
+right_text text token x (inr (query, spells, h)) = right_query token query x (text, spells) h
 
 right_body : (v : Json) (x : AskOrRefusal) → IsMadeOfBody v x → IsRight x
 right_body v x (inl (r, (place, pointer, code, first, leads, h), e)) = right_by x (Err r) e (subst IsOfBody (sym h) tt)

@@ -4,7 +4,8 @@ use Rattle.std.specs.Prelude.{◌≡◌, ℕ, ◌⊎◌, List, Option, Some, Non
 use Rattle.json_tree.specs.Values.{Json}
 use Rattle.query_terms.specs.Queries.{asked, key_length}
 use Rattle.query_terms.specs.declared.query.Query.{Query}
-use Rattle.query_parse.specs.Faults.{RefusesQuery, SpellsQuery}
+use Rattle.query_grammar.specs.Spelled.{SpellsQuery}
+use Rattle.query_parse.specs.Faults.{RefusesQuery}
 use Rattle.query_parse.specs.declared.fault.QueryFault.{QueryFault}
 use Rattle.query_parse.specs.declared.fault.QueryFault.TheVariants as faults
 use Rattle.twin_value.specs.Breaches.{HasNoBreach, text_under}

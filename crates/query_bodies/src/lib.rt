@@ -7,4 +7,4 @@ mod faults;
 mod laws;
 
 pub use asks::ask_of_body;
-pub use laws::{one_outcome, sound_ask};
+pub use laws::{one_outcome, some_outcome, sound_ask, token_as_ids};

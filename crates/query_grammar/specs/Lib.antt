@@ -1,3 +1,6 @@
 pub mod Phrases
 pub mod Grammar
+pub mod Texts
+pub mod Bindings
+pub mod Spelled
 pub mod Machinery

@@ -6,7 +6,7 @@ use Rattle.std.specs.Str.{IsUtf8, IsCharBoundary}
 use Rattle.std.proofs.lemmas.Str.{IsCharBoundary-start, IsCharBoundary-after_ascii}
 use Rattle.std.proofs.lemmas.List.{take-append-drop}
 use Rattle.std.proofs.lemmas.Bool.Decides.{nat_tests}
-use Rattle.query_lexer.specs.Spellings.{is_space, is_query_name_byte, SkipsSpaces}
+use Rattle.query_terms.specs.tokens.Spellings.{is_space, is_query_name_byte, SkipsSpaces}
 use Rattle.query_lexer.specs.Machinery.Spans.{is_number_byte}
 
 -- behind bytes that are all below 128

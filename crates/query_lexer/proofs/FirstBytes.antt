@@ -7,7 +7,7 @@ use Rattle.query_terms.specs.declared.tokens.token.Mark.{Mark}
 use Rattle.query_terms.specs.declared.tokens.token.Mark.TheVariants as marks
 use Rattle.query_terms.specs.declared.tokens.token.Token.{Token}
 use Rattle.query_terms.specs.declared.tokens.token.Token.TheVariants as tokens
-use Rattle.query_lexer.specs.Spellings.{is_name_start, is_number_start, IsQueryName, IsSpelling, mark_bytes}
+use Rattle.query_terms.specs.tokens.Spellings.{is_name_start, is_number_start, IsQueryName, IsSpelling, mark_bytes}
 
 abbrev pub kind_of : Token → ℕ
 kind_of (tokens.Name w name) = 0

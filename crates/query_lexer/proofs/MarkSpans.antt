@@ -8,7 +8,7 @@ use Rattle.query_terms.specs.declared.tokens.token.Mark.{Mark}
 use Rattle.query_terms.specs.declared.tokens.token.Mark.TheVariants as marks
 use Rattle.query_terms.specs.declared.tokens.token.Token.{Token}
 use Rattle.query_terms.specs.declared.tokens.token.Token.TheVariants as tokens
-use Rattle.query_lexer.specs.Spellings.{mark_bytes, is_name_start, is_number_start, IsSpelling, IsLongest, BeginsNone}
+use Rattle.query_terms.specs.tokens.Spellings.{mark_bytes, is_name_start, is_number_start, IsSpelling, IsLongest, BeginsNone}
 use Rattle.query_lexer.specs.Machinery.Spans.{pair_of, mark_at}
 use Rattle.query_lexer.proofs.Cuts.{behind_ascii, all_at}
 use Rattle.query_lexer.proofs.FirstBytes.{kind_at, other_kind, same_kind}

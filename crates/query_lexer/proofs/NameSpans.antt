@@ -8,7 +8,7 @@ use Rattle.query_terms.specs.declared.tokens.token.Token.{Token}
 use Rattle.query_terms.specs.declared.tokens.token.Token.TheVariants as tokens
 use Rattle.query_terms.specs.declared.tokens.token.Word.{Word}
 use Rattle.query_terms.specs.tokens.Words.{word_of}
-use Rattle.query_lexer.specs.Spellings.{is_name_start, is_query_name_byte, IsQueryName, IsSpelling, IsLongest}
+use Rattle.query_terms.specs.tokens.Spellings.{is_name_start, is_query_name_byte, IsQueryName, IsSpelling, IsLongest}
 use Rattle.query_lexer.proofs.Cuts.{all_front, run_longest, first_behind}
 use Rattle.query_lexer.proofs.FirstBytes.{kind_at, start_kind, same_kind}
 

@@ -13,7 +13,7 @@ use Rattle.json_decimal.specs.Decimals.{number_of, IsReadingOf}
 use Rattle.json_decimal.specs.Literal.{Literal, Exponent, Sign, no_sign, plus, minus, IsLiteral, IsLiteralOf, AreDigits, IsExponent, spelling, minus_bytes, fraction_bytes, exponent_bytes, sign_bytes}
 use Rattle.query_terms.specs.declared.tokens.token.Token.{Token}
 use Rattle.query_terms.specs.declared.tokens.token.Token.TheVariants as tokens
-use Rattle.query_lexer.specs.Spellings.{is_number_start, IsSpelling, IsLongest, BeginsNone}
+use Rattle.query_terms.specs.tokens.Spellings.{is_number_start, IsSpelling, IsLongest, BeginsNone}
 use Rattle.query_lexer.specs.Machinery.Spans.{is_number_byte, NoneLonger, IsBound}
 use Rattle.query_lexer.proofs.Cuts.{all_at, all_append}
 use Rattle.query_lexer.proofs.FirstBytes.{kind_at, number_kind, spelled_some, same_kind}

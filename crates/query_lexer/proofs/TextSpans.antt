@@ -5,7 +5,7 @@ use Rattle.std.proofs.lemmas.Bool.Decides.{nat_tests}
 use Rattle.dt_base.specs.names.Grammar.{Identifier}
 use Rattle.query_terms.specs.declared.tokens.token.Token.{Token}
 use Rattle.query_terms.specs.declared.tokens.token.Token.TheVariants as tokens
-use Rattle.query_lexer.specs.Spellings.{escape, AreCharacters, IsModel, IsSpelling, IsLongest, BeginsNone}
+use Rattle.query_terms.specs.tokens.Spellings.{escape, AreCharacters, IsModel, IsSpelling, IsLongest, BeginsNone}
 use Rattle.query_lexer.specs.Machinery.Spans.{is_plain, prepend, with_escape, content_in, quoted_content}
 use Rattle.query_lexer.proofs.Cuts.{behind_ascii}
 use Rattle.query_lexer.proofs.FirstBytes.{same_kind}

@@ -17,7 +17,7 @@ use Rattle.query_terms.specs.declared.tokens.token.Mark.TheVariants as marks
 use Rattle.query_terms.specs.declared.tokens.token.Token.{Token}
 use Rattle.query_terms.specs.declared.tokens.token.Token.TheVariants as tokens
 use Rattle.query_terms.specs.tokens.Words.{word_of}
-use Rattle.query_lexer.specs.Spellings.{is_space, mark_bytes, AreCharacters, IsModel, IsSpelling, IsLongest, SkipsSpaces}
+use Rattle.query_terms.specs.tokens.Spellings.{is_space, mark_bytes, AreCharacters, IsModel, IsSpelling, IsLongest, SkipsSpaces}
 use Rattle.query_lexer.specs.Machinery.Spans.{mark_at}
 use Rattle.query_lexer.proofs.FirstBytes.{kind_of, kind_at, same_kind}
 use Rattle.query_lexer.proofs.TextSpans.{one_content}

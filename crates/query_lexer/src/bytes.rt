@@ -1,7 +1,7 @@
 //! Bytes of one kind that stand one after another.
 
 ghost use Rattle.std.specs.Prelude.{◌≡◌, ◌<◌, ◌≤◌, ℕ, length, slice_index, true, false};
-ghost use Rattle.query_lexer.specs.Spellings.{is_space, is_name_start, is_query_name_byte, is_number_start};
+ghost use Rattle.query_terms.specs.tokens.Spellings.{is_space, is_name_start, is_query_name_byte, is_number_start};
 ghost use Rattle.query_lexer.specs.Machinery.Spans.{is_number_byte, is_plain};
 
 /// The byte at a position, and 0, which no token has, behind the end.

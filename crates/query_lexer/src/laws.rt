@@ -2,7 +2,7 @@
 
 ghost use Rattle.std.specs.Prelude.{◌≡◌, ℕ, List};
 ghost use Rattle.query_terms.specs.declared.tokens.token.Token.{Token};
-ghost use Rattle.query_lexer.specs.Spellings.{IsLongest, IsSpelling};
+ghost use Rattle.query_terms.specs.tokens.Spellings.{IsLongest, IsSpelling};
 
 /// Bytes spell at most one token.
 pub fn one_token()

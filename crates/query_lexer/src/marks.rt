@@ -1,7 +1,7 @@
 //! Marks.
 
 ghost use Rattle.std.specs.Prelude.{◌≡◌, length};
-ghost use Rattle.query_lexer.specs.Spellings.{mark_bytes};
+ghost use Rattle.query_terms.specs.tokens.Spellings.{mark_bytes};
 ghost use Rattle.query_lexer.specs.Machinery.Spans.{pair_of, single_mark, mark_at};
 
 use query_terms::Compare;

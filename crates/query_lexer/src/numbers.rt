@@ -3,7 +3,7 @@
 ghost use Rattle.std.specs.Prelude.{◌≡◌, ◌<◌, ◌^◌, true, slice_index, take, MatchOption};
 ghost use Rattle.json_decimal.specs.Decimals.{number_of};
 ghost use Rattle.json_decimal.specs.Literal.{IsLiteralOf};
-ghost use Rattle.query_lexer.specs.Spellings.{is_number_start, IsLongest, BeginsNone};
+ghost use Rattle.query_terms.specs.tokens.Spellings.{is_number_start, IsLongest, BeginsNone};
 ghost use Rattle.query_lexer.specs.Machinery.Spans.{IsBound, NoneLonger};
 
 use crate::bytes::number_len;

@@ -1,7 +1,7 @@
 //! Texts in quotes.
 
 ghost use Rattle.std.specs.Prelude.{◌≡◌, ◌<◌, ◌≤◌, ◌++◌, ◌∷◌, [], length, slice_index, false, None, Some, IfOk, IfSome, MatchOption};
-ghost use Rattle.query_lexer.specs.Spellings.{IsLongest, BeginsNone, IsModel, escape};
+ghost use Rattle.query_terms.specs.tokens.Spellings.{IsLongest, BeginsNone, IsModel, escape};
 ghost use Rattle.query_lexer.specs.Machinery.Spans.{is_plain, quoted_content, prepend};
 
 use crate::bytes::{byte_at, plain_len};

@@ -1,7 +1,7 @@
 //! The longest token at a place.
 
 ghost use Rattle.std.specs.Prelude.{◌≡◌, ◌≢◌, true, false, None, slice_index, IfOk, MatchOption};
-ghost use Rattle.query_lexer.specs.Spellings.{is_space, is_name_start, is_number_start, SkipsSpaces, IsLongest, BeginsNone};
+ghost use Rattle.query_terms.specs.tokens.Spellings.{is_space, is_name_start, is_number_start, SkipsSpaces, IsLongest, BeginsNone};
 ghost use Rattle.query_lexer.specs.Machinery.Spans.{mark_at};
 
 use crate::bytes::{byte_at, is_name_start, is_number_start, name_len, space_len};

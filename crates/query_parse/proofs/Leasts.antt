@@ -6,7 +6,7 @@ use Rattle.std.proofs.lemmas.List.Elements.{Contains-append_left, Contains-appen
 use Rattle.query_terms.specs.Queries.{Asked}
 use Rattle.query_grammar.specs.declared.names.Use.{Use}
 use Rattle.query_grammar.specs.Phrases.{PlacedName}
-use Rattle.query_parse.specs.Bindings.{is_name_among, is_bound, place_if, repeats_behind, unbound_uses, IsLeastPlace}
+use Rattle.query_grammar.specs.Bindings.{is_name_among, is_bound, place_if, repeats_behind, unbound_uses, IsLeastPlace}
 use Rattle.query_parse.specs.Machinery.Reached.{LeastOf}
 
 without_end : (xs : List ℕ) → xs ++ [] ≡ xs

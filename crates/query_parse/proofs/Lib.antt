@@ -5,3 +5,4 @@ pub mod Unique
 pub mod OneAnswer
 pub mod Refusals
 pub mod Readings
+pub mod Existence

@@ -4,8 +4,9 @@ use Rattle.query_terms.specs.Queries.{Asked}
 use Rattle.query_grammar.specs.declared.names.Notes.{Notes}
 use Rattle.query_parse.specs.declared.fault.QueryFault.{QueryFault}
 use Rattle.query_parse.specs.declared.fault.QueryFault.TheVariants as faults
-use Rattle.query_parse.specs.Bindings.{repeated_places, unbound, IsLeastPlace}
-use Rattle.query_parse.specs.Faults.{IsStarWithJoin, ReadsQuery, RefusesQuery, SpellsQuery}
+use Rattle.query_grammar.specs.Bindings.{repeated_places, unbound, IsLeastPlace}
+use Rattle.query_grammar.specs.Spelled.{IsStarWithJoin, ReadsQuery, SpellsQuery}
+use Rattle.query_parse.specs.Faults.{RefusesQuery}
 use Rattle.query_parse.proofs.Unique.{one_text, byte_no_query, one_byte}
 
 both : (text : List ℕ) (P Q : Asked → Notes → Type 0) → ReadsQuery text P → ReadsQuery text Q → (q : Asked) × ((n : Notes) × P q n × Q q n)

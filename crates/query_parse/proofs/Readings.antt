@@ -7,7 +7,7 @@ use Rattle.query_terms.specs.declared.query.Query.{Query}
 use Rattle.query_terms.specs.Queries.{Asked, asked}
 use Rattle.query_grammar.specs.declared.names.Notes.{Notes}
 use Rattle.query_terms.specs.declared.tokens.token.Token.{Token}
-use Rattle.query_lexer.specs.Spellings.{IsLongest, BeginsNone}
+use Rattle.query_terms.specs.tokens.Spellings.{IsLongest, BeginsNone}
 use Rattle.query_grammar.specs.declared.state.State.{State}
 use Rattle.query_grammar.specs.Machinery.Steps.{step}
 use Rattle.query_parse.specs.Machinery.Reached.{Takes, TakesNone}

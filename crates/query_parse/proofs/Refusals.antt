@@ -4,9 +4,10 @@ use Rattle.query_terms.specs.Queries.{Asked}
 use Rattle.query_grammar.specs.declared.names.Notes.{Notes}
 use Rattle.query_parse.specs.declared.fault.QueryFault.{QueryFault}
 use Rattle.query_parse.specs.declared.fault.QueryFault.TheVariants as faults
-use Rattle.query_parse.specs.Texts.{IsQueryText}
-use Rattle.query_parse.specs.Bindings.{repeated_places, unbound, IsLeastPlace}
-use Rattle.query_parse.specs.Faults.{is_star, IsStarWithJoin, RefusesQuery, SpellsQuery}
+use Rattle.query_grammar.specs.Texts.{IsQueryText}
+use Rattle.query_grammar.specs.Bindings.{repeated_places, unbound, IsLeastPlace}
+use Rattle.query_grammar.specs.Spelled.{is_star, IsStarWithJoin, SpellsQuery}
+use Rattle.query_parse.specs.Faults.{RefusesQuery}
 use Rattle.query_parse.specs.Machinery.Reached.{RefusesByte}
 
 -- ---- rows given whole

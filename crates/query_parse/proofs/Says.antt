@@ -3,7 +3,7 @@ use Rattle.std.proofs.Common.{◌≡◌, ℕ, ◌-◌, ◌<◌, inl, inr, List, 
 use Rattle.std.specs.Option.{option_and_then}
 use Rattle.query_terms.specs.Queries.{Asked}
 use Rattle.query_terms.specs.declared.tokens.token.Token.{Token}
-use Rattle.query_lexer.specs.Spellings.{is_space, IsLongest, BeginsNone, SkipsSpaces, IsSpelling}
+use Rattle.query_terms.specs.tokens.Spellings.{is_space, IsLongest, BeginsNone, SkipsSpaces, IsSpelling}
 use Rattle.query_lexer.proofs.FirstBytes.{spelled_some}
 use Rattle.query_grammar.specs.declared.names.Notes.{Notes}
 use Rattle.query_grammar.specs.declared.state.State.{State}
@@ -14,7 +14,7 @@ use Rattle.query_grammar.specs.Machinery.Runs.{state_behind, asked_by}
 use Rattle.query_grammar.proofs.Complete.{complete, placed}
 use Rattle.query_grammar.proofs.Asks.{query_forward, query_backward}
 use Rattle.query_grammar.proofs.Begins.{begun, through}
-use Rattle.query_parse.specs.Texts.{AreTokens, IsQueryText, BeginTokensOfQuery, IsFirstWrongToken}
+use Rattle.query_grammar.specs.Texts.{AreTokens, IsQueryText, BeginTokensOfQuery, IsFirstWrongToken}
 use Rattle.query_parse.specs.Machinery.Reached.{Reached, Takes, Stops, TakesNone}
 use Rattle.query_parse.proofs.Spelled.{all_spelled}
 

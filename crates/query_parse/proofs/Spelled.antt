@@ -9,10 +9,10 @@ use Rattle.json_decimal.specs.Literal.{IsLiteral}
 use Rattle.json_decimal.specs.Decimals.{number_of}
 use Rattle.std.proofs.lemmas.List.Elements.{All-cons, All-nil}
 use Rattle.std.proofs.lemmas.Bool.Decides.{nat_tests}
-use Rattle.query_lexer.specs.Spellings.{AreCharacters}
+use Rattle.query_terms.specs.tokens.Spellings.{AreCharacters}
 use Rattle.query_lexer.specs.Machinery.Spans.{is_plain}
 use Rattle.query_grammar.proofs.Complete.{Simple, a_select, a_star, a_from, twins_word, an_alias, an_exact, a_related, a_true, an_open, a_close, a_comma, a_dot, an_equals, open_list, close_list, a_one, a_model, placed, one, model}
-use Rattle.query_parse.specs.Texts.{IsToken}
+use Rattle.query_grammar.specs.Texts.{IsToken}
 
 one_is : IsLiteral (record { negative = false; integer = 49 ∷ []; fraction = []; exponent = None })
 one_is = record {

@@ -3,14 +3,14 @@ use Rattle.std.proofs.Common.{◌≡◌, ℕ, ◌-◌, ◌⊎◌, inl, inr, List
 use Rattle.std.specs.List.{AllByRecursion}
 use Rattle.query_terms.specs.Queries.{Asked}
 use Rattle.query_terms.specs.declared.tokens.token.Token.{Token}
-use Rattle.query_lexer.specs.Spellings.{is_space, IsLongest, BeginsNone, SkipsSpaces, IsSpelling}
+use Rattle.query_terms.specs.tokens.Spellings.{is_space, IsLongest, BeginsNone, SkipsSpaces, IsSpelling}
 use Rattle.query_lexer.proofs.FirstBytes.{spelled_some}
 use Rattle.query_lexer.proofs.Unique.{one_longest, no_space, same_spaces}
 use Rattle.query_grammar.specs.declared.names.Notes.{Notes}
 use Rattle.query_grammar.specs.Phrases.{Placed}
 use Rattle.query_grammar.specs.Grammar.{IsQuery}
 use Rattle.query_grammar.proofs.Asks.{one_query}
-use Rattle.query_parse.specs.Texts.{AreTokens, IsQueryText, IsToken, BeginTokensOfQuery, IsWrongToken, IsNoToken, IsCutShortQuery, IsFirstWrongToken}
+use Rattle.query_grammar.specs.Texts.{AreTokens, IsQueryText, IsToken, BeginTokensOfQuery, IsWrongToken, IsNoToken, IsCutShortQuery, IsFirstWrongToken}
 
 -- ---- two runs of tokens from one place
 -- the second goes on behind the first

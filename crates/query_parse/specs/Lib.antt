@@ -1,4 +1,2 @@
-pub mod Texts
-pub mod Bindings
 pub mod Faults
 pub mod Machinery

@@ -2,7 +2,7 @@
 
 ghost use Rattle.std.specs.Prelude.{◌≡◌, ℕ, min, List, ◌++◌, []};
 ghost use Rattle.query_terms.specs.Queries.{asked};
-ghost use Rattle.query_parse.specs.Bindings.{is_name_among, is_target, is_source_alias, is_twin, is_bound, place_if, repeats_behind, repeated_places, unbound};
+ghost use Rattle.query_grammar.specs.Bindings.{is_name_among, is_target, is_source_alias, is_twin, is_bound, place_if, repeats_behind, repeated_places, unbound};
 ghost use Rattle.query_parse.specs.Machinery.Reached.{LeastOf};
 
 use dt_base::Text;

@@ -7,5 +7,5 @@ mod laws;
 mod reading;
 
 pub use fault::QueryFault;
-pub use laws::{one_fault, one_query, query_or_fault};
+pub use laws::{one_fault, one_query, query_or_fault, some_query_or_fault};
 pub use reading::read;

@@ -2,8 +2,9 @@
 
 ghost use Rattle.std.specs.Prelude.{◌≡◌, ◌≤◌, length, IsTrue, IsFalse, IfOk, MatchOption, MatchResult};
 ghost use Rattle.query_terms.specs.Queries.{asked};
-ghost use Rattle.query_parse.specs.Texts.{IsQueryText};
-ghost use Rattle.query_parse.specs.Faults.{RefusesQuery, SpellsQuery, is_star, IsStarWithJoin};
+ghost use Rattle.query_grammar.specs.Texts.{IsQueryText};
+ghost use Rattle.query_grammar.specs.Spelled.{SpellsQuery, is_star, IsStarWithJoin};
+ghost use Rattle.query_parse.specs.Faults.{RefusesQuery};
 ghost use Rattle.query_parse.specs.Machinery.Reached.{Takes, TakesNone, RefusesByte};
 
 use crate::aliases::{twice, unknown};

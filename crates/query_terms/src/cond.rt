@@ -171,8 +171,7 @@ impl Cond {
         }
         match copies.pop() {
             Some(copy) => Ok(copy),
-            // The first part, which comes last, is the whole.
-            None => Err(OutOfMemory),
+            None => unreachable!(),
         }
     }
 }

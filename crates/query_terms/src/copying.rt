@@ -1,7 +1,7 @@
 //! Copies of conditions, made without a recursion: a chain of a thousand ANDs is a thousand conditions deep.
 
-ghost use Rattle.std.specs.Prelude.{◌≡◌, ◌<◌, ◌+◌, ◌∷◌, [], map, IfOk, OnOk};
-ghost use Rattle.query_terms.specs.Conditions.{condition};
+ghost use Rattle.std.specs.Prelude.{◌≡◌, ◌≢◌, ◌<◌, ◌+◌, ◌∷◌, [], map, Some, None, IfOk, OnOk};
+ghost use Rattle.query_terms.specs.Conditions.{Condition, condition};
 ghost use Rattle.query_terms.specs.Machinery.Weights.{weight, total_weight};
 ghost use Rattle.query_terms.specs.Machinery.Parts.{placed, rebuilt, stacked};
 
@@ -14,7 +14,8 @@ use std::alloc::Global;
 
 /// Puts the conditions of which one consists on those that wait, the first one on top.
 fn wait_for_parts<'a>(waiting: &mut Vec<&'a Cond>, cond: &'a Cond) -> Result<(), OutOfMemory>
-    ensures parts { OnOk result (placed cond.now (stacked (map (λ c. c.now) waiting.new.items)) ≡ condition cond.now ∷ stacked (map (λ c. c.now) waiting.old.items)) }
+    ensures parts { OnOk result (placed cond.now (stacked (map (λ c. c.now) waiting.new.items))
+        ≡ Some (condition cond.now ∷ stacked (map (λ c. c.now) waiting.old.items))) }
     ensures lighter { OnOk result (total_weight (map (λ c. c.now) waiting.new.items) < total_weight (map (λ c. c.now) waiting.old.items) + weight cond.now) }
 {
     match cond {
@@ -38,7 +39,7 @@ fn wait_for_parts<'a>(waiting: &mut Vec<&'a Cond>, cond: &'a Cond) -> Result<(),
 
 /// A condition and all within it, each before its parts.
 pub(crate) fn parts_of<'a>(alloc: Global, cond: &'a Cond) -> Result<Vec<&'a Cond>, OutOfMemory>
-    ensures { IfOk result (λ parts. rebuilt (map (λ c. c.now) parts.items) [] ≡ condition cond.now ∷ []) }
+    ensures { IfOk result (λ parts. rebuilt (map (λ c. c.now) parts.items) [] ≡ Some (condition cond.now ∷ [])) }
 {
     let mut parts = Vec::new(alloc);
     let mut waiting = Vec::new(alloc);
@@ -52,22 +53,23 @@ pub(crate) fn parts_of<'a>(alloc: Global, cond: &'a Cond) -> Result<Vec<&'a Cond
 
 /// The copy on top, which then is there no more.
 fn top(alloc: Global, copies: &mut Vec<Cond>) -> Result<Box<Cond>, OutOfMemory>
+    requires { stacked copies.old.items ≢ [] }
     ensures { IfOk result (λ copy. stacked copies.old.items ≡ condition copy.value ∷ stacked copies.new.items) }
 {
     match copies.pop() {
         Some(copy) => Ok(Box::new(alloc, copy)?),
-        // There are as many as the condition has parts.
-        None => Err(OutOfMemory),
+        None => unreachable!(),
     }
 }
 
-/// A copy of a condition, from the copies of its parts, which then are there no more.
+/// A copy of a condition, from the copies of its parts, which are on top and then are there no more.
 pub(crate) fn copy_part(
     alloc: Global,
     part: &Cond,
     copies: &mut Vec<Cond>,
 ) -> Result<Cond, OutOfMemory>
-    ensures { IfOk result (λ copy. condition copy ∷ stacked copies.new.items ≡ placed part.now (stacked copies.old.items)) }
+    requires { placed part.now (stacked copies.old.items) ≢ None }
+    ensures { IfOk result (λ copy. Some (condition copy ∷ stacked copies.new.items) ≡ placed part.now (stacked copies.old.items)) }
 {
     match part {
         Cond::Or(_, _) => {
@@ -96,6 +98,8 @@ pub(crate) fn copy_part(
 
 /// The two copies on top, the uppermost one first, which then are there no more.
 fn top_two(alloc: Global, copies: &mut Vec<Cond>) -> Result<(Box<Cond>, Box<Cond>), OutOfMemory>
+    requires some { stacked copies.old.items ≢ [] }
+    requires more { (c : Condition) → stacked copies.old.items ≢ c ∷ [] }
     ensures { IfOk result (λ two. stacked copies.old.items ≡ condition two.0.value ∷ condition two.1.value ∷ stacked copies.new.items) }
 {
     let first = top(alloc, copies)?;

@@ -19,7 +19,7 @@ use Rattle.query_terms.specs.declared.query.Join.{Join}
 use Rattle.query_terms.specs.Conditions.{Condition, either, both, negated, compared, among, not_among, is_kind, has_part, of_model}
 use Rattle.query_terms.specs.Queries.{Asked}
 use Rattle.query_terms.specs.declared.tokens.token.Mark.TheVariants as marks
-use Rattle.query_lexer.specs.Spellings.{mark_bytes}
+use Rattle.query_terms.specs.tokens.Spellings.{mark_bytes}
 
 -- ---- lists
 -- Each text with these bytes before it.

@@ -4,7 +4,7 @@ ghost use Rattle.std.specs.Prelude.{◌≡◌, ℕ, ◌+◌, ◌<◌, ◌++◌, 
 ghost use Rattle.query_terms.specs.Conditions.{condition, of_model};
 ghost use Rattle.query_terms.specs.declared.tokens.token.Mark.TheVariants as marks;
 ghost use Rattle.query_terms.specs.Machinery.Weights.{has_parts};
-ghost use Rattle.query_lexer.specs.Spellings.{mark_bytes};
+ghost use Rattle.query_terms.specs.tokens.Spellings.{mark_bytes};
 ghost use Rattle.query_text.specs.Printed.{model_text, kind_text, part_text, twin_argument, exact_text, condition_text};
 ghost use Rattle.query_text.specs.Machinery.Pieces.{piece_text, piece_load, pending, load};
 

@@ -13,3 +13,4 @@ mod Entries
 pub mod Distinct
 mod Once
 mod Parts
+pub mod Existence

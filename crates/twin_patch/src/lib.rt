@@ -17,6 +17,6 @@ mod word;
 pub use application::{ApplyEnd, apply, apply_in_order};
 pub use code::PatchCode;
 pub use entry::PatchOf;
-pub use laws::{one_answer, order_of_members};
+pub use laws::{one_answer, order_of_members, some_answer};
 pub use patch::{Op, OpKind, Patch};
 pub use reading::{PatchEnd, read_patch};

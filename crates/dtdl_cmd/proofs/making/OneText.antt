@@ -3,7 +3,7 @@ use Rattle.std.proofs.Common.{◌≡◌, ℕ, List, [], ◌∷◌, length, Some,
 use Rattle.http_ends.specs.declared.request.Request.{Request}
 use Rattle.http_session.specs.Uniqueness.{AreFunctions}
 use Rattle.query_terms.specs.Queries.{Asked}
-use Rattle.query_parse.specs.Faults.{SpellsQuery}
+use Rattle.query_grammar.specs.Spelled.{SpellsQuery}
 use Rattle.graph_steps.specs.QueryAsks.{kept_rows}
 use Rattle.graph_steps.specs.States.{State, empty}
 use Rattle.dtdl_cmd.specs.serving.Entries.{AreOneEntry, allows, enters, follows_entry, own_response}

@@ -5,7 +5,7 @@ use Rattle.http_ends.specs.declared.request.Request.{Request}
 use Rattle.http_ends.specs.declared.response.Response.{Response}
 use Rattle.http_session.specs.Answers.{IsAnswered}
 use Rattle.query_terms.specs.Queries.{Asked}
-use Rattle.query_parse.specs.Faults.{SpellsQuery}
+use Rattle.query_grammar.specs.Spelled.{SpellsQuery}
 use Rattle.graph_steps.specs.QueryAsks.{kept_rows}
 use Rattle.graph_steps.specs.States.{State, empty}
 use Rattle.dtdl_cmd.specs.serving.Entries.{Entry, own_response, enters, IsLegalHistory}

@@ -4,16 +4,15 @@ use Rattle.std.specs.Prelude.{Contains}
 use Rattle.ordered_table.proofs.Flat.{C}
 use Rattle.json_tree.specs.View.{view}
 use Rattle.twin_patch.specs.Operations.{operations_of}
-use Rattle.graph_asks.specs.Answers.{answer_of}
+use Rattle.graph_asks.specs.Answers.{Answer}
 use Rattle.graph_asks.specs.declared.ask.Ask.{Ask}
 use Rattle.graph_asks.specs.declared.ask.Ask.TheVariants as asks
 use Rattle.graph_asks.specs.declared.refusal.Refusal.{Refusal}
-use Rattle.graph_asks.specs.declared.reply.Reply.{Reply}
 use Rattle.graph_steps.specs.LinkAsks.{after_drop_rel}
 use Rattle.graph_steps.specs.States.{State, Twin, is_live, without_twin}
-use Rattle.graph_steps.specs.Steps.{Refuses, changed, Allows, follows}
+use Rattle.graph_steps.specs.Steps.{Refuses, Answers, changed, followed}
 use Rattle.graph_steps.specs.Typed.{WellTyped}
-use Rattle.graph_steps.specs.invariants.Frozen.{StaysFrozen}
+use Rattle.graph_steps.specs.invariants.Frozen.{FrozenStay, StaysFrozen}
 use Rattle.graph_steps.proofs.invariants.Followed.{after}
 use Rattle.graph_steps.proofs.invariants.Keyed.{one_text}
 use Rattle.graph_steps.proofs.invariants.Stays.{Stays, stands_now, same_stays, mark_stays, drop_stays, put_stays, patch_stays, part_stays, other_dropped, own_dropped, put_rel_stays, patch_rel_stays, link_dropped}
@@ -58,6 +57,6 @@ module _ (s : State) (w : WellTyped s) (t : Twin) (c : Contains s.twins t) (froz
   changed_frozen (asks.ListIn target past) free = kept _ s (same_stays s w t c frozen)
   changed_frozen (asks.Query query past) free = kept _ s (same_stays s w t c frozen)
 
-pub stays_frozen : (s : State) (ask : Ask) (reply : Reply) (t : Twin) → WellTyped s → Allows s ask reply → Contains s.twins t → is_live s t ≡ false → StaysFrozen s ask (follows s ask reply) t
-stays_frozen s ask reply t w allowed c frozen =
-    after (λ (next : State). StaysFrozen s ask next t) s ask (kept s w t c frozen ask s (same_stays s w t c frozen)) (changed_frozen s w t c frozen ask) (answer_of reply) allowed
+pub stays_frozen : (s : State) (ask : Ask) (answer : Answer) → WellTyped s → Answers s ask answer → FrozenStay s ask (followed s ask answer)
+stays_frozen s ask answer w answers t c frozen =
+    after (λ (next : State). StaysFrozen s ask next t) s ask (kept s w t c frozen ask s (same_stays s w t c frozen)) (changed_frozen s w t c frozen ask) answer answers

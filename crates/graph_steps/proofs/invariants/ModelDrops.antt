@@ -30,7 +30,8 @@ use Rattle.model_life.specs.Sums.{text_bytes, bytes_in, bytes_of, LineTakes, Res
 use Rattle.model_life.proofs.Leaving.{all_filter}
 use Rattle.model_life.proofs.Taking.{sum_same}
 use Rattle.graph_steps.specs.States.{State, Twin, Link, set_of, interface_of}
-use Rattle.graph_steps.specs.Typed.{IsSoundInterface, AreSound, TwinIsTyped, LinkIsTyped, WellTyped}
+use Rattle.local_rules.specs.Soundness.{IsSoundInterface}
+use Rattle.graph_steps.specs.Typed.{AreSound, TwinIsTyped, LinkIsTyped, WellTyped}
 use Rattle.graph_steps.specs.ModelAsks.{ModelNotFound, ModelInUse, RefusesDropModel, after_drop}
 use Rattle.graph_steps.proofs.invariants.Lists.{all_at}
 use Rattle.graph_steps.proofs.invariants.Unrefused.{not_second, none_there}

@@ -33,7 +33,8 @@ use Rattle.model_life.specs.Machinery.Keeping.{share_of}
 use Rattle.model_life.proofs.Refused.{interfaces_with}
 use Rattle.model_life.proofs.Taking.{all_take}
 use Rattle.graph_steps.specs.States.{State, Twin, Link, set_of, interface_of, twin_at, is_live, is_end}
-use Rattle.graph_steps.specs.Typed.{IsSoundInterface, AreSound, FitsModel, SuitsTarget, FitsSource, HasEnds, TwinIsTyped, LinkIsTyped, WellTyped}
+use Rattle.local_rules.specs.Soundness.{IsSoundInterface}
+use Rattle.graph_steps.specs.Typed.{AreSound, FitsModel, SuitsTarget, FitsSource, HasEnds, TwinIsTyped, LinkIsTyped, WellTyped}
 use Rattle.graph_steps.specs.ModelAsks.{after_uploads, ModelExists, ModelFault, ModelsFull, TwinDoesNotFit, RefusesPutModels}
 use Rattle.graph_steps.proofs.invariants.Lists.{all_at, all_from, IsLeast, none_ill}
 use Rattle.graph_steps.proofs.invariants.Keyed.{all-with}

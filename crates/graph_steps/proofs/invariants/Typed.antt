@@ -9,15 +9,15 @@ use Rattle.twin_patch.specs.Operations.{Operation, operations_of}
 use Rattle.twin_patch.specs.Reading.{AreOperations}
 use Rattle.twin_patch.specs.declared.entry.PatchOf.TheVariants as patches
 use Rattle.model_life.specs.Models.{with_mark}
-use Rattle.graph_asks.specs.Answers.{answer_of}
+use Rattle.graph_asks.specs.Answers.{Answer}
 use Rattle.graph_asks.specs.declared.ask.Ask.{Ask}
 use Rattle.graph_asks.specs.declared.ask.Ask.TheVariants as asks
 use Rattle.graph_asks.specs.declared.refusal.Refusal.{Refusal}
-use Rattle.graph_asks.specs.declared.reply.Reply.{Reply}
 use Rattle.graph_steps.specs.Soundness.{IsSoundUpload, IsSoundAsk}
 use Rattle.graph_steps.specs.States.{State}
-use Rattle.graph_steps.specs.Steps.{Refuses, changed, Allows, follows}
-use Rattle.graph_steps.specs.Typed.{IsSoundInterface, WellTyped}
+use Rattle.graph_steps.specs.Steps.{Refuses, Answers, changed, followed}
+use Rattle.local_rules.specs.Soundness.{IsSoundInterface}
+use Rattle.graph_steps.specs.Typed.{WellTyped}
 use Rattle.graph_steps.proofs.Marked.{still_typed}
 use Rattle.graph_steps.proofs.invariants.Followed.{after}
 use Rattle.graph_steps.proofs.invariants.Patches.{IsPlain}
@@ -66,5 +66,5 @@ changed_typed s (asks.ListOut source name past) w sound free = w
 changed_typed s (asks.ListIn target past) w sound free = w
 changed_typed s (asks.Query query past) w sound free = w
 
-pub keeps_typed : (s : State) (ask : Ask) (reply : Reply) → WellTyped s → IsSoundAsk ask → Allows s ask reply → WellTyped (follows s ask reply)
-keeps_typed s ask reply w sound allowed = after WellTyped s ask w (changed_typed s ask w sound) (answer_of reply) allowed
+pub keeps_typed : (s : State) (ask : Ask) (answer : Answer) → WellTyped s → IsSoundAsk ask → Answers s ask answer → WellTyped (followed s ask answer)
+keeps_typed s ask answer w sound answers = after WellTyped s ask w (changed_typed s ask w sound) answer answers

@@ -1,5 +1,5 @@
--- What a step does to a twin that it finds frozen.
-use Rattle.std.specs.Prelude.{◌≡◌, ◌⊎◌, ℕ, List, true, Some, None}
+-- What a step does to the twins that it finds frozen.
+use Rattle.std.specs.Prelude.{◌≡◌, ◌⊎◌, ℕ, List, Contains, false, true, Some, None}
 use Rattle.dtdl_terms.specs.declared.uploaded.Uploaded.{Uploaded}
 use Rattle.graph_asks.specs.declared.ask.Ask.{Ask}
 use Rattle.graph_asks.specs.declared.ask.Ask.TheVariants as asks
@@ -12,3 +12,7 @@ pub record StaysFrozen (s : State) (ask : Ask) (next : State) (t : Twin) : Type 
   pub twin : (twin_at t.id next ≡ Some t) ⊎ ((ask ≡ asks.DropTwin t.id) × (twin_at t.id next ≡ None))
   pub links : (id : List ℕ) → (link_at t.id id next ≡ link_at t.id id s) ⊎ ((ask ≡ asks.DropRel t.id id) × (link_at t.id id next ≡ None))
   pub live : is_live next t ≡ true → (models : List Uploaded) × (ask ≡ asks.PutModels models)
+
+-- So does each twin that is frozen in the first state.
+abbrev pub FrozenStay : State → Ask → State → Type 0
+FrozenStay s ask next = (t : Twin) → Contains s.twins t → is_live s t ≡ false → StaysFrozen s ask next t

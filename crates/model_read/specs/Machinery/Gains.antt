@@ -8,7 +8,7 @@ use Rattle.dtdl_terms.specs.declared.content.Content.{Content}
 use Rattle.dtdl_terms.specs.declared.content.ContentKind.{ContentKind}
 use Rattle.local_rules.specs.declared.role.Element.{Element}
 use Rattle.local_rules.specs.declared.role.Position.{Position}
-use Rattle.model_read.specs.Declarations.{AreKind}
+use Rattle.local_rules.specs.Declarations.{AreKind}
 use Rattle.local_rules.specs.Typed.{type_of_kind}
 
 -- One more stands at the end, and this holds of it.

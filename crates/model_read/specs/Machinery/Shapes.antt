@@ -23,7 +23,7 @@ use Rattle.local_rules.specs.declared.role.Role.TheVariants as role
 use Rattle.local_rules.specs.declared.role.SchemaUse.{SchemaUse}
 use Rattle.local_rules.specs.declared.role.ValueSchema.{ValueSchema}
 use Rattle.local_rules.specs.declared.role.ValueSchema.TheVariants as value_schemas
-use Rattle.model_read.specs.Declarations.{IsIdentifier}
+use Rattle.local_rules.specs.Declarations.{IsIdentifier}
 
 -- It is not so that it is none.
 abbrev pub CanBe : Type 0 → Type 0

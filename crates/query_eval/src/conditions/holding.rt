@@ -1,9 +1,10 @@
 //! When a condition holds of a row.
 
-ghost use Rattle.std.specs.Prelude.{◌≡◌, ◌&&◌, not, IfOk};
+ghost use Rattle.std.specs.Prelude.{◌≡◌, ◌&&◌, not, false, IfOk};
 ghost use Rattle.graph_steps.specs.Conditions.{holds, both_there, there, compares_as, equals_one, is_primitive, is_of_query_kind, is_text_part, operand_value, path_value};
 ghost use Rattle.query_eval.specs.values.Rows.{row_view, AreKept};
 ghost use Rattle.query_terms.specs.Conditions.{condition};
+ghost use Rattle.query_terms.specs.Machinery.Weights.{has_parts};
 
 use crate::conditions::comparing::{compares, equals_none, equals_one};
 use crate::conditions::kinds::is_of_kind;
@@ -16,9 +17,10 @@ use dt_base::{OutOfMemory, Text};
 use query_terms::{Compare, Cond, Kind, Literal, Operand, PartKind};
 use std::alloc::Global;
 
-/// Whether a condition holds of a row of a graph. What stands to the right of an `AND` or `OR` is judged only where the left
-/// does not decide. It goes down into the condition by calls, one inside the other, as deep as it nests: a chain of `OR`s in
-/// a text of 8,192 bytes nests some 1,400 deep, and no proof says that the stack has room. Fails only for want of memory.
+/// Whether a condition holds of a row of a graph. A chain of `AND`s or `OR`s is judged from its last part to its first, in a
+/// loop, and what stands to the left of one only where the right does not decide. Into a right side it goes by a call: as a
+/// query is read, the right side of an `OR` may be an `AND`, and that of an `AND` a condition in parentheses, so that the
+/// calls nest at most two deeper with each pair of parentheses, however long the chains are. Fails only for want of memory.
 pub fn holds<V: GraphView>(
     alloc: Global,
     view: &V,
@@ -28,20 +30,45 @@ pub fn holds<V: GraphView>(
     requires { AreKept row.now }
     ensures { IfOk result (λ answer. answer ≡ holds (V.state view.now) (row_view row.now) (condition cond.now)) }
 {
-    match cond {
-        Cond::Or(left, right) => {
-            if holds(alloc, view, row, left)? {
-                return Ok(true);
+    let mut left = cond;
+    // Whether the answer is the other one of what is left.
+    let mut turned = false;
+    'parts: loop {
+        match left {
+            Cond::Or(first, second) => {
+                if holds(alloc, view, row, second)? {
+                    return Ok(!turned);
+                }
+                left = first;
             }
-            holds(alloc, view, row, right)
-        }
-        Cond::And(left, right) => {
-            if !holds(alloc, view, row, left)? {
-                return Ok(false);
+            Cond::And(first, second) => {
+                if !holds(alloc, view, row, second)? {
+                    return Ok(turned);
+                }
+                left = first;
             }
-            holds(alloc, view, row, right)
+            Cond::Not(inner) => {
+                turned = !turned;
+                left = inner;
+            }
+            _ => return Ok(test_holds(alloc, view, row, left)? != turned),
         }
-        Cond::Not(inner) => Ok(!holds(alloc, view, row, inner)?),
+    }
+}
+
+/// Whether a condition without parts holds of a row.
+fn test_holds<V: GraphView>(
+    alloc: Global,
+    view: &V,
+    row: &[Binding<'_>],
+    test: &Cond,
+) -> Result<bool, OutOfMemory>
+    requires kept { AreKept row.now }
+    requires single { has_parts test.now ≡ false }
+    ensures { IfOk result (λ answer. answer ≡ holds (V.state view.now) (row_view row.now) (condition test.now)) }
+{
+    match test {
+        Cond::Or(_, _) | Cond::And(_, _) | Cond::Not(_) => unreachable!(),
         Cond::Compare(left, compare, right) => operands_compare(alloc, row, left, *compare, right),
         Cond::Among(operand, literals) => is_among(alloc, row, operand, literals.as_slice()),
         Cond::NotAmong(operand, literals) => is_not_among(alloc, row, operand, literals.as_slice()),

@@ -7,7 +7,7 @@ use Rattle.query_terms.specs.declared.operand.Compare.{Compare}
 use Rattle.query_terms.specs.declared.operand.Compare.TheVariants as compares
 use Rattle.query_terms.specs.declared.tokens.token.Mark.{Mark}
 use Rattle.query_terms.specs.declared.tokens.token.Mark.TheVariants as marks
-use Rattle.query_lexer.specs.Spellings.{is_number_start, escape}
+use Rattle.query_terms.specs.tokens.Spellings.{is_number_start, escape}
 
 -- a byte that stands in literals
 abbrev pub is_number_byte : ℕ → Bool

@@ -1,7 +1,7 @@
 -- How far a text has been read.
 use Rattle.std.specs.Prelude.{◌≡◌, ℕ, ◌⊎◌, List, [], Option, Some, None}
 use Rattle.query_terms.specs.declared.tokens.token.Token.{Token}
-use Rattle.query_lexer.specs.Spellings.{IsLongest, BeginsNone, SkipsSpaces}
+use Rattle.query_terms.specs.tokens.Spellings.{IsLongest, BeginsNone, SkipsSpaces}
 use Rattle.query_grammar.specs.declared.state.State.{State}
 use Rattle.query_grammar.specs.declared.state.State.TheVariants as states
 use Rattle.query_grammar.specs.Phrases.{Placed}
@@ -9,8 +9,8 @@ use Rattle.query_grammar.specs.Machinery.Steps.{step}
 use Rattle.query_grammar.specs.Machinery.Runs.{state_behind}
 use Rattle.query_parse.specs.declared.fault.QueryFault.{QueryFault}
 use Rattle.query_parse.specs.declared.fault.QueryFault.TheVariants as faults
-use Rattle.query_parse.specs.Texts.{AreTokens, IsFirstWrongToken}
-use Rattle.query_parse.specs.Bindings.{IsLeastPlace}
+use Rattle.query_grammar.specs.Texts.{AreTokens, IsFirstWrongToken}
+use Rattle.query_grammar.specs.Bindings.{IsLeastPlace}
 
 -- the text was read up to `rest`, and this is the state
 pub record Reached (text : List ℕ) (state : State) (rest : List ℕ) : Type 0 where

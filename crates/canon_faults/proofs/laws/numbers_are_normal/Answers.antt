@@ -1,5 +1,5 @@
 use Rattle.json_tree.proofs.DistinctKeys.{spelled_distinct}
-use Rattle.canon_faults.proofs.NormalForms.{spelled_normal}
+use Rattle.local_rules.proofs.NormalForms.{spelled_normal}
 use Rattle.canon_faults.proofs.laws.numbers_are_normal.Goals as goal
 
 pub returns-clause-numbers : goal.returns-clause-numbers

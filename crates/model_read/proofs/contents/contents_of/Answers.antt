@@ -1,4 +1,4 @@
-use Rattle.model_read.specs.Declarations.{IsContentEntry}
+use Rattle.local_rules.specs.Declarations.{IsContentEntry}
 use Rattle.model_read.specs.Machinery.Shapes.{IsValidContent}
 use Rattle.model_read.proofs.Grown.{elements_step}
 use Rattle.model_read.proofs.Readings.{each}

@@ -3,7 +3,7 @@ use Rattle.json_tree.specs.View.{elements_view}
 use Rattle.json_tree.specs.declared.tree.Tree.{Tree}
 use Rattle.dtdl_terms.specs.declared.content.Content.{Content}
 use Rattle.dtdl_terms.specs.TermViews.{contents_term}
-use Rattle.model_read.specs.Declarations.{AreProperties}
+use Rattle.local_rules.specs.Declarations.{AreProperties}
 use Rattle.model_read.proofs.Grown.{step, properties_more}
 use Rattle.model_read.specs.Machinery.Shapes.{IsValidProperty}
 use Rattle.model_read.proofs.Readings.{each}

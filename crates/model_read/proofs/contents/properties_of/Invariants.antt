@@ -1,7 +1,7 @@
 use Rattle.std.proofs.Common.{take}
 use Rattle.json_tree.specs.View.{elements_view}
 use Rattle.dtdl_terms.specs.TermViews.{contents_term}
-use Rattle.model_read.specs.Declarations.{AreProperties}
+use Rattle.local_rules.specs.Declarations.{AreProperties}
 use Rattle.model_read.proofs.contents.properties_of.Given as goal
 
 -- what was read so far is that of the parts so far

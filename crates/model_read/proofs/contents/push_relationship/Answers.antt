@@ -4,7 +4,7 @@ use Rattle.dtdl_terms.specs.Terms.{KindTerm}
 use Rattle.dtdl_terms.specs.declared.content.ContentKind as kinds
 use Rattle.dtdl_terms.proofs.TermViews.{term-Relationship}
 use Rattle.local_rules.specs.declared.role.Position.TheVariants as position
-use Rattle.model_read.specs.Declarations.{AreKind}
+use Rattle.local_rules.specs.Declarations.{AreKind}
 use Rattle.local_rules.specs.Typed.{type_of_kind}
 use Rattle.model_read.proofs.contents.push_relationship.Goals as goal
 

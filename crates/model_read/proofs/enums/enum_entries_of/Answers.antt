@@ -1,4 +1,4 @@
-use Rattle.model_read.specs.Declarations.{IsEnumEntry}
+use Rattle.local_rules.specs.Declarations.{IsEnumEntry}
 use Rattle.model_read.specs.Machinery.Shapes.{IsValidEnumEntry}
 use Rattle.model_read.proofs.Grown.{elements_step}
 use Rattle.model_read.proofs.Readings.{each}

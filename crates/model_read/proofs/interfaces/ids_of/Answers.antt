@@ -1,4 +1,4 @@
-use Rattle.model_read.specs.Declarations.{IsIdentifier}
+use Rattle.local_rules.specs.Declarations.{IsIdentifier}
 use Rattle.model_read.specs.Machinery.Shapes.{CanBeId}
 use Rattle.model_read.proofs.Grown.{elements_step}
 use Rattle.model_read.proofs.Readings.{each}

@@ -2,7 +2,7 @@ use Rattle.std.proofs.Common.{take}
 use Rattle.std.specs.List.{AllZip}
 use Rattle.json_tree.specs.View.{elements_view}
 use Rattle.json_tree.specs.Members.{list_of}
-use Rattle.model_read.specs.Declarations.{IsIdentifier}
+use Rattle.local_rules.specs.Declarations.{IsIdentifier}
 use Rattle.model_read.proofs.interfaces.ids_of.Given as goal
 
 -- what was read so far is that of the parts so far

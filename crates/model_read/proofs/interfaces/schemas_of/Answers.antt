@@ -1,7 +1,7 @@
 use Rattle.json_tree.specs.Values.{Json}
 use Rattle.dtdl_terms.specs.TermViews.{schema_term}
 use Rattle.dtdl_terms.specs.declared.schema.Schema.{Schema}
-use Rattle.model_read.specs.Declarations.{IsSchema}
+use Rattle.local_rules.specs.Declarations.{IsSchema}
 use Rattle.model_read.specs.Machinery.Shapes.{IsValidSchema}
 use Rattle.model_read.proofs.Grown.{elements_step}
 use Rattle.model_read.proofs.Readings.{each}

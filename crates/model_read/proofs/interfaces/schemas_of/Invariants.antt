@@ -3,7 +3,7 @@ use Rattle.std.specs.List.{AllZip}
 use Rattle.json_tree.specs.View.{elements_view}
 use Rattle.dtdl_terms.specs.TermViews.{schema_term}
 use Rattle.json_tree.specs.Members.{list_of}
-use Rattle.model_read.specs.Declarations.{IsSchema}
+use Rattle.local_rules.specs.Declarations.{IsSchema}
 use Rattle.model_read.proofs.interfaces.schemas_of.Given as goal
 
 -- what was read so far is that of the parts so far

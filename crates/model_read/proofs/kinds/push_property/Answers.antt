@@ -3,7 +3,7 @@ use Rattle.json_tree.specs.View.{members_view}
 use Rattle.dtdl_terms.specs.Terms.{KindTerm}
 use Rattle.dtdl_terms.specs.declared.content.ContentKind as kinds
 use Rattle.dtdl_terms.proofs.TermViews.{term-Property}
-use Rattle.model_read.specs.Declarations.{AreKind}
+use Rattle.local_rules.specs.Declarations.{AreKind}
 use Rattle.local_rules.specs.Typed.{type_of_kind}
 use Rattle.model_read.proofs.kinds.push_property.Goals as goal
 

@@ -1,5 +1,5 @@
 use Rattle.json_tree.specs.View.{view}
-use Rattle.model_read.specs.Declarations.{IsTextOfLanguage}
+use Rattle.local_rules.specs.Declarations.{IsTextOfLanguage}
 use Rattle.model_read.proofs.Grown.{members_step}
 use Rattle.json_tree.proofs.Parts.{member_part}
 use Rattle.model_read.proofs.localized.entries_of.Goals as goal

@@ -2,7 +2,7 @@ use Rattle.std.proofs.Common.{take}
 use Rattle.std.specs.List.{AllZip}
 use Rattle.json_tree.specs.View.{members_view}
 use Rattle.json_tree.specs.Members.{pairs_of}
-use Rattle.model_read.specs.Declarations.{IsTextOfLanguage}
+use Rattle.local_rules.specs.Declarations.{IsTextOfLanguage}
 use Rattle.model_read.proofs.localized.entries_of.Given as goal
 
 -- what was read so far is that of the parts so far

@@ -9,7 +9,7 @@ use Rattle.dtdl_terms.proofs.TermViews.{term-Object}
 use Rattle.dtdl_terms.specs.declared.schema.Payload.{Payload}
 use Rattle.dtdl_terms.specs.declared.schema.Schema.{Schema}
 use Rattle.local_faults.proofs.Sizes.{size, part_smaller, item_smaller}
-use Rattle.model_read.specs.Declarations.{IsSchema, ArePayloads}
+use Rattle.local_rules.specs.Declarations.{IsSchema, ArePayloads}
 use Rattle.model_read.proofs.Grown.{step, payloads_more}
 use Rattle.model_read.proofs.Seen.{of_members, seen_members, seen_text}
 use Rattle.model_read.specs.Machinery.Shapes.{HasMember, IsValidPayload, IsValidSchema}

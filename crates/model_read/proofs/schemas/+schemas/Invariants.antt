@@ -3,7 +3,7 @@ use Rattle.json_tree.specs.Values.{array, object}
 use Rattle.json_tree.specs.View.{view, elements_view, members_view}
 use Rattle.dtdl_terms.specs.TermViews.{payloads_term}
 use Rattle.local_faults.proofs.Sizes.{size}
-use Rattle.model_read.specs.Declarations.{ArePayloads}
+use Rattle.local_rules.specs.Declarations.{ArePayloads}
 use Rattle.model_read.proofs.schemas.+schemas.Given as goal
 
 abbrev pub decreases-schema_of : goal.decreases-schema_of

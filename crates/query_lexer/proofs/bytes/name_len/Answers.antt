@@ -1,5 +1,5 @@
 use Rattle.std.proofs.Common.{◌≡◌, get_or, true, sym, ap, ◌∙◌, arith, below_more}
-use Rattle.query_lexer.specs.Spellings.{is_query_name_byte}
+use Rattle.query_terms.specs.tokens.Spellings.{is_query_name_byte}
 use Rattle.query_lexer.proofs.Cuts.{name_within}
 use Rattle.query_lexer.proofs.bytes.name_len.Goals as goal
 

@@ -1,5 +1,5 @@
 use Rattle.std.proofs.Common.{◌≡◌, ◌<◌, ◌≤◌, ◌-◌, ℕ, length, get_or, true}
-use Rattle.query_lexer.specs.Spellings.{is_space}
+use Rattle.query_terms.specs.tokens.Spellings.{is_space}
 use Rattle.query_lexer.proofs.bytes.space_len.Given as goal
 
 abbrev pub invariant-bytes : goal.invariant-bytes

@@ -2,7 +2,7 @@ use Rattle.std.proofs.Common.{ℕ, List, take, sym, subst}
 use Rattle.json_decimal.specs.Decimals.{number_of}
 use Rattle.json_decimal.specs.Literal.{IsLiteralOf}
 use Rattle.query_terms.specs.declared.tokens.token.Token.TheVariants as tokens
-use Rattle.query_lexer.specs.Spellings.{IsLongest}
+use Rattle.query_terms.specs.tokens.Spellings.{IsLongest}
 use Rattle.query_lexer.specs.Machinery.Spans.{IsBound, NoneLonger}
 use Rattle.query_lexer.proofs.Cuts.{behind_ascii, number_low}
 use Rattle.query_lexer.proofs.NumberSpans.{number_longest, number_none}

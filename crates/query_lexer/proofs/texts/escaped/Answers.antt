@@ -1,5 +1,5 @@
 use Rattle.std.proofs.Common.{◌≡◌, ℕ, List, ◌∷◌, [], get_or, Option, Some, None, sym, ap, ◌∙◌, subst}
-use Rattle.query_lexer.specs.Spellings.{escape}
+use Rattle.query_terms.specs.tokens.Spellings.{escape}
 use Rattle.query_lexer.specs.Machinery.Spans.{prepend, quoted_content}
 use Rattle.query_lexer.proofs.TextSpans.{escape_cut, escape_front, escape_none}
 use Rattle.query_lexer.proofs.texts.escaped.Goals as goal

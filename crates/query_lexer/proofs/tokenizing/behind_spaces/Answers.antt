@@ -1,5 +1,5 @@
 use Rattle.std.proofs.Common.{◌≡◌, ◌<◌, ◌≤◌, ℕ, List, length, get_or, true, sym, subst}
-use Rattle.query_lexer.specs.Spellings.{is_space, SkipsSpaces}
+use Rattle.query_terms.specs.tokens.Spellings.{is_space, SkipsSpaces}
 use Rattle.query_lexer.proofs.Cuts.{behind_ascii, space_low, spaces_in_front}
 use Rattle.query_lexer.proofs.tokenizing.behind_spaces.Goals as goal
 

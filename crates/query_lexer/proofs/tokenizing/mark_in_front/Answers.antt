@@ -2,7 +2,7 @@ use Rattle.std.proofs.Common.{◌≡◌, ℕ, List, drop, get_or, Option, Some, 
 use Rattle.std.specs.Str.{IsCharBoundary}
 use Rattle.query_terms.specs.declared.tokens.token.Mark.{Mark}
 use Rattle.query_terms.specs.declared.tokens.token.Token.TheVariants as tokens
-use Rattle.query_lexer.specs.Spellings.{IsLongest}
+use Rattle.query_terms.specs.tokens.Spellings.{IsLongest}
 use Rattle.query_lexer.specs.Machinery.Spans.{mark_at}
 use Rattle.query_lexer.proofs.MarkSpans.{mark_cut, mark_longest, mark_none}
 use Rattle.query_lexer.proofs.tokenizing.mark_in_front.Goals as goal

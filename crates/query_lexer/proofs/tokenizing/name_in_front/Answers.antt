@@ -1,5 +1,5 @@
 use Rattle.std.proofs.Common.{◌≡◌, ◌<◌, ◌≤◌, ℕ, List, length, get_or, true, false, subst}
-use Rattle.query_lexer.specs.Spellings.{is_query_name_byte}
+use Rattle.query_terms.specs.tokens.Spellings.{is_query_name_byte}
 use Rattle.query_lexer.proofs.Cuts.{behind_ascii, name_low}
 use Rattle.query_lexer.proofs.NameSpans.{IsNameRun, name_found}
 use Rattle.query_lexer.proofs.tokenizing.name_in_front.Goals as goal

@@ -1,5 +1,5 @@
 use Rattle.std.proofs.Common.{ℕ, ◌++◌, Option, sym, subst}
-use Rattle.query_parse.specs.Bindings.{IsLeastPlace}
+use Rattle.query_grammar.specs.Bindings.{IsLeastPlace}
 use Rattle.query_parse.specs.Machinery.Reached.{LeastOf}
 use Rattle.query_parse.proofs.Leasts.{least_both}
 use Rattle.query_parse.proofs.aliases.least.Goals as goal

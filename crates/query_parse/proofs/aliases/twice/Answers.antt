@@ -1,6 +1,6 @@
 use Rattle.std.proofs.Common.{List, [], subst}
 use Rattle.query_grammar.specs.Phrases.{PlacedName}
-use Rattle.query_parse.specs.Bindings.{repeats_behind}
+use Rattle.query_grammar.specs.Bindings.{repeats_behind}
 use Rattle.query_parse.specs.Machinery.Reached.{LeastOf}
 use Rattle.query_parse.proofs.aliases.twice.Goals as goal
 

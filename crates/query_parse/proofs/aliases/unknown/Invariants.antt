@@ -1,6 +1,6 @@
 use Rattle.std.proofs.Common.{take}
 use Rattle.query_terms.specs.Queries.{asked}
-use Rattle.query_parse.specs.Bindings.{unbound_uses}
+use Rattle.query_grammar.specs.Bindings.{unbound_uses}
 use Rattle.query_parse.specs.Machinery.Reached.{LeastOf}
 use Rattle.query_parse.proofs.aliases.unknown.Given as goal
 

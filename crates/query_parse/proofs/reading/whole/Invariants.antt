@@ -1,7 +1,7 @@
 use Rattle.std.proofs.Common.{◌≡◌, ◌≤◌, length, get_or, false}
 use denote.Shadow.{shadow}
 use denote.Text.{Utf8}
-use Rattle.query_lexer.specs.Spellings.{is_space}
+use Rattle.query_terms.specs.tokens.Spellings.{is_space}
 use Rattle.query_parse.specs.Machinery.Reached.{Reached}
 use Rattle.query_parse.proofs.reading.whole.Given as goal
 

@@ -1,4 +1,5 @@
 use Rattle.std.proofs.Common.{◌≡◌, ◌<◌, ◌∷◌, map, sym, ap, ◌∙◌, arith}
+use Rattle.std.specs.Option.{option_and_then}
 use Rattle.query_terms.specs.Machinery.Weights.{total_weight}
 use Rattle.query_terms.specs.Machinery.Parts.{rebuilt, stacked}
 use Rattle.query_terms.proofs.Parts.{now, rebuilt_more, stacked_more, total_more}
@@ -21,5 +22,6 @@ waiting-preserved c =
     ap (λ xs. stacked (map now xs)) c.in-Some.ensures.items ∙ stacked_more c.pop.new.self.items next in
     ap (λ xs. rebuilt (map now xs) behind) c.in_ok-push-2.ensures.items
     ∙ rebuilt_more parts next behind
-    ∙ ap (λ xs. rebuilt (map now parts) xs) (c.in_ok-wait_for_parts.ensures.parts ∙ sym popped)
+    ∙ ap (λ o. option_and_then (rebuilt (map now parts)) o) c.in_ok-wait_for_parts.ensures.parts
+    ∙ ap (λ xs. rebuilt (map now parts) xs) (sym popped)
     ∙ c.waiting.invariant

@@ -1,0 +1,4 @@
+pub mod Records
+pub mod MemRecords
+pub mod Handed
+pub mod Turns

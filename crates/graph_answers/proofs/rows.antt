@@ -1,0 +1,5 @@
+pub mod Ascending
+pub mod Keys
+pub mod Standing
+pub mod Tuples
+pub mod Pages
