@@ -3,6 +3,7 @@
 
 mod code;
 mod contents;
+mod copies;
 mod end;
 mod fit;
 mod gather;
@@ -24,6 +25,7 @@ mod twin;
 mod walk;
 
 pub use code::BodyCode;
+pub use copies::copy_rel;
 pub use end::BodyEnd;
 pub use fit::fit_value;
 pub use ids::{is_model_id, is_twin_id};

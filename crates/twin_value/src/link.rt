@@ -149,7 +149,7 @@ fn texts(alloc: Global, first: &str, second: &str) -> Result<(Text, Text), OutOf
 }
 
 /// A relationship with nothing yet of its properties.
-fn bare_link(
+pub(crate) fn bare_link(
     alloc: Global,
     source: &str,
     id: &str,
@@ -173,6 +173,28 @@ fn bare_link(
     })
 }
 
+/// The ends and names of a relationship, with these values.
+pub(crate) fn with_values(bare: Edge<()>, payload: Tree) -> Relationship
+    ensures ends { (result.source ≡ bare.source) × (result.target ≡ bare.target) }
+    ensures names { (result.id ≡ bare.id) × (result.name ≡ bare.name) }
+    ensures payload { result.payload ≡ payload }
+{
+    let Edge {
+        source,
+        id,
+        name,
+        target,
+        payload: _none,
+    } = bare;
+    Edge {
+        source,
+        id,
+        name,
+        target,
+        payload,
+    }
+}
+
 /// The relationship of a source and an identifier for which a body without breach stands.
 fn link_from(
     alloc: Global,
@@ -192,20 +214,7 @@ fn link_from(
         drop(bare);
         return Err(OutOfMemory);
     };
-    let Edge {
-        source,
-        id,
-        name,
-        target,
-        payload: _none,
-    } = bare;
-    Ok(Edge {
-        source,
-        id,
-        name,
-        target,
-        payload,
-    })
+    Ok(with_values(bare, payload))
 }
 
 /// The same of a body that may have a breach, and that names this relationship.
