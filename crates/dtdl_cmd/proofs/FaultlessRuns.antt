@@ -7,7 +7,7 @@ use Rattle.dt_base.specs.Files.{file_named}
 use Rattle.http_session.specs.Uniqueness.{IsDecided as EndIsDecided}
 use Rattle.http_session.specs.declared.ends.SessionEnd.{SessionEnd}
 use Rattle.http_session.specs.declared.ends.SessionEnd.TheVariants as ends
-use Rattle.dtdl_cmd.specs.serving.Replays.{IsReplay, OneReplay}
+use Rattle.graph_server.specs.Replays.{IsReplay, OneReplay}
 use Rattle.dtdl_cmd.specs.making.Made.{IsMade}
 use Rattle.dtdl_cmd.specs.Words.{AreMake, AreNone, AreReplay, IsCommand}
 use Rattle.dtdl_cmd.specs.Documents.{AreFound, ShelfChange, StreamChange}

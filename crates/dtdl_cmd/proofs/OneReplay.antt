@@ -6,8 +6,8 @@ use Rattle.dt_base.specs.Faults.{Rose}
 use Rattle.http_session.specs.Uniqueness.{IsDecided as EndIsDecided}
 use Rattle.http_session.specs.declared.ends.SessionEnd.{SessionEnd}
 use Rattle.http_session.specs.declared.ends.SessionEnd.TheVariants as ends
-use Rattle.dtdl_cmd.specs.serving.Replays.{IsReplay, OneReplay}
-use Rattle.dtdl_cmd.proofs.serving.Unique.{replay_weaker}
+use Rattle.graph_server.specs.Replays.{IsReplay, OneReplay}
+use Rattle.graph_server.proofs.Unique.{replay_weaker}
 use Rattle.dtdl_cmd.specs.Words.{AreReplay}
 use Rattle.dtdl_cmd.specs.Documents.{ShelfChange, StreamChange}
 use Rattle.dtdl_cmd.specs.Runs.{RunEnds, EndsReplay, IsDecidedStatus, exit_status}

@@ -5,5 +5,4 @@ pub mod Answers
 pub mod Runs
 pub mod FaultlessRuns
 pub mod Machinery
-pub mod serving
 pub mod making

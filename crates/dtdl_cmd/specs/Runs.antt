@@ -5,7 +5,7 @@ use Rattle.std.specs.Io.KnownBytes.{Appends, Keeps}
 use Rattle.dt_base.specs.Faults.{Rose}
 use Rattle.http_session.specs.declared.ends.SessionEnd.{SessionEnd}
 use Rattle.http_session.specs.declared.ends.SessionEnd.TheVariants as ends
-use Rattle.dtdl_cmd.specs.serving.Replays.{IsReplay}
+use Rattle.graph_server.specs.Replays.{IsReplay}
 use Rattle.dtdl_cmd.specs.making.Made.{IsMade}
 use Rattle.dtdl_cmd.specs.Words.{AreCommand, AreMake, AreReplay, IsCommand}
 use Rattle.dtdl_cmd.specs.Documents.{AreFound, ShelfChange, StreamChange}

@@ -11,7 +11,7 @@ ghost use Rattle.canon_text.specs.Canonical.{set_text};
 ghost use Rattle.document_judge.specs.FirstFaults.{Declare, HasFirstFault};
 ghost use Rattle.http_session.specs.Uniqueness.{IsDecided};
 ghost use Rattle.http_session.specs.declared.ends.SessionEnd.{SessionEnd};
-ghost use Rattle.dtdl_cmd.specs.serving.Replays.{IsReplay};
+ghost use Rattle.graph_server.specs.Replays.{IsReplay};
 ghost use Rattle.dtdl_cmd.specs.making.Made.{IsMade};
 ghost use Rattle.dtdl_cmd.specs.Words.{AreMake, AreNone, AreReplay};
 ghost use Rattle.dtdl_cmd.specs.Documents.{AreAllFound, AreTooLong, IsMissing, MAX_BYTES, ShelfChange, StreamChange};
@@ -145,7 +145,7 @@ pub fn replay_answered()
         → ((s ≡ exit_status end) × Appends output.before output.after out)
         ⊎ (s ≡ status.OutOfMemory) }
 {
-    crate::serving::one_replay();
+    graph_server::one_replay();
 }
 
 /// A graph that is made of so many rooms, which has these counts, ends with status `Ok` and the counts, or for want of memory, when

@@ -46,7 +46,7 @@ pub fn one_replay()
         → RunEnds words input shelf output s → RunEnds words other files sink t → IsDecidedStatus s → IsDecidedStatus t
         → (s ≡ t) × (output.after ≡ sink.after) }
 {
-    crate::serving::one_replay();
+    graph_server::one_replay();
 }
 
 /// Words that make a graph of so many rooms end in one of three ways and in no other: its counts were written whole; the

@@ -1,5 +1,4 @@
-//! The commands of `dtdl`, over the traits of the outside; who answers the requests of a session (`serving`), and the graph
-//! of so many rooms that `make` counts (`making`).
+//! The commands of `dtdl`, over the traits of the outside, and the graph of so many rooms that `make` counts (`making`).
 #![tactic(auto)]
 
 mod answers;
@@ -11,7 +10,6 @@ mod makes;
 pub mod making;
 mod replays;
 mod run;
-pub mod serving;
 mod status;
 
 pub use complete::{

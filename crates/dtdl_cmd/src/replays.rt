@@ -3,7 +3,7 @@
 ghost use Rattle.std.specs.Prelude.{◌≡◌, ◌≤◌};
 ghost use Rattle.dtdl_cmd.specs.Runs.{EndsReplay, exit_status};
 
-use crate::serving::replay;
+use graph_server::replay;
 use crate::status::Status;
 use dt_base::{Sink, Source};
 use http_session::SessionEnd;

@@ -12,7 +12,7 @@ use Rattle.graph_steps.specs.Steps.{Allows, follows}
 use Rattle.graph_routes.specs.Prepared.{IsPrepared}
 use Rattle.graph_routes.specs.Responses.{response_for, response_to}
 use Rattle.graph_routes.specs.declared.prepared.Prepared.TheVariants as prepared
-use Rattle.dtdl_cmd.specs.serving.Entries.{entry}
+use Rattle.graph_server.specs.Entries.{entry}
 use Rattle.dtdl_cmd.specs.making.Made.{IsMadeStep, RequestsLead}
 use Rattle.dtdl_cmd.specs.making.Requests.{link_requests, next_requests, put_contains, put_has, put_room, put_sensor, twin_requests}
 

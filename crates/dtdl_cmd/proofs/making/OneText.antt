@@ -6,7 +6,7 @@ use Rattle.query_terms.specs.Queries.{Asked}
 use Rattle.query_grammar.specs.Spelled.{SpellsQuery}
 use Rattle.graph_steps.specs.QueryAsks.{kept_rows}
 use Rattle.graph_steps.specs.States.{State, empty}
-use Rattle.dtdl_cmd.specs.serving.Entries.{AreOneEntry, allows, enters, follows_entry, own_response}
+use Rattle.graph_server.specs.Entries.{AreOneEntry, allows, enters, follows_entry, own_response}
 use Rattle.dtdl_cmd.specs.making.Made.{Counts, HasCount, IsMade, IsMadeStep, RequestsLead, hot_text, lines, relationships_text, spaces_text, twins_text}
 use Rattle.dtdl_cmd.specs.making.Requests.{requests}
 

@@ -8,7 +8,7 @@ use Rattle.query_terms.specs.Queries.{Asked}
 use Rattle.query_grammar.specs.Spelled.{SpellsQuery}
 use Rattle.graph_steps.specs.QueryAsks.{kept_rows}
 use Rattle.graph_steps.specs.States.{State, empty}
-use Rattle.dtdl_cmd.specs.serving.Entries.{Entry, own_response, enters, IsLegalHistory}
+use Rattle.graph_server.specs.Entries.{Entry, own_response, enters, IsLegalHistory}
 use Rattle.dtdl_cmd.specs.making.Requests.{requests}
 
 -- A request is answered as a replay answers it: its own bytes decide a refusal, and the graph is as before; or it makes an ask,

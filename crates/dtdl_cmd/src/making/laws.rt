@@ -3,7 +3,7 @@
 ghost use Rattle.std.specs.Prelude.{◌≡◌, ℕ, List};
 ghost use Rattle.dtdl_cmd.specs.making.Made.{IsMade};
 
-use crate::serving::one_answer;
+use graph_server::one_answer;
 use query_parse::one_query;
 
 /// So many rooms have one text.

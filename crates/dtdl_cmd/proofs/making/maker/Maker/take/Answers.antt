@@ -1,7 +1,7 @@
 use Rattle.std.proofs.Common.{refl}
 use Rattle.std.proofs.lemmas.Result.{on_ok_weaker}
 use Rattle.graph_steps.specs.held.Held.{state_of}
-use Rattle.dtdl_cmd.proofs.serving.Answering.{decided, made}
+use Rattle.graph_server.proofs.Answering.{decided, made}
 use Rattle.dtdl_cmd.proofs.making.Leading.{asked, refused}
 use Rattle.dtdl_cmd.proofs.making.maker.Maker.take.Goals as goal
 

@@ -1,8 +1,8 @@
 use Rattle.std.proofs.Common.{refl}
 use Rattle.graph_steps.specs.held.Held.{state_of}
-use Rattle.dtdl_cmd.specs.serving.Entries.{IsLegalHistory}
-use Rattle.dtdl_cmd.proofs.serving.Answering.{asked, decided, made, refused}
-use Rattle.dtdl_cmd.proofs.serving.replayer.ReplayerService.answer.Goals as goal
+use Rattle.graph_server.specs.Entries.{IsLegalHistory}
+use Rattle.graph_server.proofs.Answering.{asked, decided, made, refused}
+use Rattle.graph_server.proofs.replayer.ReplayerService.answer.Goals as goal
 
 pub answer_of_refusal-answer-requires : goal.answer_of_refusal-answer-requires
 answer_of_refusal-answer-requires c = c.prepared_is_right.ensures.written c.args.request.now c.in-Own.refusal (decided c.args.request.now c.in-Ok.prepared c.in-Own.refusal c.in-Ok.ensures c.in-Own.is)

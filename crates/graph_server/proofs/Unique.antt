@@ -19,8 +19,8 @@ use Rattle.graph_routes.specs.Prepared.{ArePreparedAlike, IsPrepared}
 use Rattle.graph_routes.specs.Responses.{plain, response_for, response_to}
 use Rattle.graph_routes.specs.declared.prepared.Prepared.{Prepared}
 use Rattle.graph_routes.specs.declared.prepared.Prepared.TheVariants as prepared
-use Rattle.dtdl_cmd.specs.serving.Entries.{Entry, AreOneEntry, own_response, enters, allows, follows_entry}
-use Rattle.dtdl_cmd.specs.serving.Replays.{IsReplay, OneReplay}
+use Rattle.graph_server.specs.Entries.{Entry, AreOneEntry, own_response, enters, allows, follows_entry}
+use Rattle.graph_server.specs.Replays.{IsReplay, OneReplay}
 
 abbrev ask_made : Ask → Prepared
 ask_made a = prepared.Ask a
@@ -89,5 +89,6 @@ replay_weaker r s end stream left out f h = record {
   entries = h.entries;
   state = h.state;
   legal = h.legal;
+  typed = h.typed;
   session = session_weaker {D = State} (λ a es b. Unit {0}) own_response enters r s end stream left h.entries out f h.session;
 }

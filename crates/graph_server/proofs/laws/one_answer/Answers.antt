@@ -1,5 +1,5 @@
-use Rattle.dtdl_cmd.proofs.serving.Unique.{functions}
-use Rattle.dtdl_cmd.proofs.serving.laws.one_answer.Goals as goal
+use Rattle.graph_server.proofs.Unique.{functions}
+use Rattle.graph_server.proofs.laws.one_answer.Goals as goal
 
 pub returns : goal.returns
 returns c = functions (record {

@@ -7,7 +7,7 @@ ghost use Rattle.graph_steps.specs.Soundness.{IsSoundAsk};
 ghost use Rattle.graph_steps.specs.States.{empty};
 ghost use Rattle.http_ends.specs.Replies.{IsWritable};
 ghost use Rattle.http_session.specs.declared.service.Trouble.TheVariants.{NoEntry};
-ghost use Rattle.dtdl_cmd.specs.serving.Machinery.Asking.{IsAsked};
+ghost use Rattle.graph_server.specs.Machinery.Asking.{IsAsked};
 
 use dt_base::{Object, OutOfMemory};
 use graph_asks::{Ask, Refusal};
@@ -81,7 +81,7 @@ impl Service for Replayer {
     ghost use Rattle.std.specs.Prelude.{refl};
     ghost use Rattle.graph_steps.specs.held.Held.{state_of};
     ghost use Rattle.http_session.specs.Legal.{legal_trans};
-    ghost use Rattle.dtdl_cmd.specs.serving.Entries.{Entry, own_response, enters, allows, follows_entry, IsLegalHistory};
+    ghost use Rattle.graph_server.specs.Entries.{Entry, own_response, enters, allows, follows_entry, IsLegalHistory};
 
     ghost Entry = { Entry };
 

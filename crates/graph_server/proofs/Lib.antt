@@ -1,3 +1,4 @@
 pub mod Methods
 pub mod Answering
 pub mod Unique
+pub mod Typed

@@ -17,8 +17,8 @@ use Rattle.graph_routes.specs.declared.prepared.Prepared.{Prepared}
 use Rattle.graph_routes.specs.declared.prepared.Prepared.TheVariants as prepared
 use Rattle.graph_steps.specs.Soundness.{IsSoundAsk}
 use Rattle.graph_steps.specs.States.{State}
-use Rattle.dtdl_cmd.specs.serving.Entries.{Entry, entry, own_response, enters, IsLegalHistory}
-use Rattle.dtdl_cmd.specs.serving.Machinery.Asking.{IsAsked}
+use Rattle.graph_server.specs.Entries.{Entry, entry, own_response, enters, IsLegalHistory}
+use Rattle.graph_server.specs.Machinery.Asking.{IsAsked}
 
 pub made : (request : Request) (p : Prepared) (ask : Ask) → IsPrepared request p → p ≡ prepared.Ask ask → IsPrepared request (prepared.Ask ask)
 made request p ask h is = subst (IsPrepared request) is h

@@ -1,9 +1,10 @@
 //! Who answers the requests of a session: the routes make an ask of a request, and the graph answers it.
+#![tactic(auto)]
 
 mod laws;
 mod replayer;
 mod replays;
 
-pub use laws::{one_answer, one_replay};
+pub use laws::{histories_are_typed, one_answer, one_replay};
 pub use replayer::Replayer;
 pub use replays::replay;

@@ -1,5 +1,6 @@
 -- What public contracts cite.
 pub mod Entries
+pub mod Histories
 pub mod Replays
 -- What private clauses and proofs rest on: no public contract speaks of it.
 pub mod Machinery

@@ -2,7 +2,8 @@ use Rattle.std.proofs.Common.{[], inr, refl, arith}
 use Rattle.std.proofs.KnownBytes.{Consumes-nil}
 use Rattle.http_ends.specs.declared.request.HttpEnd.TheVariants as causes
 use Rattle.graph_steps.specs.States.{empty}
-use Rattle.dtdl_cmd.proofs.serving.replays.replay.Goals as goal
+use Rattle.graph_server.proofs.Typed.{from_empty}
+use Rattle.graph_server.proofs.replays.replay.Goals as goal
 
 -- no memory was found for the routes
 pub returns-in_default-clause-replay : goal.returns-in_default-clause-replay
@@ -13,6 +14,7 @@ returns-in_default-clause-replay g c =
         entries = [];
         state = empty;
         legal = refl;
+        typed = c.empty_is_typed.ensures;
         session = record {
           took = [];
           exchanges = [];
@@ -29,4 +31,13 @@ returns-in_default-clause-replay g c =
         };
       },
       wrote.1,
+    )
+
+pub returns-clause-replay : goal.returns-clause-replay
+returns-clause-replay g c =
+    let served = c.serve-end.ensures.session in
+    let legal = from_empty _ _ served.0 c.in-Ok.ensures served.2.goes_by in (
+      served.1,
+      record { entries = served.0; state = _; legal = legal; typed = c.histories_are_typed.ensures empty _ served.0 c.empty_is_typed.ensures legal; session = served.3 },
+      served.2.appended,
     )

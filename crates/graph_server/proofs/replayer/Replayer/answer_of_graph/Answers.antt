@@ -1,7 +1,7 @@
 use Rattle.std.proofs.Common.{refl}
 use Rattle.graph_steps.specs.held.Held.{state_of}
-use Rattle.dtdl_cmd.proofs.serving.Methods.{reply_lists}
-use Rattle.dtdl_cmd.proofs.serving.replayer.Replayer.answer_of_graph.Goals as goal
+use Rattle.graph_server.proofs.Methods.{reply_lists}
+use Rattle.graph_server.proofs.replayer.Replayer.answer_of_graph.Goals as goal
 
 pub returns-in-Ok-response_of-clause-asked : goal.returns-in-Ok-response_of-clause-asked
 returns-in-Ok-response_of-clause-asked c = (
