@@ -16,7 +16,7 @@ use Rattle.canon_faults.proofs.Uploads.{all_soundly, sound_interface}
 use Rattle.extend_resolve.specs.Breaches.{IsSound}
 use Rattle.extend_resolve.specs.declared.rule.SetRule.TheVariants as rules
 use Rattle.dtdl_terms.specs.declared.spot.Spot.TheVariants as spots
-use Rattle.document_judge.specs.FirstFaults.{AllUploaded, Declare}
+use Rattle.documents.specs.FirstFaults.{AllUploaded, Declare}
 use Rattle.dtdl_cmd.specs.Answers.{uploaded_interfaces}
 use Rattle.model_read.proofs.Pairs.{distinct_pairs, mapped_back}
 use Rattle.dtdl_cmd.proofs.Ordinals.{all_append}

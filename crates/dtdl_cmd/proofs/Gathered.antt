@@ -14,8 +14,8 @@ use Rattle.dt_base.specs.Faults.{Rose}
 use Rattle.dtdl_cmd.specs.Documents.{AreFound, HasUnder, Held, IsMissing, AreTooLong, MAX_BYTES, ShelfChange, StreamChange, documents_bytes}
 use Rattle.dtdl_cmd.specs.Runs.{HasReadFault}
 use Rattle.dtdl_cmd.specs.Machinery.Gathering.{IsFetched, AreDocumentsGathered}
-use Rattle.dtdl_cmd.specs.declared.documents.NoDocuments.{NoDocuments}
-use Rattle.dtdl_cmd.specs.declared.documents.NoDocuments.TheVariants as ends
+use Rattle.dtdl_cmd.specs.declared.inputs.NoDocuments.{NoDocuments}
+use Rattle.dtdl_cmd.specs.declared.inputs.NoDocuments.TheVariants as ends
 
 abbrev Files : Type 0
 Files = Option (List (List ℕ × List ℕ))

@@ -5,7 +5,7 @@ use Rattle.std.specs.List.{AllByRecursion}
 use Rattle.std.proofs.lemmas.List.{take_more, map-append}
 use Rattle.std.specs.declared.alloc.Global.{Global}
 use Rattle.dtdl_cmd.specs.Words.{IsDocumentName}
-use Rattle.document_judge.proofs.Firsts.{all_more}
+use Rattle.documents.proofs.Firsts.{all_more}
 
 pub more_names : (words : List (String Global)) (k : ℕ) (word : String Global) → k < length words → word ≡ get_or words k word → AllByRecursion IsDocumentName (map string_bytes (take k words)) → IsDocumentName (string_bytes word)
     → AllByRecursion IsDocumentName (map string_bytes (take (k + 1) words))

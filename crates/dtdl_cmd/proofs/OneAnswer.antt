@@ -25,14 +25,14 @@ use Rattle.model_read.proofs.OnceUploads.{document_once}
 use Rattle.extend_resolve.specs.Breaches.{Breach, HasOrdinals, IsSetBreach, set_rule_code}
 use Rattle.extend_resolve.proofs.FirstBreaches.{one_first}
 use Rattle.dtdl_cmd.specs.Words.{command_word}
-use Rattle.document_judge.specs.Lines.{IsBreachLine, IsFaultLine, IsJsonFaultLine, IsPlaceLine, IsSetBreachLine, pointer_line}
+use Rattle.documents.specs.Lines.{IsBreachLine, IsFaultLine, IsJsonFaultLine, IsPlaceLine, IsSetBreachLine, pointer_line}
 use Rattle.dtdl_cmd.specs.Lines.{missing_line, too_long_line}
-use Rattle.document_judge.specs.FirstFaults.{AllUploaded, Declare, HasFirstFault, HasLocalFault, HasSetFault, IsJson}
+use Rattle.documents.specs.FirstFaults.{AllUploaded, Declare, HasFirstFault, HasLocalFault, HasSetFault, IsJson}
 use Rattle.dtdl_cmd.specs.Answers.{AnswersWords, AnswersDocuments, AnswersFound, Prints, uploaded_interfaces}
 use Rattle.dtdl_cmd.specs.declared.command.Command.{Command}
 use Rattle.dtdl_cmd.specs.declared.command.Command.TheVariants as commands
 use Rattle.dtdl_cmd.specs.declared.status.Status.{Status}
-use Rattle.document_judge.proofs.Firsts.{all_json, none_first, one_line}
+use Rattle.documents.proofs.Firsts.{all_json, none_first, one_line}
 use Rattle.dtdl_cmd.proofs.OneCut.{one_missing, one_too_long, missing_or_long, missing_or_there, long_or_there, one_there}
 use Rattle.dtdl_cmd.proofs.Ordinals.{in_documents}
 

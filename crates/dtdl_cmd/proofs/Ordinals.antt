@@ -5,7 +5,7 @@ use Rattle.json_tree.specs.Values.{Json}
 use Rattle.dtdl_terms.specs.declared.uploaded.Uploaded.{Uploaded}
 use Rattle.extend_resolve.specs.Breaches.{HasOrdinals}
 use Rattle.model_read.proofs.Ordinals.{in_document}
-use Rattle.document_judge.specs.FirstFaults.{AllUploaded}
+use Rattle.documents.specs.FirstFaults.{AllUploaded}
 
 pub all_append : {A : Type 0} (P : A → Type 0) (xs ys : List A) → AllByRecursion P xs → AllByRecursion P ys → AllByRecursion P (xs ++ ys)
 all_append P [] ys h g = g

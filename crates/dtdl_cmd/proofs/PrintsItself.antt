@@ -23,15 +23,15 @@ use Rattle.model_read.proofs.ThereUploads.{all_there}
 use Rattle.canon_text.proofs.Told.{all_with}
 use Rattle.dtdl_cmd.specs.Words.{IsCommand}
 use Rattle.dtdl_cmd.specs.Documents.{MAX_BYTES}
-use Rattle.document_judge.specs.Lines.{IsBreachLine, IsJsonFaultLine}
-use Rattle.document_judge.specs.FirstFaults.{AllUploaded, Declare, HasFirstFault, HasLocalFault, HasSetFault, IsJson}
+use Rattle.documents.specs.Lines.{IsBreachLine, IsJsonFaultLine}
+use Rattle.documents.specs.FirstFaults.{AllUploaded, Declare, HasFirstFault, HasLocalFault, HasSetFault, IsJson}
 use Rattle.dtdl_cmd.specs.Answers.{AnswersWords, AnswersDocuments, AnswersFound, Prints, uploaded_interfaces}
 use Rattle.dtdl_cmd.specs.declared.command.Command.{Command}
 use Rattle.dtdl_cmd.specs.declared.command.Command.TheVariants as commands
 use Rattle.dtdl_cmd.specs.declared.status.Status.{Status}
 use Rattle.dtdl_cmd.specs.declared.status.Status.TheVariants as status
 use Rattle.dtdl_cmd.proofs.DeclaredSets.{declared_soundly, texts_apart}
-use Rattle.document_judge.proofs.Firsts.{none_first}
+use Rattle.documents.proofs.Firsts.{none_first}
 use Rattle.dtdl_cmd.proofs.OneAnswer.{breached, faulty, one_values, same_command}
 use Rattle.dtdl_cmd.proofs.OneCut.{long_or_there, missing_or_there, one_there}
 

@@ -8,7 +8,7 @@ use Rattle.dt_base.proofs.Existence.{is_there, holds_or_not, from_there, map_the
 use Rattle.dtdl_terms.specs.declared.interface.Interface.{Interface}
 use Rattle.dtdl_terms.specs.declared.uploaded.Uploaded.{Uploaded}
 use Rattle.canon_text.specs.Canonical.{set_text}
-use Rattle.document_judge.specs.FirstFaults.{Declare, HasFirstFault}
+use Rattle.documents.specs.FirstFaults.{Declare, HasFirstFault}
 use Rattle.dtdl_cmd.specs.Words.{AreCommand, AreMake, AreReplay}
 use Rattle.dtdl_cmd.specs.Documents.{MAX_BYTES, documents_bytes}
 use Rattle.dtdl_cmd.specs.Lines.{accepted_line, missing_line, too_long_line, too_long_text_line, usage_line}

@@ -7,7 +7,7 @@ use Rattle.dtdl_terms.specs.declared.uploaded.Uploaded.{Uploaded}
 use Rattle.canon_text.specs.Canonical.{set_text}
 use Rattle.dtdl_cmd.specs.Words.{AreNone, IsCommand}
 use Rattle.dtdl_cmd.specs.Documents.{AreAllFound, IsMissing, AreTooLong, MAX_BYTES}
-use Rattle.document_judge.specs.FirstFaults.{Declare, HasFirstFault}
+use Rattle.documents.specs.FirstFaults.{Declare, HasFirstFault}
 use Rattle.dtdl_cmd.specs.Lines.{accepted_line, missing_line, too_long_line, too_long_text_line, usage_line}
 use Rattle.dtdl_cmd.specs.declared.command.Command.{Command}
 use Rattle.dtdl_cmd.specs.declared.command.Command.TheVariants as commands

@@ -7,9 +7,9 @@ ghost use Rattle.dtdl_cmd.specs.declared.command.Command.{Command};
 ghost use Rattle.dtdl_cmd.specs.declared.status.Status.{Status};
 
 use crate::command::Command;
-use crate::documents::MAX_BYTES;
+use crate::inputs::MAX_BYTES;
 use crate::status::Status;
-use document_judge::{Refusal, declared_by};
+use documents::{Refusal, declared_by};
 use dt_base::{List, OutOfMemory};
 use dtdl_terms::{Interface, Uploaded};
 use std::alloc::Global;

@@ -8,7 +8,7 @@ ghost use Rattle.dt_base.specs.Faults.{Rose};
 ghost use Rattle.dt_base.specs.Existence.{IsThere};
 ghost use Rattle.dtdl_terms.specs.declared.uploaded.Uploaded.{Uploaded};
 ghost use Rattle.canon_text.specs.Canonical.{set_text};
-ghost use Rattle.document_judge.specs.FirstFaults.{Declare, HasFirstFault};
+ghost use Rattle.documents.specs.FirstFaults.{Declare, HasFirstFault};
 ghost use Rattle.http_session.specs.Uniqueness.{IsDecided};
 ghost use Rattle.http_session.specs.declared.ends.SessionEnd.{SessionEnd};
 ghost use Rattle.graph_server.specs.Replays.{IsReplay};
@@ -25,7 +25,7 @@ ghost use Rattle.dtdl_cmd.specs.declared.status.Status.{Status};
 ghost use Rattle.dtdl_cmd.specs.declared.status.Status.TheVariants as status;
 
 use crate::laws::one_answer;
-use document_judge::declaration_or_fault;
+use documents::declaration_or_fault;
 
 /// There is an answer to words and to what is found of documents, unless the words are those of a replay or of a graph that is
 /// made. That there is no other is `one_answer`.

@@ -11,7 +11,7 @@ ghost use Rattle.local_rules.specs.Soundness.{IsSoundInterface};
 ghost use Rattle.canon_text.specs.Canonical.{set_text};
 ghost use Rattle.dtdl_cmd.specs.Words.{IsCommand};
 ghost use Rattle.dtdl_cmd.specs.Documents.{AreFound, MAX_BYTES, ShelfChange, StreamChange, documents_of};
-ghost use Rattle.document_judge.specs.FirstFaults.{Declare};
+ghost use Rattle.documents.specs.FirstFaults.{Declare};
 ghost use Rattle.dtdl_cmd.specs.Answers.{AnswersWords, uploaded_interfaces};
 ghost use Rattle.dtdl_cmd.specs.declared.command.Command.TheVariants as commands;
 ghost use Rattle.dtdl_cmd.specs.Runs.{RunEnds, EndsMake, IsDecidedStatus};

@@ -4,7 +4,7 @@
 mod answers;
 mod command;
 mod complete;
-mod documents;
+mod inputs;
 mod laws;
 mod makes;
 pub mod making;

@@ -3,9 +3,9 @@
 ghost use Rattle.std.specs.Prelude.{◌≡◌, ◌≤◌};
 ghost use Rattle.dtdl_cmd.specs.Runs.{EndsReplay, exit_status};
 
-use graph_server::replay;
 use crate::status::Status;
 use dt_base::{Sink, Source};
+use graph_server::replay;
 use http_session::SessionEnd;
 use std::alloc::Global;
 

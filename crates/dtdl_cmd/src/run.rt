@@ -11,7 +11,7 @@ ghost use Rattle.dtdl_cmd.specs.declared.command.Command.{Command};
 
 use crate::answers::{Answer, answer_to_documents, missing, too_long};
 use crate::command::{Command, are_replay, command_of, rooms_of};
-use crate::documents::{NoDocuments, documents_of};
+use crate::inputs::{NoDocuments, documents_of};
 use crate::makes::run_make;
 use crate::replays::run_replay;
 use crate::status::Status;

@@ -1,8 +1,8 @@
 //! Documents that are read batch by batch: each interface comes with its place in the whole document, and of a document with a
 //! fault there are none.
 
+use documents::faultless::faultless_interfaces;
 use dtdl_terms::Uploaded;
-use model_batches::faultless_interfaces;
 use std::alloc::Global;
 use std::test::Fail;
 

@@ -1,8 +1,8 @@
 -- How the gathering of documents ends.
 use Rattle.std.specs.Prelude.{◌≡◌, ℕ, ◌<◌, ◌≤◌, List, length, map, Option, Some, None, Result, Ok, Err}
 use Rattle.dtdl_cmd.specs.Documents.{HasUnder, IsMissing, AreTooLong, MAX_BYTES, documents_bytes}
-use Rattle.dtdl_cmd.specs.declared.documents.NoDocuments.{NoDocuments}
-use Rattle.dtdl_cmd.specs.declared.documents.NoDocuments.TheVariants as ends
+use Rattle.dtdl_cmd.specs.declared.inputs.NoDocuments.{NoDocuments}
+use Rattle.dtdl_cmd.specs.declared.inputs.NoDocuments.TheVariants as ends
 
 -- What is found has `Found`, and a read failed only where `Fails`.
 abbrev pub AreDocumentsGathered : (List (Option (List ℕ)) → Type 0) → Type 0 → Result (List (List ℕ)) NoDocuments → Type 0

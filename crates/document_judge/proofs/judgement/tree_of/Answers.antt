@@ -1,6 +1,0 @@
-use Rattle.std.proofs.Common.{refl}
-use Rattle.json_tree.specs.View.{view}
-use Rattle.document_judge.proofs.judgement.tree_of.Goals as goal
-
-pub returns-in-Ok : goal.returns-in-Ok
-returns-in-Ok c = (c.in-Ok.ensures (view c.in-Ok.tree)).1 refl

@@ -1,5 +1,0 @@
-use Rattle.document_judge.proofs.Outcomes.{declares_or_fault}
-use Rattle.document_judge.proofs.laws.declaration_or_fault.Goals as goal
-
-pub returns : goal.returns
-returns c = declares_or_fault c.value_or_fault.ensures c.breach_or_none.ensures c.breach_or_none-2.ensures c.declaration_is_there.ensures

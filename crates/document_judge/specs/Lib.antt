@@ -1,5 +1,0 @@
--- What public contracts cite.
-pub mod Lines
-pub mod FirstFaults
-pub mod Refusing
-pub mod Machinery
