@@ -1,5 +1,5 @@
 //! Worked rows and outside vectors of numbers, of records that are read and of documents in batches, through the public calls of
-//! `json_decimal`, `model_read` and `model_batches`. They stand here, since a crate with tests of its own is proved twice.
+//! `json_decimal`, `model_read` and `documents`. They stand here, since a crate with tests of its own is proved twice.
 #![tactic(auto)]
 
 #[cfg(test)]
