@@ -7,7 +7,7 @@ pub mod Ended
 pub mod Names
 pub mod DeclaredSets
 pub mod PrintsItself
-pub mod Rooms
+pub mod Numbers
 pub mod OtherWords
 pub mod OneReplay
 pub mod OneMake

@@ -1,15 +1,15 @@
 -- The words of a replay and of a graph that is made are those of no other command.
-use Rattle.std.proofs.Common.{◌≡◌, ℕ, ◌^◌, ◌<◌, List, [], ◌∷◌, Option, String, get_or, sym, ap, ◌∙◌, inl, inr, arith}
+use Rattle.std.proofs.Common.{◌≡◌, ℕ, List, [], ◌∷◌, Option, String, get_or, sym, ap, subst, ◌∙◌, inl, inr, arith}
 use Rattle.std.specs.Prelude.{codes}
-use Rattle.std.proofs.lemmas.Fmt.{decimal_injective}
 use Rattle.std.specs.declared.alloc.Global.{Global}
-use Rattle.dtdl_cmd.specs.Words.{AreMake, AreNone, AreReplay, IsCommand, command_word}
+use Rattle.dtdl_cmd.specs.Words.{AreMake, AreNone, AreReplay, IsCommand, IsNumberUpTo, command_word}
 use Rattle.dtdl_cmd.specs.Documents.{ShelfChange, StreamChange}
 use Rattle.dtdl_cmd.specs.Answers.{AnswersWords}
 use Rattle.dtdl_cmd.specs.Runs.{EndsAnswer}
 use Rattle.dtdl_cmd.specs.declared.command.Command.{Command}
 use Rattle.dtdl_cmd.specs.declared.command.Command.TheVariants as commands
 use Rattle.dtdl_cmd.specs.declared.status.Status.{Status}
+use Rattle.dtdl_cmd.proofs.Numbers.{same_number}
 
 -- ---- the words of commands over documents begin with another letter
 first_letter : List (List ℕ) → ℕ
@@ -44,10 +44,8 @@ second a b c d e = cc
 
 -- the words tell how many rooms
 pub same_rooms : (words : List (String Global)) (n m : ℕ) → AreMake words n → AreMake words m → n ≡ m
-same_rooms words n m (word, are, (is, low, high)) (other, have, (has, least, most)) =
-    let small : n < 2 ^ 64 = omega (arith, high) in
-    let little : m < 2 ^ 64 = omega (arith, most) in
-    decimal_injective n m small little (sym is ∙ second (codes "make") word (codes "make") other (sym are ∙ have) ∙ has)
+same_rooms words n m (word, are, is) (other, have, has) =
+    same_number 20000 (omega arith) word n m is (subst (λ (w : List ℕ). IsNumberUpTo 20000 w m) (sym (second (codes "make") word (codes "make") other (sym are ∙ have))) has)
 
 -- ---- what documents are answered does not answer such words
 module _ (words : List (String Global)) (some : AreNone words → ⊥) (no_documents : (command : Command) (names : List (List ℕ)) → IsCommand words command names → ⊥) where

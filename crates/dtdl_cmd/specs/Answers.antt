@@ -24,6 +24,8 @@ status_number status.OutOfMemory = 5
 status_number status.TooLong = 6
 status_number status.Missing = 7
 status_number status.SessionFull = 8
+status_number status.DialFault = 10
+status_number status.BadReply = 11
 
 -- the interfaces that were uploaded, without their places
 abbrev pub uploaded_interfaces : List Uploaded → List Interface

@@ -3,6 +3,8 @@ pub mod Documents
 pub mod Lines
 pub mod Answers
 pub mod Runs
+pub mod Clients
+pub mod ClientRuns
 pub mod FaultlessRuns
 pub mod Machinery
 pub mod making

@@ -29,13 +29,13 @@ AreCommand words = (command : Command) × (names : List (List ℕ)) × IsCommand
 abbrev pub AreReplay : List (String Global) → Type 0
 AreReplay words = map string_bytes words ≡ codes "replay" ∷ []
 
--- The digits of a number of rooms from 1 to 20,000, without a leading zero or a sign.
-abbrev pub IsRooms : List ℕ → ℕ → Type 0
-IsRooms word n = (word ≡ decimal n) × (1 ≤ n) × (n ≤ 20000)
+-- The digits of a number from 1 to the most, without a leading zero or a sign.
+abbrev pub IsNumberUpTo : ℕ → List ℕ → ℕ → Type 0
+IsNumberUpTo most word n = (word ≡ decimal n) × (1 ≤ n) × (n ≤ most)
 
--- The word of a graph that is made, and how many rooms it has.
+-- The word of a graph that is made, and how many rooms it has, from 1 to 20,000.
 abbrev pub AreMake : List (String Global) → ℕ → Type 0
-AreMake words n = (word : List ℕ) × (map string_bytes words ≡ codes "make" ∷ word ∷ []) × IsRooms word n
+AreMake words n = (word : List ℕ) × (map string_bytes words ≡ codes "make" ∷ word ∷ []) × IsNumberUpTo 20000 word n
 
 -- The words are no command that is built.
 abbrev pub AreNone : List (String Global) → Type 0

@@ -1,7 +1,7 @@
 //! The commands by their words.
 
-ghost use Rattle.std.specs.Prelude.{◌≡◌, ◌↔◌, ℕ, ◌<◌, List, drop, get_or, map, codes, string_bytes, IsTrue, MatchOption};
-ghost use Rattle.dtdl_cmd.specs.Words.{AreMake, AreNames, AreReplay, IsCommand, IsDocumentName, IsRooms, command_word};
+ghost use Rattle.std.specs.Prelude.{◌≡◌, ◌↔◌, ℕ, ◌<◌, ◌≤◌, List, drop, get_or, map, codes, string_bytes, IsTrue, MatchOption};
+ghost use Rattle.dtdl_cmd.specs.Words.{AreMake, AreNames, AreReplay, IsCommand, IsDocumentName, IsNumberUpTo, command_word};
 ghost use Rattle.dtdl_cmd.specs.declared.command.Command.{Command};
 
 /// How many names a command takes.
@@ -91,20 +91,21 @@ fn begins_past_zero(word: &str) -> bool
     !bytes.is_empty() && bytes[0] > b'0'
 }
 
-/// The number of rooms that a word is.
-fn rooms_in(word: &str) -> Option<u32>
-    ensures { MatchOption result ((n : ℕ) → IsRooms word.now n → ⊥) (IsRooms word.now) }
+/// The number from 1 to `most` that a word is, in digits without a leading zero or a sign.
+pub fn number_up_to(most: u32, word: &str) -> Option<u32>
+    requires modest { most ≤ 1000000 }
+    ensures { MatchOption result ((n : ℕ) → IsNumberUpTo most word.now n → ⊥) (IsNumberUpTo most word.now) }
 {
     if !begins_past_zero(word) {
         return None;
     }
-    let Ok(rooms) = word.parse::<u32>() else {
+    let Ok(number) = word.parse::<u32>() else {
         return None;
     };
-    if rooms > MAX_ROOMS {
+    if number > most {
         return None;
     }
-    Some(rooms)
+    Some(number)
 }
 
 /// How many rooms the graph has that the words ask to make.
@@ -117,5 +118,5 @@ pub fn rooms_of(words: &[String]) -> Option<u32>
     if !is_make(command.as_str()) {
         return None;
     }
-    rooms_in(rooms.as_str())
+    number_up_to(MAX_ROOMS, rooms.as_str())
 }

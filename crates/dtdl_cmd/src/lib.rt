@@ -2,6 +2,8 @@
 #![tactic(auto)]
 
 mod answers;
+mod client;
+mod clients;
 mod command;
 mod complete;
 mod inputs;
@@ -12,6 +14,7 @@ mod replays;
 mod run;
 mod status;
 
+pub use clients::run_ask;
 pub use complete::{
     canon_prints, check_accepts, documents_answered, faults_refused, long_refused,
     long_text_refused, make_counts, missing_refused, replay_answered, some_answer, usage_told,

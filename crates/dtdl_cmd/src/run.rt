@@ -20,7 +20,7 @@ use std::alloc::Global;
 use thiserror::Error;
 
 /// The line that is printed for words that are no command.
-const USAGE: &[u8] =
+pub(crate) const USAGE: &[u8] =
     b"usage: dtdl check [NAME..] | canon [NAME..] | replay | make N | serve PORT WORKERS EACH | ask HOST PORT METHOD PATH\n";
 
 /// Why there is no answer.
@@ -100,7 +100,7 @@ pub(crate) fn say<K: Sink>(output: &mut K, status: Status, line: &[u8]) -> Statu
 ///
 /// Does `make`: makes a graph of so many rooms, from 1 to 20,000, and writes its counts. It reads no input and asks no shelf.
 ///
-/// The other commands are not built, so other words are `Usage`, and then nothing is read. It returns on every
+/// `ask` is done by `run_ask`, and `serve` is not built, so other words are `Usage`, and then nothing is read. It returns on every
 /// input, and the answer is a function of the words and of the documents' or the input's bytes, however they are cut.
 pub fn run_plain<S: Source, K: Sink, F: Shelf>(
     alloc: Global,
