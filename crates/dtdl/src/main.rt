@@ -2,7 +2,8 @@
 #![tactic(auto)]
 
 use dt_base::{FileShelf, StdSink, StdSource};
-use dtdl_cmd::{Status, run_plain};
+use dtdl_cmd::{Status, run_ask, run_plain};
+use sockets::TcpDial;
 use std::alloc::{AllocError, Global};
 use std::io::ErrorKind;
 use std::process::ExitCode;
@@ -19,6 +20,11 @@ fn words(rt: &(impl AllocGlobal + Env), alloc: Global) -> io::Result<Vec<String>
     Ok(words)
 }
 
+/// Whether a server is to be asked.
+fn asks(words: &[String]) -> bool {
+    !words.is_empty() && words[0].as_str() == "ask"
+}
+
 fn main(rt: HostRuntime) -> ExitCode {
     let words = match words(&rt, rt.alloc()) {
         Ok(words) => words,
@@ -30,7 +36,12 @@ fn main(rt: HostRuntime) -> ExitCode {
     };
     let mut input = StdSource::new(rt.stdin());
     let mut output = StdSink::new(rt.stdout());
-    let mut shelf = FileShelf::new(&rt);
-    let status = run_plain(rt.alloc(), &words, &mut input, &mut output, &mut shelf);
+    let status = if asks(&words) {
+        let mut dial = TcpDial::new(&rt);
+        run_ask(rt.alloc(), &words, &mut input, &mut output, &mut dial)
+    } else {
+        let mut shelf = FileShelf::new(&rt);
+        run_plain(rt.alloc(), &words, &mut input, &mut output, &mut shelf)
+    };
     ExitCode::from(status.number())
 }

@@ -7,10 +7,10 @@ use Rattle.http_ends.specs.declared.response.Response.{Response}
 use Rattle.http_ends.specs.Requests.{request_text}
 use Rattle.http_client.specs.Ends.{DialRecord, Ends}
 use Rattle.http_client.specs.declared.ends.AskEnd.{AskEnd}
-use Rattle.http_client.specs.declared.ends.AskEnd.TheVariants as ends
+use Rattle.http_client.specs.declared.ends.AskEnd.TheVariants as causes
 use Rattle.dtdl_cmd.specs.Clients.{AreNoAsk, Client, IsAsk}
 use Rattle.dtdl_cmd.specs.Documents.{StreamChange}
-use Rattle.dtdl_cmd.specs.Lines.{too_long_line, usage_line}
+use Rattle.dtdl_cmd.specs.Lines.{too_long_body_line, usage_line}
 use Rattle.dtdl_cmd.specs.declared.status.Status.{Status}
 use Rattle.dtdl_cmd.specs.declared.status.Status.TheVariants as status
 
@@ -57,11 +57,11 @@ IsReplyStatus number other = ⊥
 -- What is said of an ask that ended so: the body of the reply, or nothing.
 abbrev pub Tells : Result Response AskEnd → StreamChange → Status → Type 0
 Tells (Ok response) output s = (told : Status) × IsReplyStatus response.status told × Says output told response.body s
-Tells (Err ends.DialFault) output s = (s ≡ status.DialFault) × Keeps output.before output.after
-Tells (Err ends.ReadFault) output s = (s ≡ status.ReadFault) × Keeps output.before output.after
-Tells (Err ends.WriteFault) output s = (s ≡ status.WriteFault) × Keeps output.before output.after
-Tells (Err ends.BadReply) output s = (s ≡ status.BadReply) × Keeps output.before output.after
-Tells (Err ends.OutOfMemory) output s = (s ≡ status.OutOfMemory) × Keeps output.before output.after
+Tells (Err causes.DialFault) output s = (s ≡ status.DialFault) × Keeps output.before output.after
+Tells (Err causes.ReadFault) output s = (s ≡ status.ReadFault) × Keeps output.before output.after
+Tells (Err causes.WriteFault) output s = (s ≡ status.WriteFault) × Keeps output.before output.after
+Tells (Err causes.BadReply) output s = (s ≡ status.BadReply) × Keeps output.before output.after
+Tells (Err causes.OutOfMemory) output s = (s ≡ status.OutOfMemory) × Keeps output.before output.after
 
 -- A request was asked over a dial, and its end was told. The dial failed only where its count rose, and the link only where the
 -- dial's count of lost links rose.
@@ -69,16 +69,16 @@ pub record Asks (request : List ℕ) (dial : DialChange) (output : StreamChange)
   pub answer : Result Response AskEnd
   pub ends : Ends request dial.before dial.after answer
   pub tells : Tells answer output s
-  pub dial_cause : answer ≡ Err ends.DialFault → Rose dial.faults_before dial.faults_after
-  pub read_cause : answer ≡ Err ends.ReadFault → Rose dial.before.lost dial.after.lost
-  pub write_cause : answer ≡ Err ends.WriteFault → Rose dial.before.lost dial.after.lost
+  pub dial_cause : answer ≡ Err causes.DialFault → Rose dial.faults_before dial.faults_after
+  pub read_cause : answer ≡ Err causes.ReadFault → Rose dial.before.lost dial.after.lost
+  pub write_cause : answer ≡ Err causes.WriteFault → Rose dial.before.lost dial.after.lost
 
 abbrev pub request_of : Client → Option (List ℕ) → List ℕ
 request_of client body = request_text client.host client.port client.method client.target body
 
 -- The body was not read: it is too long, which is said, or a read failed, or there was no memory for it. Nothing was dialled.
 abbrev pub EndsUnread : StreamChange → StreamChange → Status → Type 0
-EndsUnread input output s = (IfSome input.before (λ bytes. MAX_BODY < length bytes) × Says output status.TooLong (too_long_line 1) s)
+EndsUnread input output s = (IfSome input.before (λ bytes. MAX_BODY < length bytes) × Says output status.TooLong too_long_body_line s)
     ⊎ ((s ≡ status.ReadFault) × Rose input.faults_before input.faults_after × Keeps output.before output.after)
     ⊎ ((s ≡ status.OutOfMemory) × Keeps output.before output.after)
 

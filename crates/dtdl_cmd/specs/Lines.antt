@@ -16,3 +16,7 @@ too_long_text_line = codes "too long canon" ++ 10 ∷ []
 
 abbrev pub accepted_line : ℕ → List ℕ
 accepted_line count = codes "accepted " ++ (decimal count ++ 10 ∷ [])
+
+-- The body of an ask is the one document that it reads.
+abbrev pub too_long_body_line : List ℕ
+too_long_body_line = codes "too long 1" ++ 10 ∷ []

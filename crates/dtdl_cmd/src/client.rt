@@ -22,7 +22,7 @@ const TARGET_MARKS: &[u8] = b"-._~:@!$&'()*+,;=/?%";
 
 /// What is asked of which server, and whether the request has a body.
 #[derive(Clone, Copy)]
-pub struct Client<'a> {
+pub struct AskWords<'a> {
     pub host: &'a str,
     pub port: u16,
     pub method: &'a str,
@@ -98,7 +98,7 @@ fn is_ask(word: &str) -> bool
 }
 
 /// What the words ask of which server.
-pub fn client_of(words: &[String]) -> Option<Client<'_>>
+pub fn client_of(words: &[String]) -> Option<AskWords<'_>>
     ensures { MatchOption result (AreNoAsk words.now) (λ client. IsAsk words.now (client_view client)) }
 {
     let [ask, host, port, method, target] = words else {
@@ -120,7 +120,7 @@ pub fn client_of(words: &[String]) -> Option<Client<'_>>
     let Some(port) = number_up_to(MAX_PORT, port.as_str()) else {
         return None;
     };
-    Some(Client {
+    Some(AskWords {
         host,
         port: port as u16,
         method,

@@ -9,7 +9,7 @@ ghost use Rattle.dtdl_cmd.specs.ClientRuns.{AskRunEnds, Asks, IsBody, IsReplySta
 ghost use Rattle.dtdl_cmd.specs.Machinery.ClientWords.{client_view};
 ghost use Rattle.dt_base.specs.declared.reads.ReadEnd.TheVariants.{ReadFault, TooLong};
 
-use crate::client::{Client, client_of};
+use crate::client::{AskWords, client_of};
 use crate::run::{USAGE, say};
 use crate::status::Status;
 use connections::Dial;
@@ -80,13 +80,13 @@ fn tell<K: Sink>(answer: &Result<Response, AskEnd>, output: &mut K) -> Status
 /// Asks the server, and tells its answer.
 fn ask_server<K: Sink, D: Dial>(
     alloc: Global,
-    client: Client<'_>,
+    client: AskWords<'_>,
     body: Option<&[u8]>,
     output: &mut K,
     dial: &mut D,
 ) -> Status
     ensures asks { let told = option_copied body.entry in
-        Asks (request_of (client_view client) told)
+        Asks (request_of (client_view client.entry) told)
         (dial_change (dial_record D.ahead D.gone D.lost) D.faults dial.old dial.new)
         (stream_change K.taken K.faults output.old output.new) result }
     ensures output_count { K.faults output.old ≤ K.faults output.new }

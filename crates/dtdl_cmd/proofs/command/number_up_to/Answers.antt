@@ -9,10 +9,10 @@ returns-then-not-begins_past_zero c = λ n is. not_true (c.if-not-begins_past_ze
 pub returns-in_default : goal.returns-in_default
 returns-in_default c = λ n is. c.in_default.not-Ok n (number_found c.args.most c.requires.modest c.args.word.now n c.parse.result is c.parse.ensures.value.0)
 
-pub returns-then-number-gt-most : goal.returns-then-number-gt-most
-returns-then-number-gt-most c = λ n is.
+pub returns-then-number-most : goal.returns-then-number-most
+returns-then-number-most c = λ n is.
     let found = number_found c.args.most c.requires.modest c.args.word.now n c.parse.result is c.parse.ensures.value.0 in
-    grind (arith, found, c.in-Ok.is, c.if-number-gt-most, is.2)
+    grind (arith, found, c.in-Ok.is, c.if-number-most, is.2)
 
 pub returns : goal.returns
-returns c = number_read c.args.most c.requires.modest c.args.word.now c.in-Ok.number c.parse.result (c.if-not-begins_past_zero.ensures.0 refl) c.in-Ok.is (omega (arith, c.if-number-gt-most)) c.parse.ensures.value.0
+returns c = number_read c.args.most c.requires.modest c.args.word.now c.in-Ok.number c.parse.result (c.if-not-begins_past_zero.ensures.0 refl) c.in-Ok.is (omega (arith, c.if-number-most)) c.parse.ensures.value.0

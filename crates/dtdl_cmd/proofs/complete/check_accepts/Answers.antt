@@ -1,4 +1,4 @@
-use Rattle.std.proofs.Common.{refl, inl, inr, length}
+use Rattle.std.proofs.Common.{refl, inr, length}
 use Rattle.dtdl_cmd.specs.Lines.{accepted_line}
 use Rattle.dtdl_cmd.specs.Answers.{uploaded_interfaces}
 use Rattle.dtdl_cmd.specs.declared.command.Command.TheVariants as commands

@@ -1,4 +1,4 @@
-use Rattle.std.proofs.Common.{refl, inl, inr}
+use Rattle.std.proofs.Common.{refl, inr}
 use Rattle.dtdl_cmd.specs.Lines.{too_long_text_line}
 use Rattle.dtdl_cmd.specs.declared.command.Command.TheVariants as commands
 use Rattle.dtdl_cmd.specs.declared.status.Status.TheVariants as status
