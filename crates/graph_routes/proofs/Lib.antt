@@ -24,3 +24,6 @@ pub mod SoundOutcome
 pub mod SoundTwins
 pub mod SoundQueries
 pub mod SoundAsks
+pub mod SomeTrees
+pub mod SomePatches
+pub mod SomeBreaches
