@@ -27,3 +27,5 @@ pub mod SoundAsks
 pub mod SomeTrees
 pub mod SomePatches
 pub mod SomeBreaches
+pub mod SomeOutcome
+pub mod SomeModels
