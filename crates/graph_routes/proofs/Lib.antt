@@ -29,3 +29,6 @@ pub mod SomePatches
 pub mod SomeBreaches
 pub mod SomeOutcome
 pub mod SomeModels
+pub mod SomeTwins
+pub mod SomeLinks
+pub mod SomePrepared

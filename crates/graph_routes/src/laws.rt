@@ -1,6 +1,7 @@
 //! What the definitions of prepared requests say, whatever is asked.
 
 ghost use Rattle.std.specs.Prelude.{ℕ, List};
+ghost use Rattle.dt_base.specs.Existence.{IsThere};
 ghost use Rattle.json_tree.specs.Values.{Json};
 ghost use Rattle.json_tree.specs.Grammar.{Spells};
 ghost use Rattle.dtdl_terms.specs.declared.uploaded.Uploaded.{Uploaded};
@@ -17,7 +18,11 @@ ghost use Rattle.graph_routes.specs.declared.prepared.Prepared.TheVariants as ma
 ghost use Rattle.graph_steps.specs.Soundness.{AreSoundUploads, IsSoundAsk};
 
 use json_decimal::one_number;
-use twin_patch::one_answer;
+use json_read::value_or_fault;
+use local_faults::breach_or_none;
+use model_read::declaration_is_there;
+use query_bodies::some_outcome;
+use twin_patch::{one_answer, some_answer};
 
 /// The interfaces of a document without breach that was read from a text may be asked for together, in their order.
 pub fn documents_are_sound()
@@ -32,6 +37,17 @@ pub fn one_prepared()
 {
     one_number();
     one_answer();
+}
+
+/// Each request makes an ask, or its bytes decide a refusal, whatever they are.
+pub fn some_prepared()
+    ensures { (request : Request) → IsThere ((prepared : Prepared) × IsPrepared request prepared) }
+{
+    value_or_fault();
+    breach_or_none();
+    declaration_is_there();
+    some_outcome();
+    some_answer();
 }
 
 /// What is made of a request can be used: an ask is sound, and a refusal can be written as a reply. A method is refused only where

@@ -19,7 +19,7 @@ mod route;
 mod router;
 mod twins;
 
-pub use laws::{documents_are_sound, one_prepared, prepared_is_right};
+pub use laws::{documents_are_sound, one_prepared, prepared_is_right, some_prepared};
 pub use method::Method;
 pub use prepared::Prepared;
 pub use responses::{response_of, response_of_refusal};
