@@ -1,12 +1,11 @@
 -- Of the paths of relationships something is asked.
 use Rattle.std.proofs.Common.{◌≡◌, ℕ, List, Option, Some, None, codes, refl}
-use Rattle.dt_base.specs.names.Grammar.{NameText}
 use Rattle.json_tree.specs.Values.{Json}
 use Rattle.json_tree.specs.Grammar.{Spells}
 use Rattle.json_tree.specs.Machinery.Pieces.{IsOfTree}
 use Rattle.twin_patch.specs.declared.entry.PatchOf.TheVariants as patches
 use Rattle.twin_patch.specs.declared.patch.Patch.{Patch}
-use Rattle.twin_value.specs.Breaches.{HasNoBreach, IsOuterLinkBreach, IsTwinId, text_under}
+use Rattle.twin_value.specs.Breaches.{HasNoBreach, IsOuterLinkBreach, text_under}
 use Rattle.graph_asks.specs.declared.ask.Ask.TheVariants as asks
 use Rattle.graph_asks.specs.declared.refusal.Refusal.TheVariants as refusals
 use Rattle.graph_routes.specs.Identifiers.{link_ids}

@@ -1,10 +1,10 @@
 -- Of the paths of models, and of queries, something is asked.
-use Rattle.std.proofs.Common.{◌≡◌, ℕ, ◌⊎◌, inl, inr, List, [], ◌∷◌, Bool, Ok, Err, refl, subst}
+use Rattle.std.proofs.Common.{◌≡◌, ℕ, ◌⊎◌, inl, inr, List, Bool, refl}
 use Rattle.dt_base.specs.names.Grammar.{Identifier}
 use Rattle.dt_base.proofs.Existence.{is_there, holds_or_not, from_there, map_there}
 use Rattle.dtdl_terms.specs.declared.uploaded.Uploaded.{Uploaded}
 use Rattle.json_tree.specs.Values.{Json, null, truth, number, text, array, object}
-use Rattle.local_rules.specs.Breaches.{BreaksNoLocalRule, IsFirstBreach}
+use Rattle.local_rules.specs.Breaches.{IsFirstBreach}
 use Rattle.local_rules.specs.Codes.{rule_code}
 use Rattle.local_rules.specs.declared.rule.LocalRule.{LocalRule}
 use Rattle.local_faults.proofs.LeastBreaches.{breach_stands}

@@ -1,5 +1,5 @@
 -- Of one thing in a request some outcome comes.
-use Rattle.std.proofs.Common.{◌≡◌, ◌≢◌, ℕ, ◌⊎◌, inl, inr, List, Option, Some, None, codes, refl, ap}
+use Rattle.std.proofs.Common.{◌≡◌, ◌≢◌, ℕ, ◌⊎◌, inl, inr, List, Option, Some, None, codes, refl}
 use Rattle.dt_base.specs.Existence.{IsThere}
 use Rattle.dt_base.proofs.Existence.{is_there, holds_or_not, from_there, map_there}
 use Rattle.json_tree.specs.Values.{Json, number}
@@ -16,7 +16,7 @@ use Rattle.local_rules.specs.declared.rule.LocalRule.{LocalRule}
 use Rattle.dtdl_terms.specs.declared.uploaded.Uploaded.{Uploaded}
 use Rattle.model_read.specs.Uploads.{AreUploaded}
 use Rattle.twin_patch.specs.Codes.{code_text}
-use Rattle.twin_patch.specs.Operations.{Operation, operations_of}
+use Rattle.twin_patch.specs.Operations.{Operation}
 use Rattle.twin_patch.specs.Reading.{IsPatch, IsPatchFault}
 use Rattle.twin_patch.specs.declared.code.PatchCode.{PatchCode}
 use Rattle.twin_patch.specs.declared.entry.PatchOf.{PatchOf}
@@ -29,7 +29,7 @@ use Rattle.graph_asks.specs.declared.refusal.Refusal.{Refusal}
 use Rattle.graph_asks.specs.declared.refusal.Refusal.TheVariants as refusals
 use Rattle.graph_steps.specs.TwinAsks.{BodyFault}
 use Rattle.query_bodies.specs.Outcomes.{AskOrRefusal, IsMadeOfBody}
-use Rattle.graph_routes.specs.Bodies.{RefusesFor, RefusesJson}
+use Rattle.graph_routes.specs.Bodies.{RefusesFor}
 use Rattle.graph_routes.specs.Identifiers.{first_difference}
 use Rattle.graph_routes.specs.Outcomes.{Named, WithBody, WithPatch, WithValue}
 use Rattle.graph_routes.specs.declared.prepared.Prepared.{Prepared}

@@ -1,5 +1,5 @@
 -- Each request makes an ask, or its bytes decide a refusal.
-use Rattle.std.proofs.Common.{◌≡◌, ℕ, ◌⊎◌, inl, inr, List, refl}
+use Rattle.std.proofs.Common.{ℕ, ◌⊎◌, inl, inr, List, refl}
 use Rattle.dt_base.specs.Existence.{IsThere}
 use Rattle.dt_base.proofs.Existence.{is_there, holds_or_not, from_there, map_there}
 use Rattle.http_ends.specs.declared.request.Request.{Request}

@@ -39,7 +39,7 @@ pub fn one_prepared()
     one_answer();
 }
 
-/// Each request makes an ask, or its bytes decide a refusal, whatever they are.
+/// Each request, whatever it is, makes an ask, or its bytes decide a refusal: that there is neither is refuted (`IsThere`).
 pub fn some_prepared()
     ensures { (request : Request) → IsThere ((prepared : Prepared) × IsPrepared request prepared) }
 {
