@@ -4,7 +4,7 @@ ghost use Rattle.std.specs.Prelude.{◌≡◌, ℕ, List, [], ◌++◌, length, 
 ghost use Rattle.http_session.specs.Uniqueness.{OneSession};
 ghost use Rattle.http_tests.specs.Echoes.{echoed};
 
-use crate::sources::{both, list_of, source_of};
+use crate::sources::{Watched, both, list_of, source_of};
 use dt_base::{List, MemLink, MemSink, MemSource, OutOfMemory};
 use http_ends::{Request, Response};
 use http_session::{Answer, Rules, Service, SessionEnd, Trouble, one_session, serve, serve_link};
@@ -408,6 +408,116 @@ fn ends_at_each_fault_of_a_link(rt: HostRuntime) -> Result<(), Fail> {
     for (failing, expected) in LINK_FAULTS {
         let bytes = b"GET /a HTTP/1.1\r\n\r\n";
         assert!(rt; serves_over_link(rt.alloc(), bytes, failing, &[], expected)?);
+    }
+    Ok(())
+}
+
+/// Whether the session of a source and a sink comes to what is expected, with so many failed reads.
+fn is_served_with(
+    alloc: Global,
+    source: MemSource,
+    sink: MemSink,
+    expected: Expected,
+    faults: u64,
+) -> bool {
+    let (mut source, mut sink, mut echo) = (Watched::new(source), sink, new_echo(alloc));
+    let end = serve(alloc, &mut echo, &mut source, &mut sink);
+    let is_so = came_to(end, sink.taken(), echo, expected) && source.faults == faults;
+    drop((source, sink));
+    is_so
+}
+
+/// Whether these bytes lead to what is expected, with so many failed reads, where they come in pieces of this size and this
+/// read fails.
+fn serves_with(
+    alloc: Global,
+    bytes: &[u8],
+    reads: (u64, u64),
+    expected: Expected,
+    faults: u64,
+) -> Result<bool, OutOfMemory> {
+    let (piece, failing) = reads;
+    let source = source_of(alloc, bytes, failing, piece, piece)?;
+    let sink = MemSink::new(alloc, 10_000, List::new(alloc));
+    Ok(is_served_with(alloc, source, sink, expected, faults))
+}
+
+/// Sessions of which the read behind the last byte fails, and how many reads have failed at their end: none where the last
+/// reply is a closing one, be it that of a request or a refusal.
+const BEFORE_FAULTS: [(&[u8], Expected, u64); 6] = [
+    (
+        b"GET /a HTTP/1.1\r\nConnection: close\r\n\r\n",
+        (SessionEnd::Closed, CLOSING_A, &[2]),
+        0,
+    ),
+    (
+        b"GET /a HTTP/1.0\r\n\r\n",
+        (SessionEnd::Closed, CLOSING_A, &[2]),
+        0,
+    ),
+    (
+        b"PUT /a HTTP/1.1\r\nConnection: close\r\nContent-Length: 2\r\n\r\n{}",
+        (
+            SessionEnd::Closed,
+            "HTTP/1.1 404 Not Found\r\nContent-Length: 0\r\nContent-Type: application/json\r\nConnection: close\r\n\r\n",
+            &[],
+        ),
+        0,
+    ),
+    (
+        b"PUT /a HTTP/1.1\r\nContent-Length: 4194305\r\n\r\n",
+        (
+            SessionEnd::Refused,
+            "HTTP/1.1 413 Content Too Large\r\nContent-Length: 48\r\nContent-Type: application/json\r\nConnection: close\r\n\r\n{\"error\":{\"code\":\"BodyTooLong\",\"limit\":4194304}}",
+            &[],
+        ),
+        0,
+    ),
+    (
+        b"PUT /a HTTP/1.1\r\nTransfer-Encoding: chunked\r\n\r\n",
+        (
+            SessionEnd::Refused,
+            "HTTP/1.1 501 Not Implemented\r\nContent-Length: 35\r\nContent-Type: application/json\r\nConnection: close\r\n\r\n{\"error\":{\"code\":\"TransferCoding\"}}",
+            &[],
+        ),
+        0,
+    ),
+    (
+        b"GET /a HTTP/1.1\r\n\r\n",
+        (SessionEnd::ReadFault, OPEN_A, &[2]),
+        1,
+    ),
+];
+
+/// The position of the first of these sessions that comes to something else, or none. The bytes come one by one or, with
+/// `whole`, all at once.
+fn first_wrong_before_fault(
+    alloc: Global,
+    sessions: &[(&[u8], Expected, u64)],
+    whole: bool,
+) -> Result<Option<usize>, OutOfMemory> {
+    for (at, (bytes, expected, faults)) in sessions.iter().enumerate() {
+        let size = bytes.len() as u64;
+        let reads = if whole {
+            (size, 2)
+        } else {
+            (1, size.saturating_add(1))
+        };
+        if !serves_with(alloc, bytes, reads, *expected, *faults)? {
+            return Ok(Some(at));
+        }
+    }
+    Ok(None)
+}
+
+#[test]
+fn reads_nothing_behind_a_closing_reply(rt: HostRuntime) -> Result<(), Fail> {
+    for whole in [true, false] {
+        assert_eq!(rt;
+            first_wrong_before_fault(rt.alloc(), &BEFORE_FAULTS, whole)?,
+            None,
+            "{whole}"
+        );
     }
     Ok(())
 }

@@ -1,6 +1,8 @@
 //! Sources in memory.
 
-use dt_base::{List, MemSource, OutOfMemory};
+ghost use Rattle.std.specs.Prelude.{None};
+
+use dt_base::{Failed, List, MemSource, OutOfMemory, Source};
 use std::alloc::Global;
 
 /// Both of two values, where both were made.
@@ -54,4 +56,36 @@ pub fn source_of(
     let pieces = pieces_of(alloc, bytes.len(), first, further);
     let ((bytes, failing), pieces) = both(lists, pieces)?;
     Ok(MemSource::new(bytes, failing, pieces))
+}
+
+/// A source that tells how many of its reads have failed.
+#[derive(Drop)]
+pub struct Watched<S: Source + Drop> {
+    source: S,
+    pub faults: u64,
+}
+
+impl<S: Source + Drop> Watched<S> {
+    /// A source of which no read has failed so far.
+    pub fn new(source: S) -> Watched<S> {
+        Watched { source, faults: 0 }
+    }
+}
+
+impl<S: Source + Drop> Source for Watched<S> {
+    ghost left = { λ s. S.left s.source };
+
+    ghost aside = { λ _. None };
+
+    ghost faults = { λ s. s.faults };
+
+    fn read(&mut self, into: &mut [u8]) -> Result<usize, Failed> {
+        match self.source.read(into) {
+            Ok(count) => Ok(count),
+            Err(_) => {
+                self.faults = self.faults.saturating_add(1);
+                Err(Failed)
+            }
+        }
+    }
 }
