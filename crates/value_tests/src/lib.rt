@@ -1,7 +1,11 @@
-//! What no session can ask of `twin_value`, and the twins and relationships that its calls give, through its public calls. They
-//! stand here, since a crate with tests of its own is proved twice.
+//! What no session can ask of `twin_value`, the twins and relationships that its calls give, and copies of what a graph is asked and
+//! answers, through the public calls. They stand here, since a crate with tests of its own is proved twice.
 #![tactic(auto)]
 
+#[cfg(test)]
+mod answers;
+#[cfg(test)]
+mod asks;
 #[cfg(test)]
 mod bodies;
 #[cfg(test)]
