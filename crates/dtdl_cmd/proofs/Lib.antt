@@ -12,4 +12,5 @@ pub mod OtherWords
 pub mod OneReplay
 pub mod OneMake
 pub mod FaultlessRuns
+pub mod FaultlessAsks
 pub mod SomeAnswer

@@ -6,5 +6,6 @@ pub mod Runs
 pub mod Clients
 pub mod ClientRuns
 pub mod FaultlessRuns
+pub mod FaultlessAsks
 pub mod Machinery
 pub mod making

@@ -19,6 +19,9 @@ ghost use Rattle.dtdl_cmd.specs.Lines.{accepted_line, missing_line, too_long_lin
 ghost use Rattle.dtdl_cmd.specs.Answers.{AnswersFound, AnswersWords, uploaded_interfaces};
 ghost use Rattle.dtdl_cmd.specs.Runs.{RunEnds, exit_status};
 ghost use Rattle.dtdl_cmd.specs.FaultlessRuns.{EndsWith, MeetsNoFault, TakesAll};
+ghost use Rattle.dtdl_cmd.specs.ClientRuns.{AskRunEnds, DialChange};
+ghost use Rattle.dtdl_cmd.specs.FaultlessAsks.{AskMeetsNoFault, EndsWithReply};
+ghost use Rattle.http_ends.specs.declared.response.Response.{Response};
 ghost use Rattle.dtdl_cmd.specs.declared.command.Command.{Command};
 ghost use Rattle.dtdl_cmd.specs.declared.command.Command.TheVariants as commands;
 ghost use Rattle.dtdl_cmd.specs.declared.status.Status.{Status};
@@ -26,6 +29,7 @@ ghost use Rattle.dtdl_cmd.specs.declared.status.Status.TheVariants as status;
 
 use crate::laws::one_answer;
 use documents::declaration_or_fault;
+use http_ends::one_reply;
 
 /// There is an answer to words and to what is found of documents, unless the words are those of a replay or of a graph that is
 /// made. That there is no other is `one_answer`.
@@ -156,4 +160,14 @@ pub fn make_counts()
         → RunEnds words input shelf output s → EndsWith output status.Ok text s }
 {
     crate::making::one_text();
+}
+
+/// An ask whose words, input and link are told, and in which no call failed, ends with the status of the reply with which the
+/// bytes of the link begin, and its body written whole, or for want of memory, when nothing is written.
+pub fn ask_answered()
+    ensures { (words : List (String Global)) (input : StreamChange) (dial : DialChange) (output : StreamChange)
+        (response : Response) → AskMeetsNoFault words input dial output response
+        → (s : Status) → AskRunEnds words input dial output s → EndsWithReply response output s }
+{
+    one_reply();
 }

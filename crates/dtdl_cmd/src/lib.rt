@@ -16,7 +16,7 @@ mod status;
 
 pub use clients::run_ask;
 pub use complete::{
-    canon_prints, check_accepts, documents_answered, faults_refused, long_refused,
+    ask_answered, canon_prints, check_accepts, documents_answered, faults_refused, long_refused,
     long_text_refused, make_counts, missing_refused, replay_answered, some_answer, usage_told,
 };
 pub use laws::{
