@@ -1,8 +1,8 @@
 -- How a request that was read whole is answered.
-use Rattle.std.specs.Prelude.{◌≡◌, ℕ, ◌+◌, ◌≤◌, Bool, List, [], ◌∷◌, length, Option, Some, None, Result, Ok, Err, is_some, option_to_list, bytes_eq, codes, IsSome}
+use Rattle.std.specs.Prelude.{◌≡◌, ℕ, ◌+◌, ◌≤◌, Bool, List, [], ◌∷◌, length, Option, Some, None, Result, Ok, Err, is_some, option_to_list, bytes_eq, codes}
 use Rattle.http_ends.specs.declared.request.Request.{Request}
 use Rattle.http_ends.specs.declared.response.Response.{Response}
-use Rattle.http_ends.specs.Replies.{phrase_of, IsAllowed, reply_text}
+use Rattle.http_ends.specs.Replies.{reply_text}
 use Rattle.http_session.specs.declared.service.Answer.{Answer}
 use Rattle.http_session.specs.declared.service.Trouble.{Trouble}
 use Rattle.http_session.specs.declared.service.Trouble.TheVariants.{NoEntry, EntryInHand}

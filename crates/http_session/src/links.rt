@@ -21,6 +21,8 @@ fn link_turn<D: Service, L: Link>(
     buffer: &mut Buffer,
     last: bool,
 ) -> Option<SessionEnd>
+    requires ready { D.ready service.old }
+    ensures ready { D.ready service.new }
     ensures turn { Turns D.goes D.own D.enters (Rose (L.Sink.faults link.old) (L.Sink.faults link.new)) last (world (stream_of buffer.old (L.Source.left link.old)) (L.Sink.taken link.old) service.old) (world (stream_of buffer.new (L.Source.left link.new)) (L.Sink.taken link.new) service.new) (L.Source.left link.new) result }
     ensures read_cause { result ≡ Some ReadFault → Rose (L.Source.faults link.old) (L.Source.faults link.new) }
     ensures write_cause { result ≡ Some WriteFault → Rose (L.Sink.faults link.old) (L.Sink.faults link.new) }
@@ -33,6 +35,8 @@ fn link_turn<D: Service, L: Link>(
 /// Answers the requests of a link in their order, until the session ends, as `serve` answers those of a source and a
 /// sink.
 pub fn serve_link<D: Service, L: Link>(alloc: Global, service: &mut D, link: &mut L) -> SessionEnd
+    requires ready { D.ready service.old }
+    ensures ready { D.ready service.new }
     ensures session { Serves D.goes D.own D.enters (Rose (L.Sink.faults link.old) (L.Sink.faults link.new)) (world (L.Source.left link.old) (L.Sink.taken link.old) service.old) (world (L.Source.left link.new) (L.Sink.taken link.new) service.new) result }
     ensures read_cause { result ≡ ReadFault → Rose (L.Source.faults link.old) (L.Source.faults link.new) }
     ensures write_cause { result ≡ WriteFault → Rose (L.Sink.faults link.old) (L.Sink.faults link.new) }

@@ -38,12 +38,16 @@ pub trait Service {
     ghost enters: { Request → Self.Entry → Response → Type 0 };
     // From one moment to another, these are the session's own entries in between.
     ghost goes: { Self → List Self.Entry → Self → Type 0 };
+    // What it rests on whenever it is asked.
+    ghost ready: { Self → Type 0 } = { λ _. Unit {0} };
 
     /// Answers a request that was read whole.
     ///
     /// Want of memory says whether the request left its entry.
     fn answer(&mut self, request: &Request) -> Result<Answer, Trouble>
         requires within { RequestIsWithinLimits request.now }
+        requires ready { ready self.old }
+        ensures ready { ready self.new }
         ensures answers { Answers own enters goes self.old self.new request.now result }
         ensures writable { IfOk result (λ answer. IsWritable answer.response) };
 

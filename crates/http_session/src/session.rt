@@ -38,7 +38,9 @@ fn exchange<D: Service, K: Sink>(
     request: &Request,
     last: bool,
 ) -> Option<SessionEnd>
-    requires { RequestIsWithinLimits request.now }
+    requires within { RequestIsWithinLimits request.now }
+    requires ready { D.ready service.old }
+    ensures ready { D.ready service.new }
     ensures exchanges { Exchanges D.goes D.own D.enters (Rose (K.faults sink.old) (K.faults sink.new)) last request.now (world None (K.taken sink.old) service.old) (world None (K.taken sink.new) service.new) result }
     ensures cause { result ≡ Some WriteFault → Rose (K.faults sink.old) (K.faults sink.new) }
     ensures count { K.faults sink.old ≤ K.faults sink.new }
@@ -75,7 +77,9 @@ pub(crate) fn respond<D: Service, K: Sink>(
     next: Result<Request, HttpEnd>,
     last: bool,
 ) -> Option<SessionEnd>
-    requires { IfOk next RequestIsWithinLimits }
+    requires within { IfOk next RequestIsWithinLimits }
+    requires ready { D.ready service.old }
+    ensures ready { D.ready service.new }
     ensures responds { Responds D.goes D.own D.enters (Rose (K.faults sink.old) (K.faults sink.new)) last next (world None (K.taken sink.old) service.old) (world None (K.taken sink.new) service.new) result }
     ensures cause { result ≡ Some WriteFault → Rose (K.faults sink.old) (K.faults sink.new) }
     ensures count { K.faults sink.old ≤ K.faults sink.new }
@@ -96,6 +100,8 @@ fn turn<D: Service, S: Source, K: Sink>(
     buffer: &mut Buffer,
     last: bool,
 ) -> Option<SessionEnd>
+    requires ready { D.ready service.old }
+    ensures ready { D.ready service.new }
     ensures turn { Turns D.goes D.own D.enters (Rose (K.faults sink.old) (K.faults sink.new)) last (world (stream_of buffer.old (S.left source.old)) (K.taken sink.old) service.old) (world (stream_of buffer.new (S.left source.new)) (K.taken sink.new) service.new) (S.left source.new) result }
     ensures read_cause { result ≡ Some ReadFault → Rose (S.faults source.old) (S.faults source.new) }
     ensures write_cause { result ≡ Some WriteFault → Rose (K.faults sink.old) (K.faults sink.new) }
@@ -120,6 +126,8 @@ pub fn serve<D: Service, S: Source, K: Sink>(
     source: &mut S,
     sink: &mut K,
 ) -> SessionEnd
+    requires ready { D.ready service.old }
+    ensures ready { D.ready service.new }
     ensures session { Serves D.goes D.own D.enters (Rose (K.faults sink.old) (K.faults sink.new)) (world (S.left source.old) (K.taken sink.old) service.old) (world (S.left source.new) (K.taken sink.new) service.new) result }
     ensures read_cause { result ≡ ReadFault → Rose (S.faults source.old) (S.faults source.new) }
     ensures write_cause { result ≡ WriteFault → Rose (K.faults sink.old) (K.faults sink.new) }

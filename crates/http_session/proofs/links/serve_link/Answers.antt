@@ -34,5 +34,6 @@ turns-preserved g c =
     record {
       going = one_more g.D.Service.goes g.D.Service.own g.D.Service.enters g.met.D.Service.goes_on c.turns.replies (Unit {0}) (c.turns.replies + 1 == 1000000) first here there (g.L.Source.left c.link_turn.new.link) c.turns.invariant.going turn;
       few = not_yet_last c.turns.replies c.turns.invariant.few turn.3;
+      ready = c.in_default-link_turn.ensures.ready;
       count = omega (arith, c.in_default-link_turn.ensures.count, c.turns.invariant.count);
     }

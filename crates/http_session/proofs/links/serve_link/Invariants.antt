@@ -8,6 +8,7 @@ abbrev pub invariant-turns : goal.invariant-turns
 invariant-turns g l = record {
   going : Going g.D.Service.goes g.D.Service.own g.D.Service.enters l.replies (world (g.L.Source.left l.fn.link) (g.L.Sink.taken l.fn.link) l.fn.service) (world (stream_of l.buffer (g.L.Source.left l.link)) (g.L.Sink.taken l.link) l.service);
   few : l.replies < 1000000;
+  ready : g.D.Service.ready l.service;
   count : g.L.Sink.faults l.fn.link ≤ g.L.Sink.faults l.link;
 }
 

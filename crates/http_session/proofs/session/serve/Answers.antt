@@ -29,6 +29,7 @@ turns-preserved g c =
     record {
       going = one_more g.D.Service.goes g.D.Service.own g.D.Service.enters g.met.D.Service.goes_on c.turns.replies (Unit {0}) (c.turns.replies + 1 == 1000000) first here there (g.S.Source.left c.turn.new.source) c.turns.invariant.going turn;
       few = not_yet_last c.turns.replies c.turns.invariant.few turn.3;
+      ready = c.in_default-turn.ensures.ready;
       read_count = omega (arith, c.in_default-turn.ensures.read_count, c.turns.invariant.read_count);
       write_count = omega (arith, c.in_default-turn.ensures.write_count, c.turns.invariant.write_count);
       beside_source = cc (c.in_default-turn.ensures.beside_source, c.turns.invariant.beside_source);
