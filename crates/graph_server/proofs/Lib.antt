@@ -2,3 +2,4 @@ pub mod Methods
 pub mod Answering
 pub mod Unique
 pub mod Typed
+pub mod Calling

@@ -2,5 +2,6 @@
 pub mod Entries
 pub mod Histories
 pub mod Replays
+pub mod Links
 -- What private clauses and proofs rest on: no public contract speaks of it.
 pub mod Machinery

@@ -1,10 +1,14 @@
 //! Who answers the requests of a session: the routes make an ask of a request, and the graph answers it.
 #![tactic(auto)]
 
+mod answers;
+mod desk;
 mod laws;
+mod links;
 mod replayer;
 mod replays;
 
 pub use laws::{histories_are_typed, one_answer, one_replay};
+pub use links::serve_link;
 pub use replayer::Replayer;
 pub use replays::replay;

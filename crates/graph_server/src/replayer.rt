@@ -1,18 +1,19 @@
 //! Who answers the requests of a replay.
 
-ghost use Rattle.std.specs.Prelude.{◌≡◌, false, IfOk, MatchResult};
+ghost use Rattle.std.specs.Prelude.{◌≡◌, IfOk};
 ghost use Rattle.graph_steps.specs.held.Held.{state_of};
-ghost use Rattle.graph_routes.specs.Responses.{ListsMethods, response_to};
 ghost use Rattle.graph_steps.specs.Soundness.{IsSoundAsk};
 ghost use Rattle.graph_steps.specs.States.{empty};
 ghost use Rattle.http_ends.specs.Replies.{IsWritable};
-ghost use Rattle.http_session.specs.declared.service.Trouble.TheVariants.{NoEntry};
+ghost use Rattle.graph_server.specs.Entries.{IsLegalHistory};
 ghost use Rattle.graph_server.specs.Machinery.Asking.{IsAsked};
+ghost use Rattle.graph_server.specs.declared.replayer.Replayer.{Replayer};
 
+use crate::answers::{answer_of_refusal, answer_of_reply};
 use dt_base::{Object, OutOfMemory};
-use graph_asks::{Ask, Refusal};
+use graph_asks::Ask;
 use graph_machine::Machine;
-use graph_routes::{Prepared, Routes, prepared_is_right, response_of, response_of_refusal};
+use graph_routes::{Prepared, Routes, prepared_is_right};
 use http_ends::Request;
 use http_session::{Answer, Service, Trouble};
 use std::alloc::Global;
@@ -40,40 +41,15 @@ impl Replayer {
     /// Asks the graph, and answers with its reply.
     fn answer_of_graph(&mut self, ask: &Ask) -> Result<Answer, Trouble>
         requires { IsSoundAsk ask.now }
-        ensures asked { IsAsked (state_of self.old.machine) ask.now (state_of self.new.machine) result }
+        ensures asked { IsAsked (λ (s : Replayer) es t. IsLegalHistory (state_of s.machine) es (state_of t.machine)) self.old ask.now self.new result }
         ensures writable { IfOk result (λ answer. IsWritable answer.response) }
     {
         let Ok(reply) = self.machine.step(ask) else {
             return Err(Trouble::NoEntry);
         };
-        match response_of(self.alloc, &reply) {
-            Ok(response) => {
-                drop(reply);
-                Ok(Answer {
-                    response,
-                    entered: true,
-                })
-            }
-            Err(OutOfMemory) => {
-                drop(reply);
-                Err(Trouble::EntryInHand)
-            }
-        }
-    }
-}
-
-/// Answers with the refusal that a request's own bytes decide.
-fn answer_of_refusal(alloc: Global, refusal: &Refusal) -> Result<Answer, Trouble>
-    requires { ListsMethods refusal.now }
-    ensures refused { MatchResult result (λ answer. (answer.response ≡ response_to refusal.now) × (answer.entered ≡ false)) (λ trouble. trouble ≡ NoEntry) }
-    ensures writable { IfOk result (λ answer. IsWritable answer.response) }
-{
-    match response_of_refusal(alloc, refusal) {
-        Ok(response) => Ok(Answer {
-            response,
-            entered: false,
-        }),
-        Err(OutOfMemory) => Err(Trouble::NoEntry),
+        let answer = answer_of_reply(self.alloc, &reply);
+        drop(reply);
+        answer
     }
 }
 

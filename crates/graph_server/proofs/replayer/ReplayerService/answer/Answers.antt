@@ -9,7 +9,7 @@ answer_of_refusal-answer-requires c = c.prepared_is_right.ensures.written c.args
 
 pub returns-in-Own-clause-answers : goal.returns-in-Own-clause-answers
 returns-in-Own-clause-answers c =
-    refused (λ a es b. IsLegalHistory (state_of a.machine) es (state_of b.machine)) c.args.self.now c.args.self.now (state_of c.args.self.now.machine) _ (λ es h. h) c.args.request.now c.in-Own.refusal c.answer_of_refusal-answer.result
+    refused (λ a es b. IsLegalHistory (state_of a.machine) es (state_of b.machine)) c.args.self.now c.args.self.now c.args.request.now c.in-Own.refusal c.answer_of_refusal-answer.result
     (decided c.args.request.now c.in-Ok.prepared c.in-Own.refusal c.in-Ok.ensures c.in-Own.is) refl c.answer_of_refusal-answer.ensures.refused
 
 pub answer_of_graph-answer-requires : goal.answer_of_graph-answer-requires
@@ -17,6 +17,5 @@ answer_of_graph-answer-requires c = c.prepared_is_right.ensures.sound c.args.req
 
 pub returns-in-Ask-clause-answers : goal.returns-in-Ask-clause-answers
 returns-in-Ask-clause-answers c =
-    let is = made c.args.request.now c.in-Ok.prepared c.in-Ask.ask c.in-Ok.ensures c.in-Ask.is in
-    asked (λ a es b. IsLegalHistory (state_of a.machine) es (state_of b.machine)) c.args.self.now c.answer_of_graph-answer.new.self (state_of c.args.self.now.machine) (state_of c.answer_of_graph-answer.new.self.machine) (λ es h. h) c.args.request.now c.in-Ask.ask c.answer_of_graph-answer.result is
-    (c.prepared_is_right.ensures.sound c.args.request.now c.in-Ask.ask is) c.answer_of_graph-answer.ensures.asked
+    asked (λ a es b. IsLegalHistory (state_of a.machine) es (state_of b.machine)) c.args.self.now c.answer_of_graph-answer.new.self c.args.request.now c.in-Ask.ask c.answer_of_graph-answer.result
+    (made c.args.request.now c.in-Ok.prepared c.in-Ask.ask c.in-Ok.ensures c.in-Ask.is) c.answer_of_graph-answer.ensures.asked
