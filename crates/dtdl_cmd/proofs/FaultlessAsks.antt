@@ -1,26 +1,25 @@
 -- An ask in which no call failed ends with the reply that its link tells, or for want of memory.
-use Rattle.std.proofs.Common.{◌≡◌, ◌⊎◌, ℕ, ◌<◌, ◌≤◌, Bool, true, false, List, [], ◌∷◌, Option, Some, None, Result, Ok, Err, String, length, get_or, map, refl, sym, ap, ◌∙◌, subst, inl, inr, arith}
-use Rattle.std.specs.Prelude.{IfSome, codes}
+use Rattle.std.proofs.Common.{◌≡◌, ℕ, ◌<◌, ◌≤◌, Bool, true, false, List, [], ◌∷◌, Option, Some, None, Result, Ok, Err, String, length, get_or, refl, sym, ap, ◌∙◌, subst, inl, inr, arith}
+use Rattle.std.specs.Prelude.{IfSome}
 use Rattle.std.specs.declared.alloc.Global.{Global}
-use Rattle.std.specs.Io.KnownBytes.{Appends, Keeps}
+use Rattle.std.specs.Io.KnownBytes.{Appends}
 use Rattle.dt_base.specs.Faults.{Rose}
 use Rattle.connections.specs.Records.{LinkRecord}
 use Rattle.http_ends.specs.Laws.{OneReply}
-use Rattle.http_ends.specs.ReplyReading.{AnswersReply, BeginsWithReply, HasNoReply}
+use Rattle.http_ends.specs.ReplyReading.{AnswersReply}
 use Rattle.http_ends.specs.Streams.{OnStreams, stream_of}
 use Rattle.http_ends.specs.declared.response.ReplyEnd.{ReplyEnd}
 use Rattle.http_ends.specs.declared.response.ReplyEnd.TheVariants as replies
 use Rattle.http_ends.specs.declared.response.Response.{Response}
-use Rattle.http_client.specs.Ends.{Ends, HandsBack}
-use Rattle.http_client.specs.Exchanges.{Exchanged, Reads}
+use Rattle.http_client.specs.Ends.{Ends}
+use Rattle.http_client.specs.Exchanges.{Reads}
 use Rattle.http_client.specs.declared.ends.AskEnd.{AskEnd}
 use Rattle.http_client.specs.declared.ends.AskEnd.TheVariants as causes
 use Rattle.dtdl_cmd.specs.Clients.{Client, IsAsk, IsMethod}
-use Rattle.dtdl_cmd.specs.ClientRuns.{AskRunEnds, Asks, DialChange, EndsAsk, EndsUnread, IsReplyStatus, MAX_BODY, Says, Tells}
+use Rattle.dtdl_cmd.specs.ClientRuns.{AskRunEnds, DialChange, EndsUnread, IsReplyStatus, MAX_BODY, Says, Tells}
 use Rattle.dtdl_cmd.specs.Documents.{StreamChange}
 use Rattle.dtdl_cmd.specs.FaultlessAsks.{AskMeetsNoFault, EndsWithReply}
 use Rattle.dtdl_cmd.specs.declared.status.Status.{Status}
-use Rattle.dtdl_cmd.specs.declared.status.Status.TheVariants as status
 
 -- ---- whether a method has a body
 first_letter : (method : List ℕ) → ℕ
