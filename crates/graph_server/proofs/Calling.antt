@@ -4,7 +4,7 @@ use Rattle.std.specs.Prelude.{map}
 use Rattle.std.specs.Io.KnownBytes.{Appends}
 use Rattle.http_session.specs.Sessions.{Session}
 use Rattle.http_session.specs.declared.ends.SessionEnd.{SessionEnd}
-use Rattle.one_history.specs.Histories.{IsHistory, GrowsByCall, GrowsByOthers, own, entry as call}
+use Rattle.one_history.specs.Histories.{IsHistory, GrowsByCall, own, entry as call}
 use Rattle.one_history.specs.Passes.{seen, number, IsPassOf, IsSamePass}
 use Rattle.one_history.specs.declared.shared.Pass.{Pass}
 use Rattle.one_history.specs.declared.shared.Shared.{Shared}

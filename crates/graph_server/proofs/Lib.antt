@@ -3,3 +3,4 @@ pub mod Answering
 pub mod Unique
 pub mod Typed
 pub mod Calling
+pub mod Working

@@ -2,13 +2,17 @@
 #![tactic(auto)]
 
 mod answers;
+mod counts;
 mod desk;
 mod laws;
 mod links;
 mod replayer;
 mod replays;
+mod works;
 
+pub use counts::Work;
 pub use laws::{histories_are_typed, one_answer, one_replay};
 pub use links::serve_link;
 pub use replayer::Replayer;
 pub use replays::replay;
+pub use works::work;
